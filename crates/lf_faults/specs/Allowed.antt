@@ -1,0 +1,94 @@
+-- Which sets of faults are allowed, the next of them, and the first with a property.
+use Rattle.std.specs.Prelude.{◌≡◌, ◌≢◌, ◌⊎◌, ℕ, ◌+◌, ◌<◌, ◌≤◌, Bool, true, false, ◌==◌, List, [], ◌∷◌, length, Option, MatchOption}
+use Rattle.std.specs.List.{AllByRecursion, Contains, count_by}
+use Rattle.lf_faults.specs.declared.fault.Parts.{Parts}
+use Rattle.lf_faults.specs.declared.fault.Parts.TheVariants.{Omit, Crash, Pause}
+use Rattle.lf_faults.specs.Faults.{IsAscending, set_before}
+
+-- how many nodes and steps there are, and what bounds the faults
+pub record Bounds : Type 0 where
+  pub nodes : ℕ
+  pub horizon : ℕ
+  pub last_omission : ℕ
+  pub crashes : ℕ
+  pub budget : ℕ
+  pub pauses : ℕ
+  -- how many steps a pause takes
+  pub pause_length : ℕ
+
+-- the limits of a scenario
+pub record IsInLimits (b : Bounds) : Type 0 where
+  pub nodes : (2 ≤ b.nodes) × (b.nodes ≤ 8)
+  pub horizon : (1 ≤ b.horizon) × (b.horizon ≤ 48)
+  pub last_omission : b.last_omission < b.horizon
+  pub crashes : b.crashes ≤ b.nodes
+  pub budget : b.budget ≤ 6
+  pub pauses : b.pauses ≤ b.nodes
+  pub pause_length : (1 ≤ b.pause_length) × (b.pause_length ≤ 8)
+
+-- a fault of the scenario: its nodes are there, its step is one of the run, an omission comes early enough
+abbrev pub IsAdmitted : Bounds → Parts → Type 0
+IsAdmitted b (Omit from to step) = (from < b.nodes) × (to < b.nodes) × (from ≢ to) × (1 ≤ step) × (step ≤ b.last_omission)
+IsAdmitted b (Crash node step) = (node < b.nodes) × (1 ≤ step) × (step ≤ b.horizon)
+IsAdmitted b (Pause node step) = (node < b.nodes) × (1 ≤ step) × (step ≤ b.horizon)
+
+abbrev pub is_omission : Parts → Bool
+is_omission (Omit from to step) = true
+is_omission (Crash node step) = false
+is_omission (Pause node step) = false
+
+abbrev pub is_crash : Parts → Bool
+is_crash (Omit from to step) = false
+is_crash (Crash node step) = true
+is_crash (Pause node step) = false
+
+abbrev pub is_pause : Parts → Bool
+is_pause (Omit from to step) = false
+is_pause (Crash node step) = false
+is_pause (Pause node step) = true
+
+abbrev pub is_crash_of : ℕ → Parts → Bool
+is_crash_of n (Omit from to step) = false
+is_crash_of n (Crash node step) = n == node
+is_crash_of n (Pause node step) = false
+
+abbrev pub is_pause_of : ℕ → Parts → Bool
+is_pause_of n (Omit from to step) = false
+is_pause_of n (Crash node step) = false
+is_pause_of n (Pause node step) = n == node
+
+-- the set is allowed: faults of the scenario, at most one crash and one pause of each node, and not too many
+pub record IsAllowed (b : Bounds) (faults : List Parts) : Type 0 where
+  pub ascending : IsAscending faults
+  pub admitted : AllByRecursion (IsAdmitted b) faults
+  pub crash_once : (n : ℕ) → count_by (is_crash_of n) faults ≤ 1
+  pub pause_once : (n : ℕ) → count_by (is_pause_of n) faults ≤ 1
+  pub crashes : count_by is_crash faults ≤ b.crashes
+  pub pauses : count_by is_pause faults ≤ b.pauses
+  pub budget : length faults ≤ b.budget
+
+-- each fault of the one set is in the other
+abbrev pub IsSubset : List Parts → List Parts → Type 0
+IsSubset fs gs = (f : Parts) → Contains fs f → Contains gs f
+
+-- the next allowed set: allowed, after this one, and no allowed set lies between
+pub record IsNext (b : Bounds) (faults next : List Parts) : Type 0 where
+  pub allowed : IsAllowed b next
+  pub after : set_before faults next ≡ true
+  pub least : (other : List Parts) → IsAllowed b other → set_before faults other ≡ true → set_before other next ≡ false
+
+-- no allowed set comes after this one
+abbrev pub IsLast : Bounds → List Parts → Type 0
+IsLast b faults = (other : List Parts) → IsAllowed b other → set_before faults other ≡ false
+
+-- the first allowed set with the property, in the order of sets, or none where no allowed set has it
+abbrev pub IsFirst : Bounds → (List Parts → Bool) → Option (List Parts) → Type 0
+IsFirst b misses answer =
+    MatchOption answer
+      ((other : List Parts) → IsAllowed b other → misses other ≡ false)
+      (λ found. IsAllowed b found × (misses found ≡ true) × ((other : List Parts) → IsAllowed b other → misses other ≡ true → set_before other found ≡ false))
+
+-- the sets are all the allowed ones, in order: the first is the empty set, each further one is the next, and after the last comes none
+abbrev pub IsWalkFrom : Bounds → List Parts → List (List Parts) → Type 0
+IsWalkFrom b here [] = IsLast b here
+IsWalkFrom b here (next ∷ rest) = IsNext b here next × IsWalkFrom b next rest

@@ -1,0 +1,4 @@
+pub mod Allowed
+pub mod Faults
+pub mod Kinds
+pub mod Places

@@ -1,0 +1,15 @@
+//! Faults, sets of faults, which sets are allowed, and the order in which they are tried.
+//!
+//! A fault is an omission (one note is lost), a crash (a node takes no further step) or a pause (a node takes no
+//! step for a while, and restarts). Nodes are numbered from 0 and steps from 1.
+#![tactic(auto)]
+
+mod allowed;
+mod fault;
+mod set;
+mod spec;
+
+pub use allowed::admits;
+pub use fault::{Fault, Parts};
+pub use set::FaultSet;
+pub use spec::FaultSpec;

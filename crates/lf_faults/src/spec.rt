@@ -1,0 +1,157 @@
+//! Bounds on faults.
+
+ghost use Rattle.std.specs.Prelude.{◌≡◌, ◌<◌, ◌≤◌, ◌↔◌, IsTrue, IsSome, IfSome};
+ghost use Rattle.lf_faults.specs.Allowed.{Bounds, IsInLimits, IsAdmitted};
+
+use crate::Fault;
+use crate::Parts;
+use std::marker::Model;
+
+/// How many nodes and steps there are, and what bounds the faults.
+#[derive(Clone, Copy, Debug, PartialEq, Eq)]
+pub struct FaultSpec {
+    nodes: u32,
+    horizon: u32,
+    last_omission: u32,
+    crashes: u32,
+    budget: u32,
+    pauses: u32,
+    pause_length: u32,
+}
+
+impl Model for FaultSpec {
+    ghost use Rattle.lf_faults.specs.Allowed.{Bounds, IsInLimits};
+
+    ghost Value = { Bounds };
+
+    ghost view = { λ s. record { nodes = s.nodes; horizon = s.horizon; last_omission = s.last_omission; crashes = s.crashes; budget = s.budget; pauses = s.pauses; pause_length = s.pause_length } };
+
+    ghost invariant = { λ s. IsInLimits (record { nodes = s.nodes; horizon = s.horizon; last_omission = s.last_omission; crashes = s.crashes; budget = s.budget; pauses = s.pauses; pause_length = s.pause_length }) };
+
+    ghost inverse = { λ b. record { nodes = b.nodes; horizon = b.horizon; last_omission = b.last_omission; crashes = b.crashes; budget = b.budget; pauses = b.pauses; pause_length = b.pause_length } };
+}
+
+impl FaultSpec {
+    /// Bounds with no pauses, of length 1: 2..=8 nodes, 1..=48 steps, omissions at the steps 1..=last_omission (below
+    /// the horizon), at most `crashes` crashes (at most the nodes), at most `budget` faults in a set (at most 6).
+    /// None outside these limits.
+    pub fn new(
+        nodes: u32,
+        horizon: u32,
+        last_omission: u32,
+        crashes: u32,
+        budget: u32,
+    ) -> Option<FaultSpec>
+        ensures some { IsSome result ↔ IsInLimits (record { nodes = nodes; horizon = horizon; last_omission = last_omission; crashes = crashes; budget = budget; pauses = 0; pause_length = 1 }) }
+        ensures value { IfSome result (λ s. s ≡ record { nodes = nodes; horizon = horizon; last_omission = last_omission; crashes = crashes; budget = budget; pauses = 0; pause_length = 1 }) }
+    {
+        if 2 <= nodes
+            && nodes <= 8
+            && 1 <= horizon
+            && horizon <= 48
+            && last_omission < horizon
+            && crashes <= nodes
+            && budget <= 6
+        {
+            Some(FaultSpec {
+                nodes,
+                horizon,
+                last_omission,
+                crashes,
+                budget,
+                pauses: 0,
+                pause_length: 1,
+            })
+        } else {
+            None
+        }
+    }
+
+    /// The bounds with at most `pauses` pauses (at most the nodes), each of `length` steps (1..=8).
+    /// None outside these limits.
+    pub fn with_pauses(self, pauses: u32, length: u32) -> Option<FaultSpec>
+        ensures some { IsSome result ↔ (pauses ≤ self.nodes) × ((1 ≤ length) × (length ≤ 8)) }
+        ensures value { IfSome result (λ s. s ≡ record self { pauses = pauses; pause_length = length }) }
+    {
+        if pauses <= self.nodes && 1 <= length && length <= 8 {
+            Some(FaultSpec {
+                pauses,
+                pause_length: length,
+                ..self
+            })
+        } else {
+            None
+        }
+    }
+
+    /// How many nodes there are, 2..=8.
+    pub fn nodes(&self) -> u32
+        ensures value { result ≡ self.now.nodes }
+        ensures limits { IsInLimits self.now }
+    {
+        self.nodes
+    }
+
+    /// The last step, 1..=48.
+    pub fn horizon(&self) -> u32
+        ensures value { result ≡ self.now.horizon }
+        ensures limits { IsInLimits self.now }
+    {
+        self.horizon
+    }
+
+    /// The last step at which a note may be omitted, 0 for none, below the horizon.
+    pub fn last_omission(&self) -> u32
+        ensures value { result ≡ self.now.last_omission }
+        ensures limits { IsInLimits self.now }
+    {
+        self.last_omission
+    }
+
+    /// The greatest number of crashes in a set.
+    pub fn crashes(&self) -> u32
+        ensures value { result ≡ self.now.crashes }
+        ensures limits { IsInLimits self.now }
+    {
+        self.crashes
+    }
+
+    /// The greatest number of faults in a set, 0..=6.
+    pub fn budget(&self) -> u32
+        ensures value { result ≡ self.now.budget }
+        ensures limits { IsInLimits self.now }
+    {
+        self.budget
+    }
+
+    /// The greatest number of pauses in a set.
+    pub fn pauses(&self) -> u32
+        ensures value { result ≡ self.now.pauses }
+        ensures limits { IsInLimits self.now }
+    {
+        self.pauses
+    }
+
+    /// How many steps a pause takes, 1..=8.
+    pub fn pause_length(&self) -> u32
+        ensures value { result ≡ self.now.pause_length }
+        ensures limits { IsInLimits self.now }
+    {
+        self.pause_length
+    }
+
+    /// Whether it is a fault of these bounds: its nodes are there, its step is one of the run, and an omission comes
+    /// at `last_omission` or before.
+    pub fn admits_fault(&self, fault: &Fault) -> bool
+        ensures { IsTrue result ↔ IsAdmitted self.now fault.now }
+    {
+        match fault.parts() {
+            Parts::Omit { from, to, step } => {
+                from < self.nodes && to < self.nodes && from != to && 1 <= step && step <= self.last_omission
+            }
+            Parts::Crash { node, step } | Parts::Pause { node, step } => {
+                node < self.nodes && 1 <= step && step <= self.horizon
+            }
+        }
+    }
+}
