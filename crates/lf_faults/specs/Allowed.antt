@@ -61,8 +61,8 @@ is_pause_of n (Pause node step) = n == node
 pub record IsAllowed (b : Bounds) (faults : List Parts) : Type 0 where
   pub ascending : IsAscending faults
   pub admitted : AllByRecursion (IsAdmitted b) faults
-  pub crash_once : (n : ℕ) → count_by (is_crash_of n) faults ≤ 1
-  pub pause_once : (n : ℕ) → count_by (is_pause_of n) faults ≤ 1
+  pub crash_once : (n : ℕ) → n < b.nodes → count_by (is_crash_of n) faults ≤ 1
+  pub pause_once : (n : ℕ) → n < b.nodes → count_by (is_pause_of n) faults ≤ 1
   pub crashes : count_by is_crash faults ≤ b.crashes
   pub pauses : count_by is_pause faults ≤ b.pauses
   pub budget : length faults ≤ b.budget
@@ -85,8 +85,8 @@ IsLast b faults = (other : List Parts) → IsAllowed b other → set_before faul
 abbrev pub IsFirst : Bounds → (List Parts → Bool) → Option (List Parts) → Type 0
 IsFirst b misses answer =
     MatchOption answer
-      ((other : List Parts) → IsAllowed b other → misses other ≡ false)
-      (λ found. IsAllowed b found × (misses found ≡ true) × ((other : List Parts) → IsAllowed b other → misses other ≡ true → set_before other found ≡ false))
+    ((other : List Parts) → IsAllowed b other → misses other ≡ false)
+    (λ found. IsAllowed b found × (misses found ≡ true) × ((other : List Parts) → IsAllowed b other → misses other ≡ true → set_before other found ≡ false))
 
 -- the sets are all the allowed ones, in order: the first is the empty set, each further one is the next, and after the last comes none
 abbrev pub IsWalkFrom : Bounds → List Parts → List (List Parts) → Type 0

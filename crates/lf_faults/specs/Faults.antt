@@ -75,8 +75,8 @@ receiver_of (Pause node step) = 0
 abbrev pub fault_cmp : Parts → Parts → Ordering
 fault_cmp f g =
     ordering_then (nat_cmp (step_of f) (step_of g))
-      (ordering_then (nat_cmp (rank_of f) (rank_of g))
-        (ordering_then (nat_cmp (node_of f) (node_of g)) (nat_cmp (receiver_of f) (receiver_of g))))
+    (ordering_then (nat_cmp (rank_of f) (rank_of g))
+    (ordering_then (nat_cmp (node_of f) (node_of g)) (nat_cmp (receiver_of f) (receiver_of g))))
 
 abbrev pub is_before : Parts → Parts → Bool
 is_before f g = is_lt (fault_cmp f g)

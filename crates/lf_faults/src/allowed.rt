@@ -1,19 +1,16 @@
 //! Which sets of faults are allowed.
 
-ghost use Rattle.std.specs.Prelude.{◌≡◌, ℕ, ◌≤◌, ◌↔◌, IsTrue};
+ghost use Rattle.std.specs.Prelude.{◌≡◌, ℕ, ◌<◌, ◌≤◌, ◌↔◌, IsTrue};
 ghost use Rattle.std.specs.List.{count_by, AllByRecursion};
 ghost use Rattle.lf_faults.specs.Allowed.{IsAdmitted, IsAllowed, is_crash, is_pause, is_crash_of, is_pause_of};
 
-use crate::Fault;
-use crate::FaultSet;
-use crate::FaultSpec;
-use crate::Parts;
+use crate::{FaultSet, FaultSpec, Parts};
 
 /// How many crashes of a node there are.
-fn crashes_of(faults: &[Fault], at: u32) -> usize
-    ensures { result ≡ count_by (is_crash_of at) faults.now }
+fn crashes_of(set: &FaultSet, at: u32) -> usize
+    ensures { result ≡ count_by (is_crash_of at) set.now }
 {
-    faults
+    set.items()
         .iter()
         .filter(|fault| match fault.parts() {
             Parts::Crash { node, .. } => at == node,
@@ -23,10 +20,10 @@ fn crashes_of(faults: &[Fault], at: u32) -> usize
 }
 
 /// How many pauses of a node there are.
-fn pauses_of(faults: &[Fault], at: u32) -> usize
-    ensures { result ≡ count_by (is_pause_of at) faults.now }
+fn pauses_of(set: &FaultSet, at: u32) -> usize
+    ensures { result ≡ count_by (is_pause_of at) set.now }
 {
-    faults
+    set.items()
         .iter()
         .filter(|fault| match fault.parts() {
             Parts::Pause { node, .. } => at == node,
@@ -36,38 +33,38 @@ fn pauses_of(faults: &[Fault], at: u32) -> usize
 }
 
 /// How many crashes there are.
-fn crashes_in(faults: &[Fault]) -> usize
-    ensures { result ≡ count_by is_crash faults.now }
+fn crashes_in(set: &FaultSet) -> usize
+    ensures { result ≡ count_by is_crash set.now }
 {
-    faults
+    set.items()
         .iter()
         .filter(|fault| matches!(fault.parts(), Parts::Crash { .. }))
         .count()
 }
 
 /// How many pauses there are.
-fn pauses_in(faults: &[Fault]) -> usize
-    ensures { result ≡ count_by is_pause faults.now }
+fn pauses_in(set: &FaultSet) -> usize
+    ensures { result ≡ count_by is_pause set.now }
 {
-    faults
+    set.items()
         .iter()
         .filter(|fault| matches!(fault.parts(), Parts::Pause { .. }))
         .count()
 }
 
 /// Whether each is a fault of the bounds.
-fn admits_each(spec: &FaultSpec, faults: &[Fault]) -> bool
-    ensures { IsTrue result ↔ AllByRecursion (IsAdmitted spec.now) faults.now }
+fn admits_each(spec: &FaultSpec, set: &FaultSet) -> bool
+    ensures { IsTrue result ↔ AllByRecursion (IsAdmitted spec.now) set.now }
 {
-    faults.iter().all(|fault| spec.admits_fault(fault))
+    set.items().iter().all(|fault| spec.admits_fault(fault))
 }
 
-/// Whether no node crashes twice or pauses twice. A fault's node is below 8.
-fn once_each(faults: &[Fault]) -> bool
-    ensures { IsTrue result ↔ ((n : ℕ) → (count_by (is_crash_of n) faults.now ≤ 1) × (count_by (is_pause_of n) faults.now ≤ 1)) }
+/// Whether no node below `nodes` crashes twice or pauses twice.
+fn once_each(nodes: u32, set: &FaultSet) -> bool
+    ensures { IsTrue result ↔ ((n : ℕ) → n < nodes → (count_by (is_crash_of n) set.now ≤ 1) × (count_by (is_pause_of n) set.now ≤ 1)) }
 {
-    for node in 0..8 {
-        if crashes_of(faults, node) > 1 || pauses_of(faults, node) > 1 {
+    for node in 0..nodes {
+        if crashes_of(set, node) > 1 || pauses_of(set, node) > 1 {
             return false;
         }
     }
@@ -79,12 +76,17 @@ fn once_each(faults: &[Fault]) -> bool
 pub fn admits(spec: &FaultSpec, set: &FaultSet) -> bool
     ensures { IsTrue result ↔ IsAllowed spec.now set.now }
 {
-    let faults = set.items();
-    if faults.len() > spec.budget() as usize
-        || crashes_in(faults) > spec.crashes() as usize
-        || pauses_in(faults) > spec.pauses() as usize
-    {
+    if set.len() > spec.budget() as usize {
         return false;
     }
-    once_each(faults) && admits_each(spec, faults)
+    if crashes_in(set) > spec.crashes() as usize {
+        return false;
+    }
+    if pauses_in(set) > spec.pauses() as usize {
+        return false;
+    }
+    if !once_each(spec.nodes(), set) {
+        return false;
+    }
+    admits_each(spec, set)
 }

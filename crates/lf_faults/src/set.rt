@@ -4,8 +4,7 @@ ghost use Rattle.std.specs.Prelude.{◌≡◌, ◌+◌, ◌-◌, ◌<◌, ◌≤
 ghost use Rattle.std.specs.List.{Contains, prefix_len};
 ghost use Rattle.lf_faults.specs.Faults.{IsAscending, is_omitted, is_crashed, is_paused, is_woken, is_before, inserted, set_before};
 
-use crate::Fault;
-use crate::Parts;
+use crate::{Fault, Parts};
 use std::marker::Model;
 
 /// An ascending list of at most six different faults. It takes no memory beside its own fixed size.
@@ -58,6 +57,7 @@ impl FaultSet {
     pub fn len(&self) -> usize
         ensures value { result ≡ length self.now }
         ensures few { result ≤ 6 }
+        ensures ascending { IsAscending self.now }
     {
         self.items().len()
     }
@@ -105,9 +105,7 @@ impl FaultSet {
     pub fn omits(&self, from: u32, to: u32, step: u32) -> bool
         ensures { result ≡ is_omitted self.now from to step }
     {
-        self.items().iter().any(|fault| {
-            fault.parts() == Parts::Omit { from, to, step }
-        })
+        self.items().iter().any(|fault| { fault.parts() == Parts::Omit { from, to, step } })
     }
 
     /// Whether the node has crashed at the step or before.

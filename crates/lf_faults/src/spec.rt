@@ -3,8 +3,7 @@
 ghost use Rattle.std.specs.Prelude.{◌≡◌, ◌<◌, ◌≤◌, ◌↔◌, IsTrue, IsSome, IfSome};
 ghost use Rattle.lf_faults.specs.Allowed.{Bounds, IsInLimits, IsAdmitted};
 
-use crate::Fault;
-use crate::Parts;
+use crate::{Fault, Parts};
 use std::marker::Model;
 
 /// How many nodes and steps there are, and what bounds the faults.
@@ -147,7 +146,11 @@ impl FaultSpec {
     {
         match fault.parts() {
             Parts::Omit { from, to, step } => {
-                from < self.nodes && to < self.nodes && from != to && 1 <= step && step <= self.last_omission
+                from < self.nodes
+                    && to < self.nodes
+                    && from != to
+                    && 1 <= step
+                    && step <= self.last_omission
             }
             Parts::Crash { node, step } | Parts::Pause { node, step } => {
                 node < self.nodes && 1 <= step && step <= self.horizon
