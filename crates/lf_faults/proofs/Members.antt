@@ -50,6 +50,13 @@ pub each-weaker : {X : Type 0} (P Q : X → Type 0) → ((x : X) → P x → Q x
 each-weaker P Q h [] a = tt
 each-weaker P Q h (x ∷ xs) a = (h x a.0, each-weaker P Q h xs a.1)
 
+-- what a test counts for
+pub one-is : (b : Bool) → b ≡ true → cond {A = ℕ} b 1 0 ≡ 1
+one-is b e = rw e refl
+
+pub none-is : (b : Bool) → b ≡ false → cond {A = ℕ} b 1 0 ≡ 0
+none-is b e = rw e refl
+
 -- a count, element by element
 pub count-cons : {X : Type 0} (p : X → Bool) (x : X) (xs : List X) → count_by p (x ∷ xs) ≡ cond (p x) 1 0 + count_by p xs
 count-cons p x xs = sum_by-cons (λ y. cond (p y) 1 0) x xs

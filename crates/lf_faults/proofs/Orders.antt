@@ -13,7 +13,7 @@ use Rattle.std.proofs.lemmas.Bool.{cases_Bool, cond_both, both_ways, false≢tru
 use Rattle.lf_faults.specs.declared.fault.Parts.{Parts}
 use Rattle.lf_faults.specs.declared.fault.Parts.TheVariants.{Omit, Crash, Pause}
 use Rattle.lf_faults.specs.Faults.{step_of, rank_of, node_of, receiver_of, fault_cmp, is_before, IsAscending, inserted, set_cmp, set_before}
-use Rattle.lf_faults.proofs.Members.{none-in, Contains-first, Contains-more, cases_in, each-in, each-from, each-weaker}
+use Rattle.lf_faults.proofs.Members.{none-in, Contains-first, Contains-more, cases_in, each-in, each-left, each-weaker}
 
 pub fault_total : IsTotalOrder fault_cmp
 fault_total = then_total (on_total step_of nat_cmp_total) (then_total (on_total rank_of nat_cmp_total) (then_total (on_total node_of nat_cmp_total) (on_total receiver_of nat_cmp_total)))
@@ -151,3 +151,17 @@ inserted-ascending f (g ∷ gs) h a =
 -- the first fault of an ascending list comes before the others
 pub first-before : (f : Parts) (fs : List Parts) → IsAscending (f ∷ fs) → (g : Parts) → Contains fs g → is_before f g ≡ true
 first-before f fs a = each-in (λ g. is_before f g ≡ true) fs a.0
+
+pub ascending-from_inserted : (f : Parts) (fs : List Parts) → IsAscending (inserted f fs) → IsAscending fs
+ascending-from_inserted f [] a = tt
+ascending-from_inserted f (g ∷ gs) a = cond_both (is_before g f) (g ∷ inserted f gs) (f ∷ g ∷ gs) (λ xs. IsAscending xs → IsAscending (g ∷ gs))
+    (λ _ b. ((each-from_inserted (λ x. is_before g x ≡ true) f gs b.0).1, ascending-from_inserted f gs b.1)) (λ _ b. b.1) a
+
+-- a front of an ascending list
+pub ascending-left : (xs ys : List Parts) → IsAscending (xs ++ ys) → IsAscending xs
+ascending-left [] ys a = tt
+ascending-left (x ∷ xs) ys a = (each-left (λ g. is_before x g ≡ true) xs ys a.0, ascending-left xs ys a.1)
+
+pub ascending-right : (xs ys : List Parts) → IsAscending (xs ++ ys) → IsAscending ys
+ascending-right [] ys a = a
+ascending-right (x ∷ xs) ys a = ascending-right xs ys a.1

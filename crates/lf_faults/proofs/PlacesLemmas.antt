@@ -1,13 +1,15 @@
 -- A set's six places, with one fault more.
-use Rattle.std.proofs.Common.{◌≡◌, ℕ, zero, suc, ◌+◌, ◌-◌, ◌<◌, ◌≤◌, Bool, List, [], ◌∷◌, ◌++◌, length, set, take, drop, replicate, refl, sym, ap, ◌∙◌, inl, inr, arith, one-add, append_assoc}
+use Rattle.std.proofs.Common.{◌≡◌, ℕ, zero, suc, ◌+◌, ◌-◌, ◌<◌, ◌≤◌, Bool, List, [], ◌∷◌, ◌++◌, length, set, take, drop, replicate, refl, sym, ap, ◌∙◌, subst, inl, inr, arith, one-add, append_assoc}
 use Rattle.std.specs.List.{prefix_len}
 use Rattle.std.proofs.lemmas.Bool.{cases_Bool, cond_both}
-use Rattle.std.proofs.lemmas.List.{length-drop, length-take, drop_all, append-nil, take_at, length-take-le, take-append-drop, take-replicate, drop_at, length-append}
+use Rattle.std.proofs.lemmas.List.{length-drop, length-take, drop_all, append-nil, take_at, length-take-le, take-append-drop, take-replicate, take-take, length-replicate, drop_at, length-append}
 use Rattle.std.proofs.Math.Seq.{take-append-add}
 use borrow.Rule.Slice.PartMut.{put_mid}
 use Rattle.lf_faults.specs.declared.fault.Parts.{Parts}
-use Rattle.lf_faults.specs.Faults.{inserted, is_before}
-use Rattle.lf_faults.specs.Places.{FillsSix, filler}
+use Rattle.lf_faults.specs.Faults.{inserted, is_before, IsAscending}
+use Rattle.lf_faults.specs.Kinds.{filler}
+use Rattle.lf_faults.specs.Places.{FillsSix}
+use Rattle.lf_faults.proofs.Orders.{ascending-left}
 
 -- where a fault is inserted
 pub inserted-is : (f : Parts) (fs : List Parts) → inserted f fs ≡ take (prefix_len (λ g. is_before g f) fs) fs ++ f ∷ drop (prefix_len (λ g. is_before g f) fs) fs
@@ -88,3 +90,24 @@ module _ (count : ℕ) (faults now : List Parts) (f : Parts) (at : ℕ) (fills :
 
     pub insert_fills : FillsSix (count + 1) new
     insert_fills = more_fills count faults f new fills room at place_within is
+
+-- a set's first faults
+module _ (count : ℕ) (faults now : List Parts) (fills : FillsSix count faults) (view : take count faults ≡ now) (ascending : IsAscending now) (n : ℕ) (few : n ≤ length now) (new : List Parts) (is : new ≡ take n faults ++ replicate (6 - n) filler) where
+  early : n ≤ count
+  early = omega (arith, few, sym (ap length view), length-take-le count faults (omega (arith, fills.few, fills.six)))
+
+  length_front : length (take n faults) ≡ n
+  length_front = length-take-le n faults (omega (arith, early, fills.few, fills.six))
+
+  pub first_fills : FillsSix n new
+  first_fills = record {
+    few = omega (arith, early, fills.few);
+    six = rw is (length-append (take n faults) (replicate (6 - n) filler) ∙ omega (arith, length_front, length-replicate (6 - n) filler, early, fills.few));
+    rest = rw is (drop_at (take n faults) (replicate (6 - n) filler) n length_front);
+  }
+
+  same_front : take n new ≡ take n now
+  same_front = rw is (take_at (take n faults) (replicate (6 - n) filler) n length_front) ∙ (sym (take-take n count faults early) ∙ ap (take n) view)
+
+  pub first_ascending : IsAscending (take n new)
+  first_ascending = subst IsAscending (sym same_front) (ascending-left (take n now) (drop n now) (subst IsAscending (sym (take-append-drop n now)) ascending))

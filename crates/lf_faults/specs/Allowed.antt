@@ -3,7 +3,7 @@ use Rattle.std.specs.Prelude.{◌≡◌, ◌≢◌, ◌⊎◌, ℕ, ◌+◌, ◌
 use Rattle.std.specs.List.{AllByRecursion, Contains, count_by}
 use Rattle.lf_faults.specs.declared.fault.Parts.{Parts}
 use Rattle.lf_faults.specs.declared.fault.Parts.TheVariants.{Omit, Crash, Pause}
-use Rattle.lf_faults.specs.Faults.{IsAscending, set_before}
+use Rattle.lf_faults.specs.Faults.{IsAscending, inserted, set_before}
 
 -- how many nodes and steps there are, and what bounds the faults
 pub record Bounds : Type 0 where
@@ -66,6 +66,16 @@ pub record IsAllowed (b : Bounds) (faults : List Parts) : Type 0 where
   pub crashes : count_by is_crash faults ≤ b.crashes
   pub pauses : count_by is_pause faults ≤ b.pauses
   pub budget : length faults ≤ b.budget
+
+-- the fault may be added: it isn't there, and the set with it is allowed
+abbrev pub CanAdd : Bounds → List Parts → Parts → Type 0
+CanAdd b faults f = (¬ (Contains faults f)) × IsAllowed b (inserted f faults)
+
+-- the bounds on crashes and pauses leave room for the fault
+abbrev pub HasRoom : Bounds → List Parts → Parts → Type 0
+HasRoom b faults (Omit from to step) = Unit {0}
+HasRoom b faults (Crash node step) = (count_by (is_crash_of node) faults ≡ 0) × (count_by is_crash faults < b.crashes)
+HasRoom b faults (Pause node step) = (count_by (is_pause_of node) faults ≡ 0) × (count_by is_pause faults < b.pauses)
 
 -- each fault of the one set is in the other
 abbrev pub IsSubset : List Parts → List Parts → Type 0

@@ -29,3 +29,7 @@ kind_again step (kinds.Pause node) = refl
 
 pub parts_again : (f : Inside) → record { step = when (parts_of f.step f.kind); kind = kind_of (parts_of f.step f.kind) } ≡ f
 parts_again f = kind_again f.step f.kind
+
+-- what stands in the places of a set that it doesn't use
+abbrev pub filler : Parts
+filler = parts.Crash 0 1

@@ -1,4 +1,5 @@
 pub mod Allowed
 pub mod Faults
+pub mod Fill
 pub mod Kinds
 pub mod Places

@@ -3,11 +3,8 @@ use Rattle.std.specs.Prelude.{◌≡◌, ℕ, ◌≤◌, ◌-◌, ◌++◌, List
 use Rattle.std.proofs.Common.{sym, ap, ◌∙◌, arith}
 use Rattle.std.proofs.lemmas.List.{length-take-le, take-append-drop}
 use Rattle.lf_faults.specs.declared.fault.Parts.{Parts}
-use Rattle.lf_faults.specs.declared.fault.Parts.TheVariants.{Crash}
+use Rattle.lf_faults.specs.Kinds.{filler}
 use Rattle.lf_faults.specs.declared.set.FaultSet.TheInside.{Inside}
-
-abbrev pub filler : Parts
-filler = Crash 0 1
 
 -- the first `count` places are the set's, and the others hold the filler
 pub record FillsSix (count : ℕ) (faults : List Parts) : Type 0 where

@@ -2,9 +2,11 @@
 
 ghost use Rattle.std.specs.Prelude.{◌≡◌, ℕ, ◌<◌, ◌≤◌, ◌↔◌, IsTrue};
 ghost use Rattle.std.specs.List.{count_by, AllByRecursion};
-ghost use Rattle.lf_faults.specs.Allowed.{IsAdmitted, IsAllowed, is_crash, is_pause, is_crash_of, is_pause_of};
+ghost use Rattle.lf_faults.specs.Allowed.{IsAdmitted, IsAllowed, CanAdd, HasRoom, is_crash, is_pause, is_crash_of, is_pause_of};
 
-use crate::{FaultSet, FaultSpec, Parts};
+ghost use Rattle.lf_faults.specs.Faults.{inserted};
+
+use crate::{Fault, FaultSet, FaultSpec, Parts};
 
 /// How many crashes of a node there are.
 fn crashes_of(set: &FaultSet, at: u32) -> usize
@@ -89,4 +91,58 @@ pub fn admits(spec: &FaultSpec, set: &FaultSet) -> bool
         return false;
     }
     admits_each(spec, set)
+}
+
+/// Whether one fault more may be added to an allowed set: it isn't there, and the set with it is allowed.
+pub fn fits(spec: &FaultSpec, set: &FaultSet, fault: &Fault) -> bool
+    requires { IsAllowed spec.now set.now }
+    ensures { IsTrue result ↔ CanAdd spec.now set.now fault.now }
+{
+    if set.len() >= spec.budget() as usize {
+        return false;
+    }
+    if !spec.admits_fault(fault) {
+        return false;
+    }
+    if set.contains(fault) {
+        return false;
+    }
+    has_room(spec, set, fault)
+}
+
+/// Whether the bounds on crashes and pauses leave room for the fault.
+fn has_room(spec: &FaultSpec, set: &FaultSet, fault: &Fault) -> bool
+    ensures { IsTrue result ↔ HasRoom spec.now set.now fault.now }
+{
+    match fault.parts() {
+        Parts::Omit { .. } => true,
+        Parts::Crash { node, .. } => {
+            crashes_of(set, node) == 0 && crashes_in(set) < spec.crashes() as usize
+        }
+        Parts::Pause { node, .. } => {
+            pauses_of(set, node) == 0 && pauses_in(set) < spec.pauses() as usize
+        }
+    }
+}
+
+/// Whether a fault may be added to a set: it isn't there, and the set with it is allowed.
+pub fn can_add(spec: &FaultSpec, set: &FaultSet, fault: Fault) -> bool
+    ensures { IsTrue result ↔ CanAdd spec.now set.now fault }
+{
+    if !admits(spec, set) {
+        return false;
+    }
+    fits(spec, set, &fault)
+}
+
+/// The set with one fault more, which may be added.
+pub fn with(spec: &FaultSpec, set: &FaultSet, fault: Fault) -> FaultSet
+    requires { CanAdd spec.now set.now fault }
+    ensures { result ≡ inserted fault set.now }
+{
+    let _limits = spec.budget();
+    match set.insert(fault) {
+        Some(larger) => larger,
+        None => *set,
+    }
 }

@@ -109,6 +109,27 @@ impl Fault {
         }
     }
 
+    /// The fault with these parts.
+    pub(crate) fn from_parts(parts: Parts) -> Fault
+        requires { IsFault parts }
+        ensures { result ≡ parts }
+    {
+        match parts {
+            Parts::Omit { from, to, step } => Fault {
+                step,
+                kind: Kind::Omit { from, to },
+            },
+            Parts::Crash { node, step } => Fault {
+                step,
+                kind: Kind::Crash { node },
+            },
+            Parts::Pause { node, step } => Fault {
+                step,
+                kind: Kind::Pause { node },
+            },
+        }
+    }
+
     /// What stands in a set's unused places.
     pub(crate) fn filler() -> Fault
         ensures { result ≡ Parts.Crash 0 1 }

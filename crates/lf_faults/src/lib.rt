@@ -6,10 +6,12 @@
 
 mod allowed;
 mod fault;
+mod order;
 mod set;
 mod spec;
 
-pub use allowed::admits;
+pub use allowed::{admits, can_add, fits, with};
 pub use fault::{Fault, Parts};
+pub use order::next_set;
 pub use set::FaultSet;
 pub use spec::FaultSpec;

@@ -1,8 +1,9 @@
 //! A set of at most six faults.
 
-ghost use Rattle.std.specs.Prelude.{◌≡◌, ◌+◌, ◌-◌, ◌<◌, ◌≤◌, ◌↔◌, ◌++◌, ◌∷◌, [], IsTrue, IsSome, IfSome, length, take, drop};
+ghost use Rattle.std.specs.Prelude.{◌≡◌, ◌+◌, ◌-◌, ◌<◌, ◌≤◌, ◌↔◌, ◌++◌, ◌∷◌, [], IsTrue, IsSome, IfSome, length, take, drop, replicate};
 ghost use Rattle.std.specs.List.{Contains, prefix_len};
 ghost use Rattle.lf_faults.specs.Faults.{IsAscending, is_omitted, is_crashed, is_paused, is_woken, is_before, inserted, set_before};
+ghost use Rattle.lf_faults.specs.Kinds.{filler};
 
 use crate::{Fault, Parts};
 use std::marker::Model;
@@ -22,7 +23,8 @@ impl Model for FaultSet {
 
     ghost use Rattle.std.specs.Prelude.{take, length, ◌++◌, ◌-◌, replicate};
     ghost use Rattle.lf_faults.specs.Faults.{IsAscending};
-    ghost use Rattle.lf_faults.specs.Places.{FillsSix, filler, six_again};
+    ghost use Rattle.lf_faults.specs.Kinds.{filler};
+    ghost use Rattle.lf_faults.specs.Places.{FillsSix, six_again};
 
     ghost view = { λ s. take s.count s.faults };
 
@@ -101,6 +103,17 @@ impl FaultSet {
             .count()
     }
 
+    /// The first faults of the set, as many as `count`.
+    pub fn first(&self, count: usize) -> FaultSet
+        requires { count ≤ length self.now }
+        ensures { result ≡ take count self.now }
+    {
+        FaultSet {
+            count,
+            faults: kept(self.faults, count),
+        }
+    }
+
     /// Whether the note that `from` sends to `to` at `step` is lost.
     pub fn omits(&self, from: u32, to: u32, step: u32) -> bool
         ensures { result ≡ is_omitted self.now from to step }
@@ -149,6 +162,24 @@ fn with_at(faults: [Fault; 6], at: usize, fault: Fault) -> [Fault; 6]
     let mut faults = faults;
     shift_in(&mut faults, at, fault);
     faults
+}
+
+/// The faults before a place, and the filler from there on.
+fn kept(faults: [Fault; 6], count: usize) -> [Fault; 6]
+    requires { count ≤ 6 }
+    ensures { result ≡ take count faults ++ replicate (6 - count) filler }
+{
+    let mut faults = faults;
+    fill_from(&mut faults, count);
+    faults
+}
+
+/// Puts the filler from a place on.
+fn fill_from(faults: &mut [Fault], count: usize)
+    requires { count ≤ length faults.old }
+    ensures { faults.new ≡ take count faults.old ++ replicate (length faults.old - count) filler }
+{
+    faults[count..].fill(Fault::filler());
 }
 
 /// Puts a fault at a place, those from there on one further, and drops the last.
