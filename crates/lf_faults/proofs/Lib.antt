@@ -6,3 +6,4 @@ pub mod Nexts
 pub mod Orders
 pub mod PlacesLemmas
 pub mod Stepping
+pub mod Walks

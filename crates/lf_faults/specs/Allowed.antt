@@ -98,7 +98,18 @@ IsFirst b misses answer =
     ((other : List Parts) → IsAllowed b other → misses other ≡ false)
     (λ found. IsAllowed b found × (misses found ≡ true) × ((other : List Parts) → IsAllowed b other → misses other ≡ true → set_before other found ≡ false))
 
--- the sets are all the allowed ones, in order: the first is the empty set, each further one is the next, and after the last comes none
+-- the sets that follow `here` one by one, each the next allowed set, until none is left
 abbrev pub IsWalkFrom : Bounds → List Parts → List (List Parts) → Type 0
 IsWalkFrom b here [] = IsLast b here
 IsWalkFrom b here (next ∷ rest) = IsNext b here next × IsWalkFrom b next rest
+
+-- each set comes before those after it
+abbrev pub AreAscending : List (List Parts) → Type 0
+AreAscending [] = Unit {0}
+AreAscending (s ∷ ss) = AllByRecursion (λ t. set_before s t ≡ true) ss × AreAscending ss
+
+-- the sets are the allowed ones, each once, in order
+pub record IsEnumeration (b : Bounds) (sets : List (List Parts)) : Type 0 where
+  pub complete : (s : List Parts) → IsAllowed b s → Contains sets s
+  pub sound : (s : List Parts) → Contains sets s → IsAllowed b s
+  pub ascending : AreAscending sets

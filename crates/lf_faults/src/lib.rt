@@ -6,12 +6,14 @@
 
 mod allowed;
 mod fault;
+mod laws;
 mod order;
 mod set;
 mod spec;
 
 pub use allowed::{admits, can_add, fits, with};
 pub use fault::{Fault, Parts};
+pub use laws::{first_set_is_one, orders_are_total, subsets_are_allowed};
 pub use order::next_set;
 pub use set::FaultSet;
 pub use spec::FaultSpec;

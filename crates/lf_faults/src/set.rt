@@ -103,6 +103,16 @@ impl FaultSet {
             .count()
     }
 
+    /// Whether it comes before another, in the order of sets: fewer faults first, and sets of one size by their lists.
+    pub fn is_before(&self, other: &FaultSet) -> bool
+        ensures { result ≡ set_before self.now other.now }
+    {
+        self.len()
+            .cmp(&other.len())
+            .then(self.items().cmp(other.items()))
+            .is_lt()
+    }
+
     /// The first faults of the set, as many as `count`.
     pub fn first(&self, count: usize) -> FaultSet
         requires { count ≤ length self.now }
