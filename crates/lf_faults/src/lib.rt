@@ -17,3 +17,6 @@ pub use laws::{first_set_is_one, orders_are_total, subsets_are_allowed};
 pub use order::next_set;
 pub use set::FaultSet;
 pub use spec::FaultSpec;
+
+#[cfg(test)]
+mod tests;
