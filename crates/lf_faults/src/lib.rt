@@ -9,9 +9,11 @@ mod fault;
 mod order;
 mod set;
 mod spec;
+mod text;
 
 pub use allowed::{admits, can_add, fits, with};
 pub use fault::{Fault, Parts};
 pub use order::next_set;
 pub use set::FaultSet;
 pub use spec::FaultSpec;
+pub use text::{fault_text, read_fault};
