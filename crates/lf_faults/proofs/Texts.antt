@@ -1,12 +1,12 @@
 -- Two faults never share a text, and what a reader of texts gives.
-use Rattle.std.proofs.Common.{◌≡◌, ◌≢◌, ℕ, ◌+◌, ◌/◌, ◌%◌, ◌<◌, ◌≤◌, Bool, true, false, ◌&&◌, ◌||◌, ◌==◌, nat_lt, List, [], ◌∷◌, ◌++◌, codes, Option, None, Some, IsSome, IfSome, MatchOption, refl, sym, ap, subst, ◌∙◌, inl, inr, arith, get_or}
+use Rattle.std.proofs.Common.{◌≡◌, ◌≢◌, ℕ, ◌<◌, ◌≤◌, true, false, List, ◌∷◌, ◌++◌, codes, Option, None, Some, IsSome, IfSome, refl, sym, ap, subst, ◌∙◌, arith, get_or}
 use Rattle.std.proofs.lemmas.Fmt.{decimal_injective}
 use Rattle.std.specs.Fmt.{decimal}
 use Rattle.lf_faults.specs.declared.fault.Parts.{Parts}
 use Rattle.lf_faults.specs.declared.fault.Parts.TheVariants.{Omit, Crash, Pause}
 use Rattle.lf_faults.specs.Faults.{IsFault}
 use Rattle.lf_faults.specs.Texts.{node_at_step, spelling, Reads}
-use Rattle.lf_faults.proofs.TextsDigits.{digit_first, digit_parts}
+use Rattle.lf_faults.proofs.TextsDigits.{digit_parts}
 
 -- nodes of one digit, and a step of at most two
 abbrev pub IsShort : Parts → Type 0
@@ -90,10 +90,10 @@ reads_made text f (Some g) short is some value = (subst IsFault (sym value) (som
 -- the one fault of the text
 pub reads_fault : (text : List ℕ) (read : Option Parts) → Reads text read → (f : Parts) → IsFault f → (read ≡ Some f → text ≡ spelling f) × (text ≡ spelling f → read ≡ Some f)
 reads_fault text None h f fault = (λ same. cc, λ same. absurd (h f fault same))
-reads_fault text (Some g) h f fault =
-    ( (λ same. let one : g ≡ f = cc in h.1 ∙ ap spelling one)
-    , (λ same. ap Some (spelling_injective g f h.0 fault (sym h.1 ∙ same)))
-    )
+reads_fault text (Some g) h f fault = (
+  (λ same. let one : g ≡ f = cc in h.1 ∙ ap spelling one),
+  (λ same. ap Some (spelling_injective g f h.0 fault (sym h.1 ∙ same))),
+)
 
 pub reads_some : (text : List ℕ) (read : Option Parts) → Reads text read → (IsSome read → (f : Parts) × IsFault f × (text ≡ spelling f)) × (((f : Parts) × IsFault f × (text ≡ spelling f)) → IsSome read)
 reads_some text None h = (λ some. let never : false ≡ true = some in absurd (cc), λ w. absurd (h w.0 w.1 w.2))

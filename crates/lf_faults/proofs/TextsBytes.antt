@@ -1,5 +1,5 @@
 -- A text of a fault has no comma and no line feed.
-use Rattle.std.proofs.Common.{◌≡◌, ◌≢◌, ℕ, ◌+◌, ◌/◌, ◌%◌, ◌<◌, ◌≤◌, Bool, true, false, ◌&&◌, ◌||◌, ◌==◌, nat_lt, List, [], ◌∷◌, ◌++◌, codes, refl, sym, ap, ◌∙◌, inl, inr, arith}
+use Rattle.std.proofs.Common.{◌≡◌, ◌≢◌, ℕ, ◌+◌, ◌/◌, ◌%◌, ◌<◌, Bool, true, false, ◌||◌, ◌==◌, nat_lt, List, ◌++◌, codes, refl, sym, ap, ◌∙◌, inl, inr, arith}
 use Rattle.std.specs.List.{list_all, All, Contains}
 use Rattle.std.specs.Fmt.{decimal}
 use Rattle.std.proofs.lemmas.Bool.{cases_lt, and_from}
@@ -30,10 +30,10 @@ plain_digit d low = ap (list_all is_plain) (decimal_digit d low) ∙ and_from (i
 plain_number : (n : ℕ) → n < 100 → list_all is_plain (decimal n) ≡ true
 plain_number n high =
     elim (cases_lt n 10) [
-      inl low ↦ plain_digit n low
-    | inr ten ↦
-        ap (list_all is_plain) (tens_and_units n ten high)
-        ∙ plain_both (decimal (n / 10)) (decimal (n % 10)) (plain_digit (n / 10) (omega arith)) (plain_digit (n % 10) (omega arith))
+      | inl low ↦ plain_digit n low
+      | inr ten ↦
+          ap (list_all is_plain) (tens_and_units n ten high)
+          ∙ plain_both (decimal (n / 10)) (decimal (n % 10)) (plain_digit (n / 10) (omega arith)) (plain_digit (n % 10) (omega arith))
     ]
 
 plain_place : (node step : ℕ) → node < 10 → step < 100 → list_all is_plain (node_at_step node step) ≡ true
@@ -43,16 +43,16 @@ plain_place node step low high =
 plain_text : (f : Parts) → IsFault f → list_all is_plain (spelling f) ≡ true
 plain_text (Omit from to step) h =
     plain_both (codes "omit ") (decimal from ++ (codes ">" ++ node_at_step to step)) refl
-      (plain_both (decimal from) (codes ">" ++ node_at_step to step) (plain_digit from (omega arith))
-        (plain_both (codes ">") (node_at_step to step) refl (plain_place to step (omega arith) (omega arith))))
+    (plain_both (decimal from) (codes ">" ++ node_at_step to step) (plain_digit from (omega arith))
+    (plain_both (codes ">") (node_at_step to step) refl (plain_place to step (omega arith) (omega arith))))
 plain_text (Crash node step) h = plain_both (codes "crash ") (node_at_step node step) refl (plain_place node step (omega arith) (omega arith))
 plain_text (Pause node step) h = plain_both (codes "pause ") (node_at_step node step) refl (plain_place node step (omega arith) (omega arith))
 
 neither : (b : ℕ) → is_plain b ≡ true → (b ≢ 44) × (b ≢ 10)
-neither b plain =
-    ( (λ same. let wrong : false ≡ true = ap is_plain (sym same) ∙ plain in cc)
-    , (λ same. let wrong : false ≡ true = ap is_plain (sym same) ∙ plain in cc)
-    )
+neither b plain = (
+  (λ same. let wrong : false ≡ true = ap is_plain (sym same) ∙ plain in cc),
+  (λ same. let wrong : false ≡ true = ap is_plain (sym same) ∙ plain in cc),
+)
 
 -- each byte is neither a comma nor a line feed
 pub spelling_bytes : (f : Parts) → IsFault f → All (λ b. (b ≢ 44) × (b ≢ 10)) (spelling f)

@@ -6,8 +6,7 @@ ghost use Rattle.lf_faults.specs.declared.fault.Parts.{Parts};
 ghost use Rattle.lf_faults.specs.Faults.{IsFault};
 ghost use Rattle.lf_faults.specs.Texts.{node_at_step, spelling, Reads};
 
-use crate::Fault;
-use crate::Parts;
+use crate::{Fault, Parts};
 use std::alloc::{AllocError, Global};
 
 /// The one text of the fault, as `omit 0>1 @12`, `crash 3 @10` or `pause 2 @9`.
@@ -144,9 +143,9 @@ mod tests {
         ];
         for (text, fault) in cases {
             let fault = fault.ok_or("no fault")?;
-            assert_eq!(rt; read_fault(text), Some(fault), "at {text}");
+            assert_eq!(rt; read_fault(text), Some(fault));
             let written = fault_text(rt.alloc(), &fault)?;
-            assert!(rt; written.as_str() == text, "at {text}");
+            assert!(rt; written.as_str() == text, "at {fault:?}");
         }
         Ok(())
     }

@@ -1,4 +1,4 @@
-use Rattle.std.proofs.Common.{◌≡◌, ◌∷◌, ◌+◌, ◌-◌, ◌<◌, ap, length, sym, ◌∙◌, get_or, arith}
+use Rattle.std.proofs.Common.{◌≡◌, ◌∷◌, ◌+◌, ◌<◌, ap, length, sym, ◌∙◌, get_or, arith}
 use Rattle.lf_faults.proofs.TextsDigits.{digit_first}
 use Rattle.lf_faults.proofs.text.read_digit.Goals as goal
 

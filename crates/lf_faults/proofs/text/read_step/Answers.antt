@@ -1,5 +1,5 @@
-use Rattle.std.proofs.Common.{◌≡◌, ℕ, ◌+◌, ◌<◌, ◌≤◌, ◌==◌, Bool, false, true, length, List, [], ◌∷◌, ◌++◌, refl, ap, sym, ◌∙◌, arith}
-use Rattle.std.proofs.lemmas.Bool.Decides.{Decides-eqb, nat_tests}
+use Rattle.std.proofs.Common.{◌≡◌, ℕ, ◌<◌, ◌≤◌, ◌==◌, Bool, false, true, length, List, [], ◌∷◌, ◌++◌, refl, ap, sym, ◌∙◌, arith}
+use Rattle.std.proofs.lemmas.Bool.Decides.{nat_tests}
 use Rattle.std.proofs.lemmas.List.{append-nil}
 use Rattle.std.specs.Fmt.{decimal}
 use Rattle.lf_faults.proofs.TextsDigits.{no_digit, zero_first, no_second, too_long, from_digits}
@@ -22,7 +22,7 @@ returns-then-first-eq0 c = zero_first c.args.bytes.now c.in_ok-first.rest.now c.
 pub returns-in_err-second : goal.returns-in_err-second
 returns-in_err-second c =
     rw c.from_residual-in_err-second.ensures
-      (no_second c.args.bytes.now c.in_ok-first.rest.now c.in_ok-first.first c.in_ok-first.ensures.0 c.in_ok-first.ensures.1 (filled _ _ c.is_empty.ensures c.if-is_empty.false) c.in_err-second.ensures)
+    (no_second c.args.bytes.now c.in_ok-first.rest.now c.in_ok-first.first c.in_ok-first.ensures.0 c.in_ok-first.ensures.1 (filled _ _ c.is_empty.ensures c.if-is_empty.false) c.in_err-second.ensures)
 
 pub returns-then-is_empty-2 : goal.returns-then-is_empty-2
 returns-then-is_empty-2 c =
