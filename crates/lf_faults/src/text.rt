@@ -49,7 +49,7 @@ fn read_omission(bytes: &[u8]) -> Option<Fault>
     Fault::omit(from, to, step)
 }
 
-/// The node and the step of `3 @10`.
+/// The node and the step of `3 @10`. Whether they are in a fault's ranges is tested where the fault is made.
 fn read_node_at_step(bytes: &[u8]) -> Option<(u32, u32)>
     ensures { MatchOption result
         ((node step : ℕ) → node < 10 → 1 ≤ step → step < 100 → bytes.now ≢ node_at_step node step)
