@@ -6,4 +6,7 @@ pub mod Nexts
 pub mod Orders
 pub mod PlacesLemmas
 pub mod Stepping
+pub mod Texts
+pub mod TextsBytes
+pub mod TextsDigits
 pub mod Walks

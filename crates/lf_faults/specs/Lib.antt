@@ -3,3 +3,4 @@ pub mod Faults
 pub mod Fill
 pub mod Kinds
 pub mod Places
+pub mod Texts

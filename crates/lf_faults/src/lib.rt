@@ -10,6 +10,7 @@ mod laws;
 mod order;
 mod set;
 mod spec;
+mod text;
 
 pub use allowed::{admits, can_add, fits, with};
 pub use fault::{Fault, Parts};
@@ -17,6 +18,7 @@ pub use laws::{first_set_is_one, orders_are_total, subsets_are_allowed};
 pub use order::next_set;
 pub use set::FaultSet;
 pub use spec::FaultSpec;
+pub use text::{fault_text, read_fault};
 
 #[cfg(test)]
 mod tests;

@@ -1,0 +1,206 @@
+//! The text of a fault: `omit 0>1 @12`, `crash 3 @10`, `pause 2 @9`.
+
+ghost use Rattle.std.specs.Prelude.{◌≡◌, ◌≢◌, ◌<◌, ◌≤◌, ◌↔◌, ◌++◌, ℕ, List, IsSome, IfSome, IfOk, MatchOption, string_bytes, codes};
+ghost use Rattle.std.specs.Fmt.{decimal};
+ghost use Rattle.lf_faults.specs.declared.fault.Parts.{Parts};
+ghost use Rattle.lf_faults.specs.Faults.{IsFault};
+ghost use Rattle.lf_faults.specs.Texts.{node_at_step, spelling, Reads};
+
+use crate::{Fault, Parts};
+use std::alloc::{AllocError, Global};
+
+/// The one text of the fault, as `omit 0>1 @12`, `crash 3 @10` or `pause 2 @9`.
+///
+/// Numbers are decimal, with no sign and no leading zero. The error is that memory has run out.
+pub fn fault_text(alloc: Global, fault: &Fault) -> Result<String, AllocError>
+    ensures { IfOk result (λ text. string_bytes text ≡ spelling fault.now) }
+{
+    match fault.parts() {
+        Parts::Omit { from, to, step } => format!(in alloc; "omit {from}>{to} @{step}"),
+        Parts::Crash { node, step } => format!(in alloc; "crash {node} @{step}"),
+        Parts::Pause { node, step } => format!(in alloc; "pause {node} @{step}"),
+    }
+}
+
+/// The fault that the text spells. None where the text is not exactly what `fault_text` writes of a fault.
+pub fn read_fault(text: &str) -> Option<Fault>
+    ensures fault { (f : Parts) → IsFault f → ((result ≡ Some f) ↔ (text.now ≡ spelling f)) }
+    ensures some { IsSome result ↔ ((f : Parts) × IsFault f × (text.now ≡ spelling f)) }
+    ensures in_range { IfSome result IsFault }
+{
+    let bytes = text.as_bytes();
+    if let Some(rest) = after(bytes, b"omit ") {
+        return read_omission(rest);
+    }
+    if let Some(rest) = after(bytes, b"crash ") {
+        let (node, step) = read_node_at_step(rest)?;
+        return Fault::crash(node, step);
+    }
+    let (node, step) = read_node_at_step(after(bytes, b"pause ")?)?;
+    Fault::pause(node, step)
+}
+
+/// The omission that `0>1 @12` stands for.
+fn read_omission(bytes: &[u8]) -> Option<Fault>
+    ensures { Reads (codes "omit " ++ bytes.now) result }
+{
+    let (from, rest) = read_digit(bytes)?;
+    let (to, step) = read_node_at_step(after(rest, b">")?)?;
+    Fault::omit(from, to, step)
+}
+
+/// The node and the step of `3 @10`. Whether they are in a fault's ranges is tested where the fault is made.
+fn read_node_at_step(bytes: &[u8]) -> Option<(u32, u32)>
+    ensures { MatchOption result
+        ((node step : ℕ) → node < 10 → 1 ≤ step → step < 100 → bytes.now ≢ node_at_step node step)
+        (λ r. (r.0 < 10) × (1 ≤ r.1) × (r.1 < 100) × (bytes.now ≡ node_at_step r.0 r.1)) }
+{
+    let (node, rest) = read_digit(bytes)?;
+    let step = read_step(after(rest, b" @")?)?;
+    Some((node, step))
+}
+
+/// The step that the bytes are: one or two digits, of which the first is not 0.
+fn read_step(bytes: &[u8]) -> Option<u32>
+    ensures { MatchOption result
+        ((step : ℕ) → 1 ≤ step → step < 100 → bytes.now ≢ decimal step)
+        (λ step. (1 ≤ step) × (step < 100) × (bytes.now ≡ decimal step)) }
+{
+    let (first, rest) = read_digit(bytes)?;
+    if first == 0 {
+        return None;
+    }
+    if rest.is_empty() {
+        return Some(first);
+    }
+    let (second, rest) = read_digit(rest)?;
+    if rest.is_empty() {
+        Some(10 * first + second)
+    } else {
+        None
+    }
+}
+
+/// The digit that the bytes begin with, and what follows it.
+fn read_digit(bytes: &[u8]) -> Option<(u32, &[u8])>
+    ensures { MatchOption result
+        ((digit : ℕ) (rest : List ℕ) → digit < 10 → bytes.now ≢ decimal digit ++ rest)
+        (λ r. (r.0 < 10) × (bytes.now ≡ decimal r.0 ++ r.1.now)) }
+{
+    let (first, rest) = bytes.split_first()?;
+    if !first.is_ascii_digit() {
+        return None;
+    }
+    Some((u32::from(*first - b'0'), rest))
+}
+
+/// What follows the prefix. None where the bytes begin otherwise.
+fn after<'a>(bytes: &'a [u8], prefix: &[u8]) -> Option<&'a [u8]>
+    ensures { MatchOption result
+        ((rest : List ℕ) → bytes.entry.now ≢ prefix.now ++ rest)
+        (λ rest. bytes.entry.now ≡ prefix.now ++ rest.now) }
+{
+    bytes.strip_prefix(prefix)
+}
+
+#[cfg(test)]
+mod tests {
+    use super::*;
+    use std::process::Abort;
+    use std::test::Fail;
+
+    /// Writes the fault and reads it back.
+    fn assert_reads_back(rt: &impl Abort, alloc: Global, fault: Option<Fault>) -> Result<(), Fail> {
+        let fault = fault.ok_or("no fault")?;
+        let text = fault_text(alloc, &fault)?;
+        assert_eq!(rt; read_fault(&text), Some(fault));
+        Ok(())
+    }
+
+    #[test]
+    fn every_fault_reads_back(rt: HostRuntime) -> Result<(), Fail> {
+        for step in 1..=48 {
+            for node in 0..8 {
+                assert_reads_back(&rt, rt.alloc(), Fault::crash(node, step))?;
+                assert_reads_back(&rt, rt.alloc(), Fault::pause(node, step))?;
+                for to in 0..8 {
+                    if to != node {
+                        assert_reads_back(&rt, rt.alloc(), Fault::omit(node, to, step))?;
+                    }
+                }
+            }
+        }
+        Ok(())
+    }
+
+    #[test]
+    fn reads_and_writes_these(rt: HostRuntime) -> Result<(), Fail> {
+        let cases = [
+            ("omit 0>1 @1", Fault::omit(0, 1, 1)),
+            ("omit 7>0 @48", Fault::omit(7, 0, 48)),
+            ("crash 3 @10", Fault::crash(3, 10)),
+            ("pause 2 @9", Fault::pause(2, 9)),
+        ];
+        for (text, fault) in cases {
+            let fault = fault.ok_or("no fault")?;
+            assert_eq!(rt; read_fault(text), Some(fault));
+            let written = fault_text(rt.alloc(), &fault)?;
+            assert!(rt; written.as_str() == text, "at {fault:?}");
+        }
+        Ok(())
+    }
+
+    #[test]
+    fn refuses_these(rt: HostRuntime) {
+        let texts = [
+            "",
+            "pause",
+            "pause ",
+            "crash 0",
+            "crash 0 @",
+            "crash 0 1",
+            "crash 0 @01",
+            "crash 0 @0",
+            "crash 0 @00",
+            "crash 0 @49",
+            "crash 0 @480",
+            "crash 0 @+1",
+            "crash 0 @-1",
+            "crash +0 @1",
+            "crash 00 @1",
+            "crash 8 @1",
+            "crash 9 @1",
+            "crash 10 @1",
+            "crash  0 @1",
+            "crash 0  @1",
+            "crash 0 @ 1",
+            "crash0 @1",
+            "crash 0@1",
+            " crash 0 @1",
+            "crash 0 @1 ",
+            "crash 0 @1\n",
+            "crash 0 @1\r\n",
+            "crash\t0 @1",
+            "Crash 0 @1",
+            "CRASH 0 @1",
+            "crash 0 @１",
+            "crash é @1",
+            "crash 0>1 @1",
+            "omit 1>1 @1",
+            "omit 0 @1",
+            "omit 0>8 @1",
+            "omit 8>0 @1",
+            "omit 0>1 @49",
+            "omit 0>1 @0",
+            "omit 0> 1 @1",
+            "omit 0 >1 @1",
+            "omit 0>1@1",
+            "omit 0-1 @1",
+            "omit 0>1 @1,",
+            "pause 0 @50",
+        ];
+        for text in texts {
+            assert_eq!(rt; read_fault(text), None, "at {text}");
+        }
+    }
+}
