@@ -1,5 +1,5 @@
 -- The orders of faults and of sets are total, and tell apart what differs.
-use Rattle.std.proofs.Common.{◌≡◌, ℕ, ◌<◌, Bool, true, false, List, [], ◌∷◌, ◌++◌, length, refl, sym, ap, ◌∙◌, subst, inl, inr, arith}
+use Rattle.std.proofs.Common.{◌≡◌, true, false, List, [], ◌∷◌, ◌++◌, length, refl, sym, ap, ◌∙◌, subst, inl, inr}
 use Rattle.std.specs.Prelude.{◌⊎◌}
 use Rattle.std.specs.List.{Contains, AllByRecursion}
 use Rattle.std.specs.declared.cmp.Ordering.{Ordering}
@@ -9,11 +9,11 @@ use Rattle.std.specs.Cmp.{IsTotalOrder}
 use Rattle.std.specs.Cmp.Lexicographic.{slice_cmp}
 use Rattle.std.proofs.lemmas.Cmp.{on_total, then_total, lists_total, nat_cmp_total, tied_itself}
 use Rattle.std.proofs.lemmas.Map.Lookups.{exact_unsigned}
-use Rattle.std.proofs.lemmas.Bool.{cases_Bool, cond_both, both_ways, false≢true, false_from_ne_true}
+use Rattle.std.proofs.lemmas.Bool.{cond_both, both_ways, false_from_ne_true}
 use Rattle.lf_faults.specs.declared.fault.Parts.{Parts}
 use Rattle.lf_faults.specs.declared.fault.Parts.TheVariants.{Omit, Crash, Pause}
 use Rattle.lf_faults.specs.Faults.{step_of, rank_of, node_of, receiver_of, fault_cmp, is_before, IsAscending, inserted, set_cmp, set_before}
-use Rattle.lf_faults.proofs.Members.{none-in, Contains-first, Contains-more, cases_in, each-in, each-left, each-weaker}
+use Rattle.lf_faults.proofs.Members.{Contains-first, Contains-more, each-in, each-left, each-weaker}
 
 pub fault_total : IsTotalOrder fault_cmp
 fault_total = then_total (on_total step_of nat_cmp_total) (then_total (on_total rank_of nat_cmp_total) (then_total (on_total node_of nat_cmp_total) (on_total receiver_of nat_cmp_total)))

@@ -1,5 +1,5 @@
 -- Which sets of faults are allowed, the next of them, and the first with a property.
-use Rattle.std.specs.Prelude.{◌≡◌, ◌≢◌, ◌⊎◌, ℕ, ◌+◌, ◌<◌, ◌≤◌, Bool, true, false, ◌==◌, List, [], ◌∷◌, length, Option, MatchOption}
+use Rattle.std.specs.Prelude.{◌≡◌, ◌≢◌, ℕ, ◌<◌, ◌≤◌, Bool, true, false, ◌==◌, List, [], ◌∷◌, length, Option, MatchOption}
 use Rattle.std.specs.List.{AllByRecursion, Contains, count_by}
 use Rattle.lf_faults.specs.declared.fault.Parts.{Parts}
 use Rattle.lf_faults.specs.declared.fault.Parts.TheVariants.{Omit, Crash, Pause}

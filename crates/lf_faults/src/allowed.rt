@@ -3,7 +3,6 @@
 ghost use Rattle.std.specs.Prelude.{◌≡◌, ℕ, ◌<◌, ◌≤◌, ◌↔◌, IsTrue};
 ghost use Rattle.std.specs.List.{count_by, AllByRecursion};
 ghost use Rattle.lf_faults.specs.Allowed.{IsAdmitted, IsAllowed, CanAdd, HasRoom, is_crash, is_pause, is_crash_of, is_pause_of};
-
 ghost use Rattle.lf_faults.specs.Faults.{inserted};
 
 use crate::{Fault, FaultSet, FaultSpec, Parts};

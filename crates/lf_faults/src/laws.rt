@@ -13,17 +13,14 @@ pub fn orders_are_total()
     ensures faults_apart { (f g : Parts) → fault_cmp f g ≡ Equal → f ≡ g }
     ensures sets { IsTotalOrder set_cmp }
     ensures sets_apart { (fs gs : List Parts) → set_cmp fs gs ≡ Equal → fs ≡ gs }
-{
-}
+{}
 
 /// Every subset of an allowed set is allowed.
 pub fn subsets_are_allowed()
     ensures { (b : Bounds) (large small : List Parts) → IsAllowed b large → IsAscending small → IsSubset small large → IsAllowed b small }
-{
-}
+{}
 
 /// There is at most one first allowed set with a property, for every property.
 pub fn first_set_is_one()
     ensures { (b : Bounds) (misses : List Parts → Bool) (x y : Option (List Parts)) → IsFirst b misses x → IsFirst b misses y → x ≡ y }
-{
-}
+{}

@@ -80,13 +80,11 @@ fn plainly_allowed(set: &FaultSet, last_omission: u32, crashes: usize, pauses: u
 }
 
 /// Walks from the empty set, and compares each set with the enumeration's.
-fn walk(
-    rt: &impl Abort,
-    alloc: Global,
-    numbers: [u32; 6],
-) -> Result<usize, AllocError> {
+fn walk(rt: &impl Abort, alloc: Global, numbers: [u32; 6]) -> Result<usize, AllocError> {
     let [nodes, horizon, last_omission, crashes, budget, pauses] = numbers;
-    let spec = FaultSpec::new(nodes, horizon, last_omission, crashes, budget).and_then(|spec| spec.with_pauses(pauses, 1));
+    let spec = FaultSpec::new(nodes, horizon, last_omission, crashes, budget).and_then(
+        |spec| spec.with_pauses(pauses, 1),
+    );
     let Some(spec) = spec else {
         assert!(rt; false, "the bounds {numbers:?} are out of range");
         return Ok(0);
@@ -100,7 +98,11 @@ fn walk(
             if plainly_allowed(set, last_omission, crashes as usize, pauses as usize) {
                 assert_eq!(rt; next, Some(*set), "under {numbers:?}");
                 count = count.saturating_add(1);
-                next = if admits(&spec, set) { next_set(&spec, set) } else { None };
+                next = if admits(&spec, set) {
+                    next_set(&spec, set)
+                } else {
+                    None
+                };
             }
         }
         level = larger(alloc, &level, &faults)?;
@@ -155,7 +157,9 @@ fn no_larger_set_is_looked_for_where_none_is(rt: HostRuntime) -> Result<(), Fail
 
 #[test]
 fn sets_grow_in_order(rt: HostRuntime) -> Result<(), Fail> {
-    let spec = FaultSpec::new(3, 4, 2, 1, 3).and_then(|spec| spec.with_pauses(1, 2)).ok_or("bounds")?;
+    let spec = FaultSpec::new(3, 4, 2, 1, 3)
+        .and_then(|spec| spec.with_pauses(1, 2))
+        .ok_or("bounds")?;
     let omission = Fault::omit(0, 1, 2).ok_or("fault")?;
     let crash = Fault::crash(0, 2).ok_or("fault")?;
     let pause = Fault::pause(0, 2).ok_or("fault")?;
@@ -166,10 +170,15 @@ fn sets_grow_in_order(rt: HostRuntime) -> Result<(), Fail> {
         assert!(rt; !can_add(&spec, &set, fault));
     }
     assert_eq!(rt; set.items(), [omission, crash, pause].as_slice());
-    assert!(rt; !can_add(&spec, &set, Fault::omit(1, 0, 1).ok_or("fault")?), "the budget is met");
+    assert!(rt;
+        !can_add(&spec, &set, Fault::omit(1, 0, 1).ok_or("fault")?),
+        "the budget is met"
+    );
     assert!(rt; set.omits(0, 1, 2));
     assert!(rt; set.crashes(0, 2) && set.crashes(0, 4) && !set.crashes(0, 1) && !set.crashes(1, 4));
-    assert!(rt; set.pauses(0, 2, 2) && set.pauses(0, 3, 2) && !set.pauses(0, 4, 2) && !set.pauses(0, 1, 2));
+    assert!(rt;
+        set.pauses(0, 2, 2) && set.pauses(0, 3, 2) && !set.pauses(0, 4, 2) && !set.pauses(0, 1, 2)
+    );
     assert!(rt; set.wakes(0, 4, 2) && !set.wakes(0, 3, 2));
     assert!(rt; set.first(2).is_before(&set) && !set.is_before(&set.first(2)));
     Ok(())

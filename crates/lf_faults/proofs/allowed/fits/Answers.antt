@@ -4,14 +4,16 @@ use Rattle.lf_faults.proofs.Allowing.{budget-from_allowed, admitted-from_allowed
 use Rattle.lf_faults.proofs.allowed.fits.Goals as goal
 
 pub returns-then-len-budget : goal.returns-then-len-budget
-returns-then-len-budget c =
-    (λ h. absurd (false≢true h)
-    , λ can. absurd (omega (arith, budget-from_allowed c.args.spec.now c.args.set.now c.args.fault.now can.1, c.if-len-budget.true, c.len.ensures.value, c.budget.ensures.value)))
+returns-then-len-budget c = (
+  λ h. absurd (false≢true h),
+  λ can. absurd (omega (arith, budget-from_allowed c.args.spec.now c.args.set.now c.args.fault.now can.1, c.if-len-budget.true, c.len.ensures.value, c.budget.ensures.value)),
+)
 
 pub returns-then-not-admits_fault : goal.returns-then-not-admits_fault
-returns-then-not-admits_fault c =
-    (λ h. absurd (false≢true h)
-    , λ can. absurd (iff_false c.admits_fault.ensures c.if-not-admits_fault.true (admitted-from_allowed c.args.spec.now c.args.set.now c.args.fault.now can.1)))
+returns-then-not-admits_fault c = (
+  λ h. absurd (false≢true h),
+  λ can. absurd (iff_false c.admits_fault.ensures c.if-not-admits_fault.true (admitted-from_allowed c.args.spec.now c.args.set.now c.args.fault.now can.1)),
+)
 
 pub returns : goal.returns
 returns c =

@@ -1,4 +1,4 @@
-use Rattle.std.proofs.Common.{ℕ, ◌≤◌, below_more, arith}
+use Rattle.std.proofs.Common.{◌≤◌, below_more, arith}
 use Rattle.std.proofs.lemmas.Bool.{false≢true}
 use Rattle.std.specs.List.{count_by}
 use Rattle.lf_faults.specs.Allowed.{is_crash_of, is_pause_of}

@@ -5,6 +5,7 @@ use Rattle.lf_faults.proofs.set.FaultSet.first.Goals as goal
 
 pub invariant_of-result : goal.invariant_of-result
 invariant_of-result c =
-    let ascending = subst IsAscending c.self.view_is c.self.invariant.1 in
-    (first_fills c.self.inside.count c.self.inside.faults c.args.self.now c.self.invariant.0 c.self.view_is ascending c.args.count c.requires c.kept.result c.kept.ensures
-    , first_ascending c.self.inside.count c.self.inside.faults c.args.self.now c.self.invariant.0 c.self.view_is ascending c.args.count c.requires c.kept.result c.kept.ensures)
+    let ascending = subst IsAscending c.self.view_is c.self.invariant.1 in (
+      first_fills c.self.inside.count c.self.inside.faults c.args.self.now c.self.invariant.0 c.self.view_is ascending c.args.count c.requires c.kept.result c.kept.ensures,
+      first_ascending c.self.inside.count c.self.inside.faults c.args.self.now c.self.invariant.0 c.self.view_is ascending c.args.count c.requires c.kept.result c.kept.ensures,
+    )
