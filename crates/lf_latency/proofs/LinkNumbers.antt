@@ -33,13 +33,13 @@ receiver_at-apart : (n r : ℕ) → n ≢ receiver_at n r
 receiver_at-apart n r = grind (arith, nat_tests)
 
 pub one_to_one : (nodes a b c d : ℕ) → IsPair nodes a b → IsPair nodes c d →
-  link_of nodes a b ≡ link_of nodes c d → (a ≡ c) × (b ≡ d)
+    link_of nodes a b ≡ link_of nodes c d → (a ≡ c) × (b ≡ d)
 one_to_one nodes a b c d first second same =
     let low : rank a b < nodes - 1 = rank-below nodes a b first in
     let high : rank c d < nodes - 1 = rank-below nodes c d second in
     let sender : a ≡ c =
-        sym (div-mul-add a (nodes - 1) (rank a b) low) ∙ ap (λ x. x / (nodes - 1)) same
-        ∙ div-mul-add c (nodes - 1) (rank c d) high in
+    sym (div-mul-add a (nodes - 1) (rank a b) low) ∙ ap (λ x. x / (nodes - 1)) same
+    ∙ div-mul-add c (nodes - 1) (rank c d) high in
     let rows : a * (nodes - 1) ≡ c * (nodes - 1) = ap (λ x. x * (nodes - 1)) sender in
     let places : rank a b ≡ rank c d = omega arith in
     let there : rank c d ≡ rank a d = ap (λ x. rank x d) (sym sender) in
@@ -47,20 +47,27 @@ one_to_one nodes a b c d first second same =
     (sender, rank-one_to_one a b d first.apart apart (places ∙ there))
 
 pub onto : (nodes k : ℕ) → 2 ≤ nodes → k < nodes * (nodes - 1) →
-  (n : ℕ) × ((m : ℕ) × (IsPair nodes n m × (link_of nodes n m ≡ k)))
+    (n : ℕ) × ((m : ℕ) × (IsPair nodes n m × (link_of nodes n m ≡ k)))
 onto nodes k few below =
     let some : 0 < nodes - 1 = omega arith in
     let place : k % (nodes - 1) < nodes - 1 = omega arith in
     let sender : k / (nodes - 1) < nodes = (div-lt_iff_lt-mul {k = nodes - 1} {x = k} {y = nodes} some).1 below in
     let few_senders : k / (nodes - 1) ≤ nodes - 1 = omega arith in
     let receiver : receiver_at (k / (nodes - 1)) (k % (nodes - 1)) < nodes - 1 + 1 =
-        receiver_at-below (k / (nodes - 1)) (k % (nodes - 1)) (nodes - 1) place few_senders in
+    receiver_at-below (k / (nodes - 1)) (k % (nodes - 1)) (nodes - 1) place few_senders in
     let number : link_of nodes (k / (nodes - 1)) (receiver_at (k / (nodes - 1)) (k % (nodes - 1))) ≡ k =
-        ap (λ r. k / (nodes - 1) * (nodes - 1) + r) (rank-receiver_at (k / (nodes - 1)) (k % (nodes - 1)))
-        ∙ div-add-mod' k (nodes - 1) in
-    (k / (nodes - 1), (receiver_at (k / (nodes - 1)) (k % (nodes - 1)),
-      (record {
-        sender = sender;
-        receiver = omega arith;
-        apart = receiver_at-apart (k / (nodes - 1)) (k % (nodes - 1));
-      }, number)))
+    ap (λ r. k / (nodes - 1) * (nodes - 1) + r) (rank-receiver_at (k / (nodes - 1)) (k % (nodes - 1)))
+    ∙ div-add-mod' k (nodes - 1) in (
+      k / (nodes - 1),
+      (
+        receiver_at (k / (nodes - 1)) (k % (nodes - 1)),
+        (
+          record {
+            sender = sender;
+            receiver = omega arith;
+            apart = receiver_at-apart (k / (nodes - 1)) (k % (nodes - 1));
+          },
+          number,
+        ),
+      ),
+    )

@@ -18,7 +18,7 @@ pub record IsFilled (timing : Timing) (arrivals : List ℕ) (k : ℕ) : Type 0 w
   pub below : (j : ℕ) → j < k → slice_index arrivals j ≡ entry_at_place timing j
 
 pub IsFilled-more : (timing : Timing) (arrivals : List ℕ) (k x : ℕ) → IsFilled timing arrivals k →
-  k < 3072 → x ≡ entry_at_place timing k → IsFilled timing (slice_set arrivals k x) (k + 1)
+    k < 3072 → x ≡ entry_at_place timing k → IsFilled timing (slice_set arrivals k x) (k + 1)
 IsFilled-more timing arrivals k x filled inside entry =
     let long : length arrivals ≡ 3072 = filled.long in
     let place : k < length arrivals = omega arith in
@@ -28,13 +28,13 @@ IsFilled-more timing arrivals k x filled inside entry =
     }
 
 pub table_of-filled : (timing : Timing) (arrivals : List ℕ) (k : ℕ) → IsFilled timing arrivals k → 3072 ≤ k →
-  arrivals ≡ table_of timing
+    arrivals ≡ table_of timing
 unfolding table_of
 table_of-filled timing arrivals k filled all =
     fill_by_all (entry_at_place timing) arrivals 3072 0 filled.long (λ j inside. filled.below j (omega arith))
 
 table_entry-slot : (timing : Timing) (n m t : ℕ) → IsSlot timing n m t →
-  table_entry timing n m t ≡ arrival_of timing n m t
+    table_entry timing n m t ≡ arrival_of timing n m t
 table_entry-slot timing n m t slot =
     let sender : n < timing.nodes = slot.pair.sender in
     let receiver : m < timing.nodes = slot.pair.receiver in
@@ -43,11 +43,11 @@ table_entry-slot timing n m t slot =
     grind (arith, nat_tests)
 
 entry_along : (timing : Timing) (n m t a b d : ℕ) → a ≡ n → b ≡ m → d ≡ t →
-  table_entry timing a b d ≡ table_entry timing n m t
+    table_entry timing a b d ≡ table_entry timing n m t
 entry_along timing n m t a b d sender receiver step = cc
 
 pub table_of-place : (timing : Timing) (n m t : ℕ) → IsTiming timing → IsSlot timing n m t →
-  slice_index (table_of timing) ((n * 8 + m) * 48 + t - 1) ≡ arrival_of timing n m t
+    slice_index (table_of timing) ((n * 8 + m) * 48 + t - 1) ≡ arrival_of timing n m t
 unfolding table_of
 table_of-place timing n m t limits slot =
     let low : n < 8 = omega (arith, limits.nodes_at_most, slot.pair.sender) in
@@ -62,9 +62,10 @@ table_of-place timing n m t limits slot =
     ∙ entry_along timing n m t _ _ _ sender receiver step
     ∙ table_entry-slot timing n m t slot
 
-pub IsTable-place : (timing : Timing) (arrivals : List ℕ) (n m t : ℕ) →
-  IsTable timing arrivals → IsSlot timing n m t →
-  slice_index arrivals ((n * 8 + m) * 48 + t - 1) ≡ arrival_of timing n m t
-IsTable-place timing arrivals n m t table slot =
-    ap (λ xs. slice_index xs ((n * 8 + m) * 48 + t - 1)) table.whole
+pub IsTable-place : (timing : Timing) (arrivals : List ℕ) (n m t : ℕ) (place : ℕ) →
+    IsTable timing arrivals → IsSlot timing n m t → place ≡ (n * 8 + m) * 48 + t - 1 →
+    slice_index arrivals place ≡ arrival_of timing n m t
+IsTable-place timing arrivals n m t place table slot is =
+    ap (λ k. slice_index arrivals k) is
+    ∙ ap (λ xs. slice_index xs ((n * 8 + m) * 48 + t - 1)) table.whole
     ∙ table_of-place timing n m t table.limits slot

@@ -8,7 +8,7 @@
 -- ChaCha20: the block function of RFC 8439, with a 64-bit block counter, and a 64-bit stream number
 -- in the place of the nonce. The seed is the key, the number of the link the stream, and t - 1 the
 -- place in it. A place counts words of 32 bits, sixteen to a block.
-use Rattle.std.specs.Prelude.{ℕ, ◌+◌, ◌-◌, ◌%◌, ◌<◌, ◌≤◌, List}
+use Rattle.std.specs.Prelude.{ℕ, ◌+◌, ◌-◌, ◌%◌, ◌≤◌, List}
 use Rattle.rand_chacha.specs.ChaCha.{word_at, key_of}
 use Rattle.lf_latency.specs.declared.network.Timing.{Timing}
 use Rattle.lf_latency.specs.Links.{IsLinks, IsPair, least_of, spread_of, link_of}

@@ -41,10 +41,8 @@ impl Links {
         ensures spread { result.spread ≡ set_entry self.spread from to spread }
         ensures least_here { least_of result from to ≡ least }
         ensures spread_here { spread_of result from to ≡ spread }
-        ensures others {
-            (n m : ℕ) → (n ≡ from → m ≡ to → ⊥) →
-            (least_of result n m ≡ least_of self n m) × (spread_of result n m ≡ spread_of self n m)
-        }
+        ensures others { (n m : ℕ) → (n ≡ from → m ≡ to → ⊥) →
+            (least_of result n m ≡ least_of self n m) × (spread_of result n m ≡ spread_of self n m) }
     {
         Links {
             least: with_entry(&self.least, from, to, least),
@@ -130,9 +128,7 @@ pub fn link(nodes: u32, from: u32, to: u32) -> u64
     requires pair { IsPair nodes from to }
     ensures value { result ≡ link_of nodes from to }
     ensures within { result < nodes * (nodes - 1) }
-    ensures one_to_one {
-        (a b c d : ℕ) → IsPair nodes a b → IsPair nodes c d → link_of nodes a b ≡ link_of nodes c d → (a ≡ c) × (b ≡ d)
-    }
+    ensures one_to_one { (a b c d : ℕ) → IsPair nodes a b → IsPair nodes c d → link_of nodes a b ≡ link_of nodes c d → (a ≡ c) × (b ≡ d) }
     ensures onto { (k : ℕ) → k < nodes * (nodes - 1) → (n : ℕ) × ((m : ℕ) × (IsPair nodes n m × (link_of nodes n m ≡ k))) }
 {
     let place = if to < from { to } else { to - 1 };

@@ -3,10 +3,9 @@ ghost use Rattle.lf_latency.specs.Links.{IsLinks, IsPair, least_of, spread_of};
 ghost use Rattle.lf_latency.specs.Arrivals.{IsTiming, IsSlot, arrival_of};
 ghost use Rattle.lf_latency.specs.Table.{table_entry, table_of};
 
-use std::marker::Model;
-
 use crate::links::{Links, is_pair, link};
 use crate::words::word;
+use std::marker::Model;
 
 /// The places of the table: 8 senders, 8 receivers and 48 steps.
 const PLACES: usize = 3072;
@@ -143,7 +142,10 @@ impl Network {
     {
         let one = &self.timing;
         let two = &other.timing;
-        one.seed == two.seed && one.nodes == two.nodes && one.horizon == two.horizon && one.links.same(&two.links)
+        one.seed == two.seed
+            && one.nodes == two.nodes
+            && one.horizon == two.horizon
+            && one.links.same(&two.links)
     }
 }
 
@@ -156,14 +158,10 @@ pub fn keeps_limits(network: &Network)
 
 /// The law that a note arrives no sooner than the least delay of its link, and so after it is sent.
 pub fn arrives_late(network: &Network)
-    ensures late {
-        (n m t : ℕ) → IsSlot network.now n m t → t + least_of network.now.links n m ≤ arrival_of network.now n m t
-    }
+    ensures late { (n m t : ℕ) → IsSlot network.now n m t → t + least_of network.now.links n m ≤ arrival_of network.now n m t }
     ensures later { (n m t : ℕ) → IsSlot network.now n m t → t < arrival_of network.now n m t }
-    ensures soon {
-        (n m t : ℕ) → IsSlot network.now n m t →
-        arrival_of network.now n m t ≤ t + least_of network.now.links n m + spread_of network.now.links n m
-    }
+    ensures soon { (n m t : ℕ) → IsSlot network.now n m t →
+        arrival_of network.now n m t ≤ t + least_of network.now.links n m + spread_of network.now.links n m }
     ensures within { (n m t : ℕ) → IsSlot network.now n m t → arrival_of network.now n m t ≤ t + 31 }
 {
     let _timing = &network.timing;

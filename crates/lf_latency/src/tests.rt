@@ -1,7 +1,6 @@
-use super::*;
-
 ghost use Rattle.std.specs.Prelude.{◌≡◌};
 
+use super::*;
 use rand_chacha::ChaCha20Rng;
 use rand_core::SeedableRng;
 use rand_core::utils::NextWord;
@@ -56,7 +55,11 @@ fn the_words_of_rising_bytes_are_those_of_another_program(rt: HostRuntime) {
         (u64::MAX, u64::MAX, 0xa5d48aac),
         (1 << 32, 1 << 36, 0x6e5a362e),
     ] {
-        assert_eq!(rt; word(&RISING, stream, place), expected, "at {stream}, {place}");
+        assert_eq!(rt;
+            word(&RISING, stream, place),
+            expected,
+            "at {stream}, {place}"
+        );
     }
 }
 
@@ -91,7 +94,10 @@ fn mixed() -> Network
     ensures nodes { result.nodes ≡ 4 }
     ensures horizon { result.horizon ≡ 48 }
 {
-    let links = Links::new(4, 2, 5).with(0, 3, 16, 15).with(3, 0, 1, 0).with(2, 1, 7, 2);
+    let links = Links::new(4, 2, 5)
+        .with(0, 3, 16, 15)
+        .with(3, 0, 1, 0)
+        .with(2, 1, 7, 2);
     Network::new(RISING, links, 4, 48)
 }
 
@@ -114,8 +120,14 @@ fn arrivals_are_the_rule_at_each_slot(rt: HostRuntime) {
             let number = from * 3 + if to < from { to } else { to - 1 };
             for step in 1..49 {
                 let picked = word(&RISING, u64::from(number), u64::from(step - 1));
-                let expected = u64::from(step) + u64::from(least) + u64::from(picked % (spread + 1));
-                assert_eq!(rt; u64::from(network.arrival(from, to, step)), expected, "{from} to {to} at {step}");
+                let expected = u64::from(step)
+                    + u64::from(least)
+                    + u64::from(picked % (spread + 1));
+                assert_eq!(rt;
+                    u64::from(network.arrival(from, to, step)),
+                    expected,
+                    "{from} to {to} at {step}"
+                );
             }
         }
     }

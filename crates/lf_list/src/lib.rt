@@ -65,7 +65,6 @@ impl<T> Listed<T> {
 #[cfg(test)]
 mod tests {
     use super::*;
-
     use std::alloc::{AllocError, Global};
 
     /// A type that holds lists of itself.

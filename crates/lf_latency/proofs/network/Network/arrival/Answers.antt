@@ -1,7 +1,5 @@
-use Rattle.std.proofs.Common.{◌≡◌, ◌<◌, ◌≤◌, ◌+◌, ◌∙◌, arith, ap, subst, sym}
-use Rattle.lf_latency.specs.declared.network.Timing.{Timing}
+use Rattle.std.proofs.Common.{◌∙◌, arith, ap}
 use Rattle.lf_latency.specs.Arrivals.{IsTiming, IsSlot, arrival_of}
-use Rattle.lf_latency.specs.Links.{least_of, spread_of}
 use Rattle.lf_latency.proofs.Laws.{arrival-late, arrival-later, arrival-soon, arrival-within}
 use Rattle.lf_latency.proofs.Places.{IsTable-place}
 use Rattle.lf_latency.proofs.network.Network.arrival.Goals as goal
@@ -10,7 +8,8 @@ pub returns-clause-value : goal.returns-clause-value
 returns-clause-value c =
     let slot : IsSlot c.self.inside.timing c.args.from c.args.to c.args.step = rw c.self.view_is c.requires in
     c.from.ensures
-    ∙ IsTable-place c.self.inside.timing c.self.inside.arrivals c.args.from c.args.to c.args.step c.self.invariant slot
+    ∙ IsTable-place c.self.inside.timing c.self.inside.arrivals c.args.from c.args.to c.args.step _
+    c.self.invariant slot (omega arith)
     ∙ ap (λ x. arrival_of x c.args.from c.args.to c.args.step) c.self.view_is
 
 pub returns-clause-late : goal.returns-clause-late
