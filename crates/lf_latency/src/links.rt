@@ -128,8 +128,10 @@ pub fn link(nodes: u32, from: u32, to: u32) -> u64
     requires pair { IsPair nodes from to }
     ensures value { result ≡ link_of nodes from to }
     ensures within { result < nodes * (nodes - 1) }
-    ensures one_to_one { (a b c d : ℕ) → IsPair nodes a b → IsPair nodes c d → link_of nodes a b ≡ link_of nodes c d → (a ≡ c) × (b ≡ d) }
-    ensures onto { (k : ℕ) → k < nodes * (nodes - 1) → (n : ℕ) × ((m : ℕ) × (IsPair nodes n m × (link_of nodes n m ≡ k))) }
+    ensures one_to_one { (a b c d : ℕ) → IsPair nodes a b → IsPair nodes c d →
+        link_of nodes a b ≡ link_of nodes c d → (a ≡ c) × (b ≡ d) }
+    ensures onto { (k : ℕ) → k < nodes * (nodes - 1) →
+        (n : ℕ) × ((m : ℕ) × (IsPair nodes n m × (link_of nodes n m ≡ k))) }
 {
     let place = if to < from { to } else { to - 1 };
     u64::from(from * (nodes - 1) + place)

@@ -39,7 +39,6 @@ impl Model for Network {
     ghost Value = { Timing };
 
     ghost use Rattle.lf_latency.specs.Table.{IsTable, table_of};
-    ghost use Rattle.std.proofs.Common.{sym, refl};
 
     ghost view = { λ n. n.timing };
 
@@ -158,7 +157,8 @@ pub fn keeps_limits(network: &Network)
 
 /// The law that a note arrives no sooner than the least delay of its link, and so after it is sent.
 pub fn arrives_late(network: &Network)
-    ensures late { (n m t : ℕ) → IsSlot network.now n m t → t + least_of network.now.links n m ≤ arrival_of network.now n m t }
+    ensures late { (n m t : ℕ) → IsSlot network.now n m t →
+        t + least_of network.now.links n m ≤ arrival_of network.now n m t }
     ensures later { (n m t : ℕ) → IsSlot network.now n m t → t < arrival_of network.now n m t }
     ensures soon { (n m t : ℕ) → IsSlot network.now n m t →
         arrival_of network.now n m t ≤ t + least_of network.now.links n m + spread_of network.now.links n m }
