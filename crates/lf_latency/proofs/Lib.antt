@@ -1,0 +1,3 @@
+mod LinkNumbers
+pub mod Laws
+mod Places

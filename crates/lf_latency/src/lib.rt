@@ -1,0 +1,14 @@
+//! When notes arrive: each pair of nodes has a least delay and a spread, and a stream cipher picks within them.
+//!
+//! Nothing here takes memory.
+#![tactic(auto)]
+
+mod links;
+mod network;
+#[cfg(test)]
+mod tests;
+mod words;
+
+pub use links::{Links, link};
+pub use network::{Network, Timing, arrives_late, keeps_limits};
+pub use words::word;
