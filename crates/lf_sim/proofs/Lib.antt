@@ -1,0 +1,5 @@
+mod Examples
+pub mod FaultTests
+pub mod ListsLemmas
+pub mod PointsLemmas
+pub mod RunsLemmas

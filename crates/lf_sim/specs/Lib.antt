@@ -1,0 +1,5 @@
+pub mod Machines
+pub mod Outs
+pub mod OutsLemmas
+pub mod Points
+pub mod Runs

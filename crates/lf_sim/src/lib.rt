@@ -1,0 +1,15 @@
+//! Machines, and what they do under faults.
+//!
+//! Nodes are numbered from 0 and steps from 1. At each step every node that is up takes its inbox and its state, and
+//! gives a new state and at most one note for each other node.
+#![tactic(auto)]
+
+mod letter;
+mod machine;
+mod out;
+mod points;
+
+pub use letter::Letter;
+pub use machine::Machine;
+pub use out::{Out, Stepped};
+pub use points::{by_points, same_until};
