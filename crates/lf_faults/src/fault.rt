@@ -1,6 +1,6 @@
 //! One fault.
 
-ghost use Rattle.std.specs.Prelude.{◌≡◌, ◌↔◌, IsSome, IfSome, IsTrue};
+ghost use Rattle.std.specs.Prelude.{◌≡◌, ◌<◌, ◌≤◌, ◌↔◌, IsSome, IfSome, IsTrue};
 ghost use Rattle.lf_faults.specs.Faults.{IsFault, is_before};
 
 use std::marker::Model;
@@ -56,11 +56,8 @@ impl Fault {
         ensures some { IsSome result ↔ IsFault (Parts.Omit from to step) }
         ensures value { IfSome result (λ f. f ≡ Parts.Omit from to step) }
     {
-        if from < 8 && to < 8 && from != to && 1 <= step && step <= 48 {
-            Some(Fault {
-                step,
-                kind: Kind::Omit { from, to },
-            })
+        if is_point(from, step) && to < 8 && from != to {
+            Some(Fault::from_parts(Parts::Omit { from, to, step }))
         } else {
             None
         }
@@ -71,11 +68,8 @@ impl Fault {
         ensures some { IsSome result ↔ IsFault (Parts.Crash node step) }
         ensures value { IfSome result (λ f. f ≡ Parts.Crash node step) }
     {
-        if node < 8 && 1 <= step && step <= 48 {
-            Some(Fault {
-                step,
-                kind: Kind::Crash { node },
-            })
+        if is_point(node, step) {
+            Some(Fault::from_parts(Parts::Crash { node, step }))
         } else {
             None
         }
@@ -86,11 +80,8 @@ impl Fault {
         ensures some { IsSome result ↔ IsFault (Parts.Pause node step) }
         ensures value { IfSome result (λ f. f ≡ Parts.Pause node step) }
     {
-        if node < 8 && 1 <= step && step <= 48 {
-            Some(Fault {
-                step,
-                kind: Kind::Pause { node },
-            })
+        if is_point(node, step) {
+            Some(Fault::from_parts(Parts::Pause { node, step }))
         } else {
             None
         }
@@ -146,4 +137,11 @@ impl Fault {
     {
         self < other
     }
+}
+
+/// Whether a fault can have this node and this step.
+fn is_point(node: u32, step: u32) -> bool
+    ensures { IsTrue result ↔ (node < 8) × (1 ≤ step) × (step ≤ 48) }
+{
+    node < 8 && 1 <= step && step <= 48
 }

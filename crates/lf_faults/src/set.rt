@@ -128,7 +128,9 @@ impl FaultSet {
     pub fn omits(&self, from: u32, to: u32, step: u32) -> bool
         ensures { result ≡ is_omitted self.now from to step }
     {
-        self.items().iter().any(|fault| { fault.parts() == Parts::Omit { from, to, step } })
+        self.items()
+            .iter()
+            .any(|fault| fault.parts() == Parts::Omit { from, to, step })
     }
 
     /// Whether the node has crashed at the step or before.
