@@ -6,6 +6,7 @@
 #![tactic(auto)]
 
 mod fact;
+mod laws;
 mod machine;
 mod note;
 mod protocol;
@@ -14,6 +15,7 @@ mod retry;
 mod state;
 
 pub use fact::Fact;
+pub use laws::{facts_are_opposites, redundant_delivers, retry_delivers};
 pub use note::Note;
 pub use protocol::{Kind, Protocol};
 pub use state::{Holding, Relay, State};

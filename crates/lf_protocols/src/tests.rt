@@ -2,7 +2,10 @@
 
 ghost use Rattle.std.specs.Prelude.{◌<◌, ◌≤◌};
 
-use crate::{Fact, Holding, Kind, Note, Protocol, Relay, State};
+use crate::{
+    Fact, Holding, Kind, Note, Protocol, Relay, State, facts_are_opposites, redundant_delivers,
+    retry_delivers,
+};
 use lf_sim::{Letter, Machine, Stepped};
 use std::test::Fail;
 
@@ -163,5 +166,8 @@ fn words(rt: HostRuntime) -> Result<(), Fail> {
         assert_eq!(rt; protocol.shows(0, first, Fact::Has), true);
         assert_eq!(rt; protocol.shows(0, first, Fact::Lacks), false);
     }
+    facts_are_opposites();
+    retry_delivers();
+    redundant_delivers();
     Ok(())
 }
