@@ -13,7 +13,6 @@ list_any-map p h [] = refl
 list_any-map p h (y ∷ ys) = ap (λ b. p (h y) || b) (list_any-map p h ys)
 
 module _ {Fact : Type 0} (down : ℕ → ℕ → Bool) (shown : ℕ → ℕ → Fact → Bool) where
-
   pub truth-All : (parts : List (Formula Fact)) → truth down shown (kind.All parts) ≡ list_all (truth down shown) parts
   truth-All parts =
       ap (truth down shown) (sym (rolls-All parts)) ∙ fold-roll-Formula Fact Bool (truth_step down shown) (Formula-F.All parts)
