@@ -3,3 +3,5 @@ pub mod Outs
 pub mod OutsLemmas
 pub mod Points
 pub mod Runs
+pub mod Schedules
+pub mod Settings

@@ -4,12 +4,18 @@
 //! gives a new state and at most one note for each other node.
 #![tactic(auto)]
 
+mod grid;
 mod letter;
 mod machine;
 mod out;
 mod points;
+mod record;
+mod schedule;
+mod setting;
 
 pub use letter::Letter;
 pub use machine::Machine;
 pub use out::{Out, Stepped};
 pub use points::{by_points, same_until};
+pub use record::Run;
+pub use setting::Setting;

@@ -1,0 +1,38 @@
+-- The world that a setting is, and what a run of it holds.
+use Rattle.std.specs.Prelude.{◌≡◌, ℕ, ◌+◌, ◌*◌, ◌<◌, ◌≤◌, Bool, not, ◌&&◌, nat_lt, nat_le, List, slice_get, slice_index_or, Option}
+use Rattle.std.specs.Option.{option_map}
+use Rattle.lf_faults.specs.declared.fault.Parts.{Parts}
+use Rattle.lf_faults.specs.Faults.{is_crashed, is_paused}
+use Rattle.lf_latency.specs.Arrivals.{arrival_of}
+use Rattle.lf_sim.specs.declared.machine.Machine.{Ghosts}
+use Rattle.lf_sim.specs.declared.out.Stepped.{Stepped}
+use Rattle.lf_sim.specs.declared.record.Run.{Run}
+use Rattle.lf_sim.specs.declared.setting.Setting.{Setting}
+use Rattle.lf_sim.specs.Runs.{World, did}
+
+abbrev pub world_of : {M State Note Fact : Type 0} {g : Ghosts M State Note Fact} {p q r s : _} → Setting M State Note Fact g p q r s → World State Note Fact
+world_of {g = g} setting =
+    record {
+      rules = g.rules setting.machine;
+      horizon = setting.spec.horizon;
+      pause_length = setting.spec.pause_length;
+      arrival = arrival_of setting.network;
+    }
+
+-- of a run: its faults, how many nodes there are, and the last step
+abbrev pub set_of : {M State Note Fact : Type 0} → Run M State Note Fact → List Parts
+set_of run = run.set
+
+abbrev pub nodes_of : {M State Note Fact : Type 0} → Run M State Note Fact → ℕ
+nodes_of run = run.grid.nodes
+
+abbrev pub horizon_of : {M State Note Fact : Type 0} → Run M State Note Fact → ℕ
+horizon_of run = run.grid.horizon
+
+-- the run holds what each node did after each step in this world under its faults
+pub record IsRun {M State Note Fact : Type 0} (w : World State Note Fact) (run : Run M State Note Fact) : Type 0 where
+  pub nodes : run.grid.nodes ≡ w.rules.nodes
+  pub horizon : run.grid.horizon ≡ w.horizon
+  pub pause_length : run.grid.pause_length ≡ w.pause_length
+  pub each : (n t : ℕ) (d : Stepped State Note) → n < w.rules.nodes → t ≤ w.horizon
+      → slice_index_or run.grid.cells.items (t * w.rules.nodes + n) d ≡ did w run.set n t
