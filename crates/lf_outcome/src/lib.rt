@@ -12,4 +12,4 @@ pub use equal::same;
 pub use formula::{Formula, Formulas};
 pub use measure::{atoms, depth};
 pub use point::Point;
-pub use truth::by_cases;
+pub use truth::{by_cases, holds};
