@@ -30,3 +30,14 @@ module _ {Fact : Type 0} (down : ℕ → ℕ → Bool) (shown : ℕ → ℕ → 
   pub truth-Shows : (n t : ℕ) (fact : Fact) → truth down shown (kind.Shows n t fact) ≡ shown n t fact
   truth-Shows n t fact =
       ap (truth down shown) (sym (rolls-Shows n t fact)) ∙ fold-roll-Formula Fact Bool (truth_step down shown) (Formula-F.Shows n t fact)
+
+  -- from the truth of the parts, as read
+  pub truth-from_all : (f : Formula Fact) (parts xs : List (Formula Fact)) (b : Bool) → f ≡ kind.All parts → xs ≡ parts
+      → b ≡ list_all (truth down shown) xs → b ≡ truth down shown f
+  truth-from_all f parts xs b is read h =
+      h ∙ ap (list_all (truth down shown)) read ∙ sym (truth-All parts) ∙ ap (truth down shown) (sym is)
+
+  pub truth-from_any : (f : Formula Fact) (parts xs : List (Formula Fact)) (b : Bool) → f ≡ kind.Any parts → xs ≡ parts
+      → b ≡ list_any (truth down shown) xs → b ≡ truth down shown f
+  truth-from_any f parts xs b is read h =
+      h ∙ ap (list_any (truth down shown)) read ∙ sym (truth-Any parts) ∙ ap (truth down shown) (sym is)

@@ -30,11 +30,7 @@ pub fn by_cases<State, Note, Fact>()
 
 /// Whether the run reaches the outcome, where it is a run of this setting. It takes no memory.
 #[cycle(holds)]
-pub fn holds<M: Machine>(
-    setting: &Setting<M>,
-    formula: &Formula<M::Fact>,
-    run: &Run<M>,
-) -> bool
+pub fn holds<M: Machine>(setting: &Setting<M>, formula: &Formula<M::Fact>, run: &Run<M>) -> bool
     requires { IsRun (world_of setting.now) run.now }
     ensures { result ≡ reaches (world_of setting.now) (set_of run.now) formula.now }
 {
@@ -48,11 +44,7 @@ pub fn holds<M: Machine>(
 
 /// Whether the run reaches all of the outcomes.
 #[cycle(holds)]
-fn all_hold<M: Machine>(
-    setting: &Setting<M>,
-    parts: &[Formula<M::Fact>],
-    run: &Run<M>,
-) -> bool
+fn all_hold<M: Machine>(setting: &Setting<M>, parts: &[Formula<M::Fact>], run: &Run<M>) -> bool
     requires { IsRun (world_of setting.now) run.now }
     ensures { result ≡ list_all (reaches (world_of setting.now) (set_of run.now)) parts.now }
 {
@@ -66,11 +58,7 @@ fn all_hold<M: Machine>(
 
 /// Whether the run reaches one of the outcomes.
 #[cycle(holds)]
-fn any_holds<M: Machine>(
-    setting: &Setting<M>,
-    parts: &[Formula<M::Fact>],
-    run: &Run<M>,
-) -> bool
+fn any_holds<M: Machine>(setting: &Setting<M>, parts: &[Formula<M::Fact>], run: &Run<M>) -> bool
     requires { IsRun (world_of setting.now) run.now }
     ensures { result ≡ list_any (reaches (world_of setting.now) (set_of run.now)) parts.now }
 {
@@ -93,8 +81,5 @@ fn shows<M: Machine>(
     requires { IsRun (world_of setting.now) run.now }
     ensures { result ≡ is_shown (world_of setting.now) (set_of run.now) node step fact }
 {
-    run.up(node, step)
-        && setting
-            .machine
-            .shows(node, run.state(node, step), fact)
+    run.up(node, step) && setting.machine.shows(node, run.state(node, step), fact)
 }
