@@ -1,0 +1,7 @@
+pub mod Limits
+pub mod Words
+pub mod RetryTable
+pub mod RedundantTable
+pub mod Deliveries
+pub mod Protocols
+pub mod ProtocolsLemmas

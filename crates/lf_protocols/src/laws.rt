@@ -1,0 +1,55 @@
+//! What the tables of retry and redundant say, with no walk through an inbox: calls that compute nothing, whose
+//! contracts are the laws.
+
+ghost use Rattle.std.specs.Prelude.{◌≡◌, ◌≢◌, ◌⊎◌, ◌↔◌, ℕ, ◌+◌, ◌<◌, ◌≤◌, not, List, Some};
+ghost use Rattle.lf_sim.specs.declared.letter.Letter.{Letter};
+ghost use Rattle.lf_sim.specs.Outs.{note_to, nothing, to_others};
+ghost use Rattle.lf_protocols.specs.declared.state.State.{State};
+ghost use Rattle.lf_protocols.specs.declared.state.Holding.{Holding};
+ghost use Rattle.lf_protocols.specs.declared.state.Relay.{Relay};
+ghost use Rattle.lf_protocols.specs.declared.note.Note.{Note};
+ghost use Rattle.lf_protocols.specs.declared.fact.Fact.{Fact};
+ghost use Rattle.lf_protocols.specs.RetryTable.{retry_step};
+ghost use Rattle.lf_protocols.specs.RedundantTable.{redundant_step};
+ghost use Rattle.lf_protocols.specs.Deliveries.{BringsData, IsCounted};
+ghost use Rattle.lf_protocols.specs.Protocols.{is_shown};
+
+/// Who has the data in retry, and who sends it when.
+pub fn retry_delivers()
+    // A node has the data after a step where it had it before, or a letter brings it.
+    ensures has { (nodes tries node t : ℕ) (before : Holding) (inbox : List (Letter Note)) →
+        ((retry_step nodes tries node t before inbox).state ≡ Holding.Has)
+        ↔ ((before ≡ Holding.Has) ⊎ BringsData inbox) }
+
+    // Node 0 alone sends, to each other node, at each step that is at most `tries`.
+    ensures sends { (nodes tries node t to : ℕ) (before : Holding) (inbox : List (Letter Note)) → nodes ≤ 8 →
+        (note_to (retry_step nodes tries node t before inbox).out to ≡ Some Note.Payload)
+        ↔ ((node ≡ 0) × (t ≤ tries) × (to < nodes) × (to ≢ node)) }
+{}
+
+/// What a node of redundant does, from what it has and what its letters bring.
+pub fn redundant_delivers()
+    // One that lacks the data and gets it has sent it already at the end of that step.
+    ensures relays { (nodes tries node : ℕ) (inbox : List (Letter Note)) → 1 ≤ tries → BringsData inbox →
+        redundant_step nodes tries node Relay.Lacks inbox
+        ≡ record { state = Relay.Has 1; out = to_others nodes node Note.Payload } }
+    ensures waits { (nodes tries node : ℕ) (inbox : List (Letter Note)) → ¬ BringsData inbox →
+        redundant_step nodes tries node Relay.Lacks inbox ≡ record { state = Relay.Lacks; out = nothing } }
+
+    // One that has it sends it, whatever its letters, until it has sent at `tries` steps.
+    ensures repeats { (nodes tries node sent : ℕ) (inbox : List (Letter Note)) → sent < tries →
+        redundant_step nodes tries node (Relay.Has sent) inbox
+        ≡ record { state = Relay.Has (sent + 1); out = to_others nodes node Note.Payload } }
+    ensures stops { (nodes tries node sent : ℕ) (inbox : List (Letter Note)) → tries ≤ sent →
+        redundant_step nodes tries node (Relay.Has sent) inbox
+        ≡ record { state = Relay.Has sent; out = nothing } }
+
+    // So no node sends at more than `tries` steps.
+    ensures counted { (nodes tries node : ℕ) (before : Relay) (inbox : List (Letter Note)) →
+        IsCounted tries before → IsCounted tries (redundant_step nodes tries node before inbox).state }
+{}
+
+/// Each state shows one of `has` and `lacks`.
+pub fn facts_are_opposites()
+    ensures { (state : State) → is_shown state Fact.Lacks ≡ not (is_shown state Fact.Has) }
+{}
