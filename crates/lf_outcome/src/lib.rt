@@ -4,12 +4,13 @@
 mod equal;
 mod formula;
 mod measure;
-mod named;
+mod outcome;
 mod point;
 mod truth;
 
 pub use equal::same;
 pub use formula::{Formula, Formulas};
 pub use measure::{atoms, depth};
+pub use outcome::{Outcome, named};
 pub use point::Point;
 pub use truth::{by_cases, holds};

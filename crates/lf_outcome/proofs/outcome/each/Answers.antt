@@ -1,5 +1,5 @@
 use Rattle.lf_outcome.proofs.NamedLemmas.{each-more}
-use Rattle.lf_outcome.proofs.named.each.Goals as goal
+use Rattle.lf_outcome.proofs.outcome.each.Goals as goal
 
 pub loop-node-preserved : goal.loop-node-preserved
 loop-node-preserved g c =
