@@ -14,3 +14,6 @@ pub use measure::{atoms, depth};
 pub use outcome::{Outcome, named};
 pub use point::Point;
 pub use truth::{by_cases, holds};
+
+#[cfg(test)]
+mod tests;
