@@ -10,7 +10,7 @@ use Rattle.lf_sim.specs.declared.record.Run.{Run}
 use Rattle.lf_sim.specs.declared.setting.Setting.{Setting}
 use Rattle.lf_sim.specs.Runs.{World, did}
 
-abbrev pub world_of : {M State Note Fact : Type 0} {g : Ghosts M State Note Fact} {p q r s : _} → Setting M State Note Fact g p q r s → World State Note Fact
+abbrev pub world_of : {M State Note Fact : Type 0} {g : Ghosts M State Note Fact} {p q r : _} → Setting M State Note Fact g p q r → World State Note Fact
 world_of {g = g} setting =
     record {
       rules = g.rules setting.machine;
@@ -28,6 +28,11 @@ nodes_of run = run.grid.nodes
 
 abbrev pub horizon_of : {M State Note Fact : Type 0} → Run M State Note Fact → ℕ
 horizon_of run = run.grid.horizon
+
+-- n takes step t: `is_up`, of plain numbers
+abbrev pub takes_step : ℕ → ℕ → ℕ → List Parts → ℕ → ℕ → Bool
+takes_step nodes horizon pause_length faults n t =
+    nat_lt n nodes && (nat_le 1 t && (nat_le t horizon && (not (is_crashed faults n t) && not (is_paused pause_length faults n t))))
 
 -- the run holds what each node did after each step in this world under its faults
 pub record IsRun {M State Note Fact : Type 0} (w : World State Note Fact) (run : Run M State Note Fact) : Type 0 where

@@ -1,6 +1,7 @@
 //! What a run leaves.
 
-ghost use Rattle.std.specs.Prelude.{◌≡◌, ℕ, ◌+◌, ◌*◌, ◌<◌, ◌≤◌, length, IsTrue};
+ghost use Rattle.std.specs.Prelude.{◌≡◌, ℕ, ◌<◌, ◌≤◌, IsTrue};
+ghost use Rattle.lf_sim.specs.Settings.{takes_step};
 
 use crate::Machine;
 use crate::grid::Grid;
@@ -47,11 +48,8 @@ impl<M: Machine> Run<M> {
         ensures node { IsTrue result → node < nodes_of self.now }
         ensures step { IsTrue result → step ≤ horizon_of self.now }
     {
-        node < self.grid.nodes
-            && 1 <= step
-            && step <= self.grid.horizon
-            && !self.set.crashes(node, step)
-            && !self.set.pauses(node, step, self.grid.pause_length)
+        let grid = &self.grid;
+        takes_step(&self.set, grid.nodes, grid.horizon, grid.pause_length, node, step)
     }
 
     /// The state of a node after a step, or before the first.
@@ -71,4 +69,25 @@ impl<M: Machine> Run<M> {
     {
         self.grid.cell(from, step).out.to(to)
     }
+}
+
+/// Whether a node is up at a step.
+fn takes_step(
+    set: &FaultSet,
+    nodes: u32,
+    horizon: u32,
+    pause_length: u32,
+    node: u32,
+    step: u32,
+) -> bool
+    requires { pause_length ≤ 8 }
+    ensures value { result ≡ takes_step nodes horizon pause_length set.now node step }
+    ensures node { IsTrue result → node < nodes }
+    ensures step { IsTrue result → step ≤ horizon }
+{
+    node < nodes
+        && 1 <= step
+        && step <= horizon
+        && !set.crashes(node, step)
+        && !set.pauses(node, step, pause_length)
 }
