@@ -3,3 +3,4 @@ pub mod FaultTests
 pub mod ListsLemmas
 pub mod PointsLemmas
 pub mod RunsLemmas
+mod SchedulesLemmas

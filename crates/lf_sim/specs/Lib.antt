@@ -1,3 +1,4 @@
+pub mod Effects
 pub mod Machines
 pub mod Outs
 pub mod OutsLemmas
@@ -5,3 +6,4 @@ pub mod Points
 pub mod Runs
 pub mod Schedules
 pub mod Settings
+pub mod Tables

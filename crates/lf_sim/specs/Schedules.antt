@@ -1,7 +1,11 @@
 -- Which slots arrive at which step. Neither faults nor what is sent change that.
-use Rattle.std.specs.Prelude.{◌≡◌, ℕ, ◌+◌, ◌/◌, ◌%◌, ◌≤◌, not, ◌&&◌, ◌==◌, nat_lt, nat_le, if◌then◌else◌, List, [], ◌∷◌, length, take, slice_index}
+use Rattle.std.specs.Prelude.{◌≡◌, ℕ, ◌+◌, ◌/◌, ◌%◌, ◌≤◌, Bool, not, ◌&&◌, ◌==◌, nat_lt, nat_le, if◌then◌else◌, List, [], ◌∷◌, length, take, slice_index}
 use Rattle.lf_sim.specs.declared.schedule.Slot.{Slot}
 use Rattle.lf_sim.specs.Runs.{each_below}
+
+-- the row is of a node and a step of the run
+abbrev pub is_row : ℕ → ℕ → ℕ → Bool
+is_row nodes horizon k = nat_lt (k % 8) nodes && nat_le (k / 8 + 1) horizon
 
 module _ (arrival : ℕ → ℕ → ℕ → ℕ) where
   -- the slot of n and t, if what n sends to m at t arrives at u
@@ -17,11 +21,11 @@ module _ (arrival : ℕ → ℕ → ℕ → ℕ) where
   slots_to nodes m u = each_below (λ n. slots_from m u n u) nodes
 
   -- those of the receiver k % 8 at the step k / 8 + 1
-  abbrev pub row_at : ℕ → ℕ → ℕ → List Slot
-  row_at nodes horizon k = if nat_lt (k % 8) nodes && nat_le (k / 8 + 1) horizon then slots_to nodes (k % 8) (k / 8 + 1) else []
+  unfoldable pub row_at : ℕ → ℕ → ℕ → List Slot
+  row_at nodes horizon k = if is_row nodes horizon k then slots_to nodes (k % 8) (k / 8 + 1) else []
 
   -- the slots stand row by row, and each row's start is known
   pub record IsSchedule (nodes horizon : ℕ) (slots : List Slot) (starts : List ℕ) : Type 0 where
     pub room : length slots ≡ 3072
     pub whole : take (slice_index starts 384) slots ≡ each_below (row_at nodes horizon) 384
-    pub starts : (k : ℕ) → k ≤ 384 → slice_index starts k ≡ length (each_below (row_at nodes horizon) k)
+    pub begins : (k : ℕ) → k ≤ 384 → slice_index starts k ≡ length (each_below (row_at nodes horizon) k)

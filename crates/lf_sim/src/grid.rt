@@ -1,6 +1,6 @@
 //! What was done, by step and node.
 
-ghost use Rattle.std.specs.Prelude.{◌≡◌, ◌+◌, ◌*◌, ◌<◌, ◌≤◌, length, slice_index_or, vec_len, vec_capacity};
+ghost use Rattle.std.specs.Prelude.{◌≡◌, ◌+◌, ◌*◌, ◌<◌, ◌≤◌, length, slice_get, vec_capacity};
 
 use crate::{Letter, Stepped};
 
@@ -26,7 +26,7 @@ impl<S: Copy, N: Copy> Grid<S, N> {
     pub(crate) fn cell(&self, node: u32, step: u32) -> &Stepped<S, N>
         requires node { node < self.now.nodes }
         requires step { step ≤ self.now.horizon }
-        ensures { result.now ≡ slice_index_or self.now.cells.items (step * self.now.nodes + node) result.now }
+        ensures { slice_get self.now.cells.items (step * self.now.nodes + node) ≡ Some result.now }
     {
         &self.cells[(step * self.nodes + node) as usize]
     }

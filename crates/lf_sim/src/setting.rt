@@ -1,11 +1,11 @@
 //! What a run stands on.
 
-ghost use Rattle.std.specs.Prelude.{◌≡◌, ◌↔◌, IsSome, IfSome};
+ghost use Rattle.std.specs.Prelude.{◌≡◌, ◌<◌, ◌≤◌, ◌↔◌, IsSome, IfSome};
 ghost use Rattle.lf_latency.specs.Arrivals.{arrival_of};
-ghost use Rattle.lf_sim.specs.Schedules.{IsSchedule};
+ghost use Rattle.lf_sim.specs.Schedules.{IsSchedule, slots_to};
 
 use crate::Machine;
-use crate::schedule::Schedule;
+use crate::schedule::{Schedule, Slot, part};
 use lf_faults::FaultSpec;
 use lf_latency::Network;
 
@@ -46,5 +46,21 @@ impl<M: Machine> Setting<M> {
         } else {
             None
         }
+    }
+
+    /// The slots of what reaches a node at a step, by sender and then by sending step.
+    pub(crate) fn arriving(&self, to: u32, step: u32) -> &[Slot]
+        requires to { to < self.now.network.nodes }
+        requires first { 1 ≤ step }
+        requires last { step ≤ self.now.network.horizon }
+        ensures { result.now ≡ slots_to (arrival_of self.now.network) self.now.network.nodes to step }
+    {
+        let _nodes = self.network.nodes();
+        let _horizon = self.network.horizon();
+        let row = ((step - 1) * 8 + to) as usize;
+        let starts = &self.schedule.starts;
+        let start = usize::from(starts[row]);
+        let end = usize::from(starts[row + 1]);
+        part(&self.schedule.slots, start, end)
     }
 }
