@@ -7,6 +7,7 @@ use lf_list::Listed;
 use lf_protocols::{Fact, Protocol};
 use lf_sim::{Run, Setting, run};
 use std::alloc::{AllocError, Global};
+use std::process::Abort;
 use std::test::Fail;
 
 /// The last step of each run here.
@@ -45,6 +46,7 @@ fn sends(run: &Run<Protocol>, from: u32, to: u32, step: u32) -> bool {
 type Row = (&'static str, &'static str, bool, bool);
 
 /// A scenario of two nodes, three steps and one try.
+#[derive(Drop)]
 struct Walk {
     redundant: bool,
     crashes: u32,
@@ -55,8 +57,7 @@ struct Walk {
 }
 
 /// Checks a run, and whether it reaches `delivered`.
-fn check(rt: &HostRuntime, walk: &Walk) -> Result<(), Fail> {
-    let alloc = rt.alloc();
+fn check(rt: &impl Abort, alloc: Global, walk: &Walk) -> Result<(), Fail> {
     let protocol = if walk.redundant {
         Protocol::redundant(2, 1)
     } else {
@@ -184,7 +185,7 @@ fn retry_by_hand(rt: HostRuntime) -> Result<(), Fail> {
         },
     ];
     for walk in &walks {
-        check(&rt, walk)?;
+        check(&rt, rt.alloc(), walk)?;
     }
     Ok(())
 }
@@ -218,7 +219,7 @@ fn redundant_by_hand(rt: HostRuntime) -> Result<(), Fail> {
         },
     ];
     for walk in &walks {
-        check(&rt, walk)?;
+        check(&rt, rt.alloc(), walk)?;
     }
     Ok(())
 }
