@@ -1,6 +1,8 @@
 -- The formulas of the named outcomes.
-use Rattle.std.specs.Prelude.{ℕ, [], ◌∷◌, map}
+use Rattle.std.specs.Prelude.{◌≡◌, ℕ, ◌<◌, true, List, [], ◌∷◌, map}
 use Rattle.std.specs.List.{range_with_len}
+use Rattle.lf_faults.specs.declared.fault.Parts.{Parts}
+use Rattle.lf_sim.specs.Runs.{World, is_up, view}
 use Rattle.lf_protocols.specs.declared.fact.Fact.{Fact}
 use Rattle.lf_protocols.specs.declared.fact.Fact.TheVariants.{Has, Lacks}
 use Rattle.lf_outcome.specs.declared.formula.Formula.{Formula}
@@ -20,3 +22,8 @@ each_shows nodes t fact = kind.All (map (shows_or_down t fact) (range_with_len 0
 abbrev pub formula_of : Outcome → ℕ → ℕ → Formula Fact
 -- all that are up at the end have the data, or all of them lack it
 formula_of Delivered nodes horizon = kind.Any (each_shows nodes horizon Has ∷ each_shows nodes horizon Lacks ∷ [])
+
+-- the nodes 0 to nodes - 1 that are up at t all show the fact in their views after t
+abbrev pub AllUpShow : {State Note F : Type 0} → World State Note F → List Parts → ℕ → ℕ → F → Type 0
+AllUpShow w faults nodes t fact =
+    (n : ℕ) → n < nodes → is_up w faults n t ≡ true → w.rules.shows n (view w faults n t) fact ≡ true

@@ -11,7 +11,7 @@ mod truth;
 pub use equal::same;
 pub use formula::{Formula, Formulas};
 pub use measure::{atoms, depth};
-pub use outcome::{Outcome, named};
+pub use outcome::{Outcome, delivered_by_nodes, named};
 pub use point::Point;
 pub use truth::{by_cases, holds};
 

@@ -1,7 +1,11 @@
 //! The named outcomes.
 
-ghost use Rattle.std.specs.Prelude.{◌≡◌, IfOk};
-ghost use Rattle.lf_outcome.specs.Named.{each_shows, formula_of};
+ghost use Rattle.std.specs.Prelude.{◌≡◌, ◌⊎◌, ◌↔◌, ℕ, true, List, IfOk};
+ghost use Rattle.lf_faults.specs.declared.fault.Parts.{Parts};
+ghost use Rattle.lf_protocols.specs.declared.fact.Fact.{Fact};
+ghost use Rattle.lf_sim.specs.Runs.{World};
+ghost use Rattle.lf_outcome.specs.Named.{AllUpShow, each_shows, formula_of};
+ghost use Rattle.lf_outcome.specs.Truth.{reaches};
 
 use crate::Formula;
 use lf_list::Listed;
@@ -33,6 +37,14 @@ pub fn named(
         }
     }
 }
+
+/// What `delivered` promises, for every world whose states show these facts and every list of faults: the nodes that are
+/// up at the last step all have the data, or all lack it.
+pub fn delivered_by_nodes<State, Note>()
+    ensures { (w : World State Note Fact) (faults : List Parts) (nodes t : ℕ) →
+        (reaches w faults (formula_of Outcome.Delivered nodes t) ≡ true)
+        ↔ (AllUpShow w faults nodes t Fact.Has ⊎ AllUpShow w faults nodes t Fact.Lacks) }
+{}
 
 /// Every node that is up at the step shows the fact.
 fn each<F: Copy>(alloc: Global, nodes: u32, step: u32, fact: F) -> Result<Formula<F>, AllocError>

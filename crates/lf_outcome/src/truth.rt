@@ -48,7 +48,7 @@ fn all_hold<M: Machine>(setting: &Setting<M>, parts: &[Formula<M::Fact>], run: &
     requires { IsRun (world_of setting.now) run.now }
     ensures { result ≡ list_all (reaches (world_of setting.now) (set_of run.now)) parts.now }
 {
-    'parts: for part in parts {
+    'all: for part in parts {
         if !holds(setting, part, run) {
             return false;
         }
@@ -62,7 +62,7 @@ fn any_holds<M: Machine>(setting: &Setting<M>, parts: &[Formula<M::Fact>], run: 
     requires { IsRun (world_of setting.now) run.now }
     ensures { result ≡ list_any (reaches (world_of setting.now) (set_of run.now)) parts.now }
 {
-    'parts: for part in parts {
+    'any: for part in parts {
         if holds(setting, part, run) {
             return true;
         }
