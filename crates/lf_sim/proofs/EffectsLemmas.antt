@@ -24,7 +24,7 @@ leb-cases : (a b : ℕ) → (nat_le a b ≡ false) ⊎ (nat_le a b ≡ true)
 leb-cases a b = bool-cases (nat_le a b)
 
 leb-not : (a b : ℕ) → nat_le a b ≡ false → a ≤ b → ⊥
-leb-not a b no h = false≢true (sym no ∙ le-leb a b h)
+leb-not a b fails h = false≢true (sym fails ∙ le-leb a b h)
 
 -- a test of the first elements, one more
 one-more : {X : Type 0} (p : X → Bool) (xs : List X) (i : ℕ) (x : X) → x ≡ get_or xs i x → i < length xs → list_any p (take (i + 1) xs) ≡ (list_any p (take i xs) || p x)
@@ -98,10 +98,10 @@ module _ (xs : List Parts) (i : ℕ) (x : Parts) (is : x ≡ get_or xs i x) (h :
             let gives : crashes n t x ≡ nat_le step t = rw (made, same.0) refl in
             let old = before n t a b in
             elim (leb-cases step t) [
-              | inl no ↦ sym (one-false (crashes n t) xs i x is h (gives ∙ no))
-              | inr yes ↦
-                  let reached : nat_le (slice_index steps n) t ≡ true = le-leb (slice_index steps n) t (omega (arith, leb-true step t yes, here)) in
-                  sym old ∙ reached ∙ sym (one-true (crashes n t) xs i x is h (gives ∙ yes))
+              | inl fails ↦ sym (one-false (crashes n t) xs i x is h (gives ∙ fails))
+              | inr holds ↦
+                  let reached : nat_le (slice_index steps n) t ≡ true = le-leb (slice_index steps n) t (omega (arith, leb-true step t holds, here)) in
+                  sym old ∙ reached ∙ sym (one-true (crashes n t) xs i x is h (gives ∙ holds))
             ]
         | inr other ↦ sym (one-false (crashes n t) xs i x is h (rw (made, other.0) refl))
       ])
@@ -117,10 +117,10 @@ module _ (xs : List Parts) (i : ℕ) (x : Parts) (is : x ≡ get_or xs i x) (h :
             let old : nat_le (slice_index steps n) t ≡ is_crashed (take i xs) n t = before n t a b in
             let here : step < slice_index steps n = (let P : ℕ → Type 0 = λ k. step < slice_index steps k in subst P (sym same.1) early) in
             ap (λ k. nat_le k t) at ∙ (elim (leb-cases step t) [
-              | inl no ↦
-                  let before-it : nat_le (slice_index steps n) t ≡ false = false_from_ne_true (nat_le (slice_index steps n) t) (λ k. leb-not step t no (omega (arith, leb-true (slice_index steps n) t k, here))) in
-                  no ∙ sym before-it ∙ old ∙ sym (one-false (crashes n t) xs i x is h (gives ∙ no))
-              | inr yes ↦ yes ∙ sym (one-true (crashes n t) xs i x is h (gives ∙ yes))
+              | inl fails ↦
+                  let before-it : nat_le (slice_index steps n) t ≡ false = false_from_ne_true (nat_le (slice_index steps n) t) (λ k. leb-not step t fails (omega (arith, leb-true (slice_index steps n) t k, here))) in
+                  fails ∙ sym before-it ∙ old ∙ sym (one-false (crashes n t) xs i x is h (gives ∙ fails))
+              | inr holds ↦ holds ∙ sym (one-true (crashes n t) xs i x is h (gives ∙ holds))
             ])
         | inr other ↦
             ap (λ k. nat_le k t) (get_or-set_other steps node n step 0 other.1) ∙ before n t a b ∙ sym (one-false (crashes n t) xs i x is h (rw (made, other.0) refl))

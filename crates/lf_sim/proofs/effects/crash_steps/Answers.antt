@@ -1,6 +1,7 @@
-use Rattle.std.proofs.Common.{◌≡◌, ◌<◌, ◌≤◌, length, sym, ap, ◌∙◌, arith}
+use Rattle.std.proofs.Common.{◌≡◌, ◌<◌, ◌≤◌, length, sym, ap, subst, ◌∙◌, arith}
 use Rattle.std.proofs.Math.ListN.{length-set}
 use Rattle.lf_faults.specs.declared.fault.Parts.TheVariants.{Crash}
+use Rattle.lf_faults.specs.Faults.{IsFault}
 use Rattle.lf_sim.proofs.EffectsLemmas.{crashes_pass, crashes_kept, crashes_more, crashes-not}
 use Rattle.lf_sim.proofs.effects.crash_steps.Goals as goal
 use Rattle.lf_sim.proofs.effects.crash_steps.Goals.{in-Crash+then-step-steps, in-Crash+else-step-steps, in_default}
@@ -16,12 +17,12 @@ loop-fault-preserved c =
       | in-Crash+then-step-steps b ↦
           record {
             long = ap length b.steps-is ∙ length-set steps b.in-Crash.node b.in-Crash.step ∙ inv.long;
-            filled = rw b.steps-is (crashes_more xs i x c.fault-item.is c.loop-fault-test.true steps b.in-Crash.node b.in-Crash.step (sym c.parts.ensures.value ∙ b.in-Crash.is) ? inv.long b.if-step-steps.true inv.filled);
+            filled = rw b.steps-is (crashes_more xs i x c.fault-item.is c.loop-fault-test.true steps b.in-Crash.node b.in-Crash.step (sym b.in-Crash.ensures.value) (subst IsFault (sym b.in-Crash.ensures.value) c.parts.ensures.in_range).0 inv.long b.if-step-steps.true inv.filled);
           }
       | in-Crash+else-step-steps b ↦
           record {
             long = ap length b.steps-is ∙ inv.long;
-            filled = rw b.steps-is (crashes_kept xs i x c.fault-item.is c.loop-fault-test.true steps b.in-Crash.node b.in-Crash.step (sym c.parts.ensures.value ∙ b.in-Crash.is) b.if-step-steps.false inv.filled);
+            filled = rw b.steps-is (crashes_kept xs i x c.fault-item.is c.loop-fault-test.true steps b.in-Crash.node b.in-Crash.step (sym b.in-Crash.ensures.value) b.if-step-steps.false inv.filled);
           }
       | in_default b ↦
           record {
