@@ -5,4 +5,5 @@ pub mod InboxLemmas
 pub mod ListsLemmas
 pub mod PointsLemmas
 pub mod RunsLemmas
+pub mod SamplesLemmas
 pub mod SchedulesLemmas

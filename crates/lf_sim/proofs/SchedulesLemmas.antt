@@ -142,8 +142,8 @@ module _ (arrival : ℕ → ℕ → ℕ → ℕ) where
   pub row_few : (m u nodes : ℕ) → nodes ≤ 8 → u ≤ 48 → length (slots_to arrival nodes m u) ≤ 384
   row_few m u nodes few short =
       let link : (n : ℕ) → n < nodes → length (slots_from arrival m u n u) ≤ 48 = λ n _.
-        let steps = each_below-few (slot_at arrival m u n) 1 u (λ t _. length-one (arrives m u n t) (record { from = n; sent = t })) in
-        omega (arith, steps) in
+      let steps = each_below-few (slot_at arrival m u n) 1 u (λ t _. length-one (arrives m u n t) (record { from = n; sent = t })) in
+      omega (arith, steps) in
       omega (arith, each_below-few (λ n. slots_from arrival m u n u) 48 nodes link)
 
 -- the numbers of the slots of a schedule: no two are equal, and all are below 3072
