@@ -58,11 +58,11 @@ and-false : (b : Bool) → (b && false) ≡ false
 and-false true = refl
 and-false false = refl
 
-in-cond : {A : Type 0} (b : Bool) (xs : List A) (x : A) → Contains (cond b xs []) x → (b ≡ true) × Contains xs x
+pub in-cond : {A : Type 0} (b : Bool) (xs : List A) (x : A) → Contains (cond b xs []) x → (b ≡ true) × Contains xs x
 in-cond true xs x c = (refl, c)
 in-cond false xs x c = absurd (omega (arith, c.1))
 
-in-one : {A : Type 0} (y x : A) → Contains (y ∷ []) x → y ≡ x
+pub in-one : {A : Type 0} (y x : A) → Contains (y ∷ []) x → y ≡ x
 in-one y x (zero, l, e) = e
 in-one y x (suc k, l, e) = absurd (omega (arith, l))
 
@@ -80,16 +80,16 @@ not-true false h = refl
 
 module _ (arrival : ℕ → ℕ → ℕ → ℕ) where
   -- a slot of a schedule, by its tests
-  abbrev arrives : ℕ → ℕ → ℕ → ℕ → Bool
+  abbrev pub arrives : ℕ → ℕ → ℕ → ℕ → Bool
   arrives m u n t = nat_le 1 t && (not (nat_eq n m) && nat_eq (arrival n m t) u)
 
-  slot_at-there : (m u n t : ℕ) → 1 ≤ t → n ≢ m → arrival n m t ≡ u → slot_at arrival m u n t ≡ record { from = n; sent = t } ∷ []
+  pub slot_at-there : (m u n t : ℕ) → 1 ≤ t → n ≢ m → arrival n m t ≡ u → slot_at arrival m u n t ≡ record { from = n; sent = t } ∷ []
   slot_at-there m u n t first apart e = rw (le-leb 1 t first, ne_eqb n m apart, eq-eqb (arrival n m t) u e) refl
 
-  slot_at-elsewhere : (m u n t : ℕ) → (arrival n m t ≡ u → ⊥) → slot_at arrival m u n t ≡ []
+  pub slot_at-elsewhere : (m u n t : ℕ) → (arrival n m t ≡ u → ⊥) → slot_at arrival m u n t ≡ []
   slot_at-elsewhere m u n t h = rw (ne_eqb (arrival n m t) u h, and-false (not (nat_eq n m)), and-false (nat_le 1 t)) refl
 
-  slot_at-self : (m u t : ℕ) → slot_at arrival m u m t ≡ []
+  pub slot_at-self : (m u t : ℕ) → slot_at arrival m u m t ≡ []
   slot_at-self m u t = rw (eq-eqb m m refl, and-false (nat_le 1 t)) refl
 
   slots_from-self : (m u b : ℕ) → slots_from arrival m u m b ≡ []
@@ -142,8 +142,8 @@ module _ (arrival : ℕ → ℕ → ℕ → ℕ) where
   pub row_few : (m u nodes : ℕ) → nodes ≤ 8 → u ≤ 48 → length (slots_to arrival nodes m u) ≤ 384
   row_few m u nodes few short =
       let link : (n : ℕ) → n < nodes → length (slots_from arrival m u n u) ≤ 48 = λ n _.
-        let steps = each_below-few (slot_at arrival m u n) 1 u (λ t _. length-one (arrives m u n t) (record { from = n; sent = t })) in
-        omega (arith, steps) in
+      let steps = each_below-few (slot_at arrival m u n) 1 u (λ t _. length-one (arrives m u n t) (record { from = n; sent = t })) in
+      omega (arith, steps) in
       omega (arith, each_below-few (λ n. slots_from arrival m u n u) 48 nodes link)
 
 -- the numbers of the slots of a schedule: no two are equal, and all are below 3072

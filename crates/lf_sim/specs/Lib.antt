@@ -4,6 +4,7 @@ pub mod Outs
 pub mod OutsLemmas
 pub mod Points
 pub mod Runs
+pub mod Samples
 pub mod Schedules
 pub mod Settings
 pub mod Tables

@@ -58,9 +58,13 @@ impl Effects {
         requires length { length ≤ 8 }
         ensures { result ≡ (not (is_crashed self.now.set node step) && not (is_paused length self.now.set node step)) }
     {
-        let crashed = self.crashes[node as usize] <= step;
-        let paused = self.pausing[node as usize] && self.set.pauses(node, step, length);
-        !crashed && !paused
+        if self.crashes[node as usize] <= step {
+            return false;
+        }
+        if !self.pausing[node as usize] {
+            return true;
+        }
+        !self.set.pauses(node, step, length)
     }
 
     /// Whether a step is the first after a pause of the node.
@@ -69,7 +73,10 @@ impl Effects {
         requires length { length ≤ 8 }
         ensures { result ≡ is_woken length self.now.set node step }
     {
-        self.pausing[node as usize] && self.set.wakes(node, step, length)
+        if !self.pausing[node as usize] {
+            return false;
+        }
+        self.set.wakes(node, step, length)
     }
 }
 

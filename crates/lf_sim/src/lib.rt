@@ -14,6 +14,8 @@ mod record;
 mod runs;
 mod schedule;
 mod setting;
+#[cfg(test)]
+mod tests;
 
 pub use letter::Letter;
 pub use machine::Machine;

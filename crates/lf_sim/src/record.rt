@@ -50,7 +50,14 @@ impl<M: Machine> Run<M> {
         ensures step { IsTrue result → step ≤ horizon_of self.now }
     {
         let grid = &self.grid;
-        takes_step(&self.set, grid.nodes, grid.horizon, grid.pause_length, node, step)
+        takes_step(
+            &self.set,
+            grid.nodes,
+            grid.horizon,
+            grid.pause_length,
+            node,
+            step,
+        )
     }
 
     /// The state of a node after a step, or before the first.

@@ -42,7 +42,9 @@ pub fn rerun<M: Machine>(setting: &Setting<M>, set: &FaultSet, spent: Run<M>) ->
 {
     let Run { grid, .. } = spent;
     let Grid {
-        mut cells, inbox, ..
+        mut cells,
+        inbox,
+        ..
     } = grid;
     cells.clear();
     played(setting, set, cells, inbox)
