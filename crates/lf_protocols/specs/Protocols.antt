@@ -21,20 +21,19 @@ abbrev pub start_of : Kind → ℕ → State
 start_of (kinds.Retry nodes tries) node = states.Retry (retry_start node)
 start_of (kinds.Redundant nodes tries) node = states.Redundant (redundant_start node)
 
--- what a step of one protocol gives, with its state as one of all protocols
+-- a step of one protocol, its state made one of all protocols
 abbrev pub wrapped : {Own : Type 0} → (Own → State) → Stepped Own Note → Stepped State Note
 wrapped wrap own = record { state = wrap own.state; out = own.out }
 
--- the step of a node that isn't named for its state: it keeps the state, and sends nothing
+-- a state that the protocol's table doesn't name: the node keeps it, and sends nothing
 abbrev pub ignored : State → Stepped State Note
-ignored kept = record { state = kept; out = nothing }
+ignored other = record { state = other; out = nothing }
 
--- what a node does at a step: its protocol's table, where the state is one of that protocol
+-- what a node does at a step: what its protocol's table says, where the state is one of that protocol
 abbrev pub turn_of : Kind → ℕ → ℕ → State → List (Letter Note) → Stepped State Note
 turn_of (kinds.Retry nodes tries) node t (states.Retry own) inbox = wrapped states.Retry (retry_step nodes tries node t own inbox)
-turn_of (kinds.Retry nodes tries) node t (states.Redundant other) inbox = ignored (states.Redundant other)
 turn_of (kinds.Redundant nodes tries) node t (states.Redundant own) inbox = wrapped states.Redundant (redundant_step nodes tries node own inbox)
-turn_of (kinds.Redundant nodes tries) node t (states.Retry other) inbox = ignored (states.Retry other)
+turn_of k node t other inbox = ignored other
 
 -- whether a state shows a fact
 abbrev pub is_shown : State → Fact → Bool

@@ -34,6 +34,5 @@ module _ (nodes node : ℕ) (to : ℕ) (nobody : (to ≡ node) ⊎ (nodes ≤ to
 pub rules_of-silent : (k : Kind) (n t to : ℕ) (own : State) (inbox : List (Letter Note)) →
     (to ≡ n) ⊎ (nodes_of k ≤ to) → note_to (turn_of k n t own inbox).out to ≡ None
 rules_of-silent (kinds.Retry nodes tries) n t to (states.Retry own) inbox nobody = chosen-silent nodes n to nobody (nat_eq n 0 && nat_le t tries)
-rules_of-silent (kinds.Retry nodes tries) n t to (states.Redundant other) inbox nobody = note_to-nothing to
 rules_of-silent (kinds.Redundant nodes tries) n t to (states.Redundant own) inbox nobody = sends-silent nodes n to nobody tries (redundant_after own inbox)
-rules_of-silent (kinds.Redundant nodes tries) n t to (states.Retry other) inbox nobody = note_to-nothing to
+rules_of-silent k n t to other inbox nobody = note_to-nothing to

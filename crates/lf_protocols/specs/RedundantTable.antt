@@ -1,4 +1,4 @@
--- The table of redundant.
+-- The table of redundant, rule by rule. No rule goes by a step's number.
 use Rattle.std.specs.Prelude.{ℕ, ◌+◌, Bool, true, false, ◌==◌, nat_lt, if◌then◌else◌, List, fold}
 use Rattle.lf_sim.specs.declared.letter.Letter.{Letter}
 use Rattle.lf_sim.specs.declared.out.Stepped.{Stepped}
@@ -10,20 +10,21 @@ use Rattle.lf_protocols.specs.declared.fact.Fact.TheVariants as facts
 use Rattle.lf_protocols.specs.declared.state.Relay.{Relay}
 use Rattle.lf_protocols.specs.declared.state.Relay.TheVariants.{Has, Lacks}
 
--- at the start node 0 has the data and has sent at no step, and the others lack it
+-- at the start: node 0 has the data and has sent it at no step, the others lack it
 abbrev pub redundant_start : ℕ → Relay
 redundant_start node = if node == 0 then Has 0 else Lacks
 
--- the data, where the receiver lacks it: the receiver has it, and has sent at no step
+-- the note with the data, where the receiver lacks it: the receiver has it, and has sent it at no step. One that has it
+-- ignores the note
 abbrev pub redundant_note : Relay → Note → Relay
 redundant_note Lacks Payload = Has 0
 redundant_note (Has sent) Payload = Has sent
 
--- the letters of the inbox, one after another in its order
+-- the letters are handled in inbox order
 abbrev pub redundant_after : Relay → List (Letter Note) → Relay
 redundant_after state inbox = fold (λ before letter. redundant_note before letter.note) state inbox
 
--- after the inbox, a node that has the data and has sent at fewer than `tries` steps sends it to all, and counts one
+-- after the inbox: a node that has the data, and has sent it at fewer than `tries` steps, sends it to all and counts one
 -- step more
 abbrev pub redundant_sends : ℕ → ℕ → ℕ → Relay → Stepped Relay Note
 redundant_sends nodes tries node Lacks = record { state = Lacks; out = nothing }
@@ -32,6 +33,7 @@ redundant_sends nodes tries node (Has sent) =
     then record { state = Has (sent + 1); out = to_others nodes node Payload }
     else record { state = Has sent; out = nothing }
 
+-- a step: the letters, then what comes after the inbox
 abbrev pub redundant_step : ℕ → ℕ → ℕ → Relay → List (Letter Note) → Stepped Relay Note
 redundant_step nodes tries node state inbox = redundant_sends nodes tries node (redundant_after state inbox)
 

@@ -50,11 +50,10 @@ impl Machine for Protocol {
                     out,
                 }
             }
-            (Kind::Retry { .. }, State::Redundant(_)) | (Kind::Redundant { .. }, State::Retry(_)) =>
-                Stepped {
-                    state,
-                    out: Out::none(),
-                },
+            (_, other) => Stepped {
+                state: other,
+                out: Out::none(),
+            },
         }
     }
 
