@@ -1,4 +1,3 @@
-use Rattle.std.proofs.Common.{refl}
 use Rattle.lf_outcome.specs.Truth.{is_down, is_shown}
 use Rattle.lf_outcome.proofs.TruthLemmas.{truth-All, truth-Any, truth-Down, truth-Shows}
 use Rattle.lf_outcome.proofs.truth.by_cases.Goals as goal
