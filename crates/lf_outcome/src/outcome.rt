@@ -38,8 +38,8 @@ pub fn named(
     }
 }
 
-/// What `delivered` promises, for every world whose states show these facts and every list of faults: the nodes that are
-/// up at the last step all have the data, or all lack it.
+/// What `delivered` promises, for every world whose states show these facts and every list of faults: the nodes
+/// that are up at the last step all have the data, or all lack it.
 pub fn delivered_by_nodes<State, Note>()
     ensures { (w : World State Note Fact) (faults : List Parts) (nodes t : ℕ) →
         (reaches w faults (formula_of Outcome.Delivered nodes t) ≡ true)
