@@ -10,7 +10,7 @@ use Rattle.lf_faults.specs.Faults.{omits, crashes, pauses, wakes, is_omitted, is
 use Rattle.lf_sim.specs.Points.{SameUntil}
 use Rattle.lf_sim.proofs.ListsLemmas.{found-in, passed-in}
 
-omits-is : (n m t : ℕ) (f : Parts) → omits n m t f ≡ true → f ≡ Omit n m t
+pub omits-is : (n m t : ℕ) (f : Parts) → omits n m t f ≡ true → f ≡ Omit n m t
 omits-is n m t (Omit from to step) h =
     let p = and_parts (nat_eq n from && nat_eq m to) (nat_eq t step) h in
     let q = and_parts (nat_eq n from) (nat_eq m to) p.0 in

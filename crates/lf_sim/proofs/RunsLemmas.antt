@@ -2,10 +2,10 @@
 use Rattle.std.proofs.Common.{◌≡◌, ℕ, zero, suc, ◌+◌, ◌<◌, ◌≤◌, Bool, true, false, cond, List, ◌∷◌, [], ◌++◌, refl, sym, ap, ◌∙◌, subst, arith, inl, inr, eq-eqb, add-one}
 use Rattle.std.specs.Prelude.{nat_eq, nat_le, not, ◌&&◌, ◌≢◌, Option, None, Some}
 use Rattle.std.specs.Option.{option_map, option_to_list}
-use Rattle.std.proofs.lemmas.Bool.{and_parts, ne_eqb, eqb-true}
+use Rattle.std.proofs.lemmas.Bool.{and_parts, ne_eqb, eqb-true, lt-ltb, le-leb}
 use Rattle.std.proofs.lemmas.Bool.Decides.{leb_tells, nat_tests}
 use Rattle.lf_faults.specs.declared.fault.Parts.{Parts}
-use Rattle.lf_faults.specs.Faults.{is_omitted, is_woken}
+use Rattle.lf_faults.specs.Faults.{is_omitted, is_crashed, is_paused, is_woken}
 use Rattle.lf_sim.specs.declared.letter.Letter.{Letter}
 use Rattle.lf_sim.specs.declared.out.Out.{Out}
 use Rattle.lf_sim.specs.declared.out.Stepped.{Stepped}
@@ -13,6 +13,7 @@ use Rattle.lf_sim.specs.Outs.{note_to, nothing}
 use Rattle.lf_sim.specs.Runs.{World, Past, each_below, is_up, before_step, letter, letters, letters_from, turn, history, did, view, sent, inbox}
 use Rattle.lf_sim.proofs.ListsLemmas.{each_below-same, more_some, more_none, none_from_not}
 use Rattle.lf_sim.specs.OutsLemmas.{note_to-nothing}
+use Rattle.lf_sim.specs.Settings.{takes_step}
 
 cond-same : {A : Type 0} (b : Bool) (x : A) → cond b x x ≡ x
 cond-same true x = refl
@@ -229,3 +230,15 @@ pub letters-each : {State Note Fact : Type 0} (w : World State Note Fact) (fault
     → ((n t : ℕ) → n < w.rules.nodes → t < u → letter w faults p m u n t ≡ letter w others q m u n t) → letters w faults p m u ≡ letters w others q m u
 unfolding letters
 letters-each w faults others p q m u h = each_below-same _ _ w.rules.nodes (λ n k. each_below-same _ _ u (λ t l. ap option_to_list (h n t k l)))
+
+-- whether a node is up, by plain numbers
+pub is_up_by : {State Note Fact : Type 0} (w : World State Note Fact) (faults : List Parts) (nodes horizon pause_length n t : ℕ)
+    → nodes ≡ w.rules.nodes → horizon ≡ w.horizon → pause_length ≡ w.pause_length → takes_step nodes horizon pause_length faults n t ≡ is_up w faults n t
+unfolding is_up
+is_up_by w faults nodes horizon pause_length n t a b c = rw (a, b, c) refl
+
+-- where a point is one of the run, a node is up unless a fault takes it out
+pub is_up_from : {State Note Fact : Type 0} (w : World State Note Fact) (faults : List Parts) (length n t : ℕ) (left : Bool) → n < w.rules.nodes → 1 ≤ t → t ≤ w.horizon → length ≡ w.pause_length
+    → left ≡ (not (is_crashed faults n t) && not (is_paused length faults n t)) → is_up w faults n t ≡ left
+unfolding is_up
+is_up_from w faults length n t left node first last e is = rw (lt-ltb n w.rules.nodes node, le-leb 1 t first, le-leb t w.horizon last, is, e) refl

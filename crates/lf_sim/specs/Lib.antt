@@ -1,5 +1,10 @@
+pub mod Effects
 pub mod Machines
 pub mod Outs
 pub mod OutsLemmas
 pub mod Points
 pub mod Runs
+pub mod Samples
+pub mod Schedules
+pub mod Settings
+pub mod Tables

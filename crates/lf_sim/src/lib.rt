@@ -4,12 +4,23 @@
 //! gives a new state and at most one note for each other node.
 #![tactic(auto)]
 
+mod effects;
+mod grid;
 mod letter;
 mod machine;
 mod out;
 mod points;
+mod record;
+mod runs;
+mod schedule;
+mod setting;
+#[cfg(test)]
+mod tests;
 
 pub use letter::Letter;
 pub use machine::Machine;
 pub use out::{Out, Stepped};
 pub use points::{by_points, same_until};
+pub use record::Run;
+pub use runs::{rerun, run, runs_agree};
+pub use setting::Setting;

@@ -1,0 +1,158 @@
+//! Runs a machine that sends to all at every step, as often as it is told, and prints a sum of what it finds:
+//!
+//!     bench_runs COUNT run|rerun FAULTS
+//!
+//! `rerun` gives one run's memory to the next. FAULTS is how many faults each set has, 0 to 6.
+#![tactic(auto)]
+
+ghost use Rattle.std.specs.Prelude.{◌≡◌, ◌≤◌, ◌<◌};
+ghost use Rattle.bench_runs.specs.Chatter.{heard};
+
+use lf_faults::{Fault, FaultSet, FaultSpec};
+use lf_latency::{Links, Network};
+use lf_sim::{Letter, Machine, Out, Run, Setting, Stepped, rerun, run};
+use std::alloc::{AllocError, Global};
+use std::env;
+use std::process::ExitCode;
+
+/// Eight nodes, each of which tells all others a number, and adds the first note that it gets to it.
+#[derive(Clone, Copy, Debug, PartialEq, Eq, Drop)]
+struct Chatter;
+
+impl Machine for Chatter {
+    ghost use Rattle.lf_sim.specs.OutsLemmas.{to_others-silent};
+    ghost use Rattle.bench_runs.specs.Chatter.{chatter, heard};
+
+    type State = u32;
+
+    type Note = u32;
+
+    type Fact = u32;
+
+    ghost rules = { λ machine. chatter };
+
+    fn nodes(&self) -> u32 {
+        8
+    }
+
+    fn start(&self, node: u32) -> u32 {
+        node
+    }
+
+    fn step(
+        &self,
+        node: u32,
+        _t: u32,
+        state: u32,
+        inbox: &[Letter<u32>],
+    ) -> Stepped<u32, u32> {
+        let number = sum(state, inbox);
+        Stepped {
+            state: number,
+            out: Out::to_others(8, node, number),
+        }
+    }
+
+    fn wake(&self, _node: u32, _t: u32, _state: u32) -> u32 {
+        0
+    }
+
+    fn shows(&self, _node: u32, state: u32, fact: u32) -> bool {
+        state == fact
+    }
+
+    ghost silent = { λ machine n t to state inbox node first last nobody. to_others-silent 8 n (heard state inbox) to nobody };
+}
+
+/// A number with the first note added.
+fn sum(state: u32, inbox: &[Letter<u32>]) -> u32
+    ensures { result ≡ heard state inbox.now }
+{
+    match inbox.first() {
+        Some(letter) => state.wrapping_add(letter.note),
+        None => state,
+    }
+}
+
+/// The setting: 48 steps, and notes that take one to four steps.
+fn setting() -> Option<Setting<Chatter>> {
+    let network = Network::new([7; 32], Links::new(8, 1, 3), 8, 48);
+    let spec = FaultSpec::new(8, 48, 47, 8, 6)?.with_pauses(8, 4)?;
+    Setting::new(Chatter, network, spec)
+}
+
+/// A set of so many faults, at most 6, others for each number.
+fn set_of(number: u32, faults: u32) -> FaultSet {
+    let at = number % 32;
+    let all = [
+        Fault::omit(0, 1, at + 1),
+        Fault::omit(2, 3, at + 2),
+        Fault::crash(6, at + 9),
+        Fault::pause(7, at + 5),
+        Fault::omit(4, 5, at + 3),
+        Fault::omit(5, 0, at + 8),
+    ];
+    let mut set = FaultSet::empty();
+    for (k, fault) in (0..6).zip(all) {
+        if k < faults && let Some(fault) = fault {
+            set = set.insert(fault).unwrap_or(set);
+        }
+    }
+    set
+}
+
+/// What the nodes end with, and the first note of node 1.
+fn weigh(found: &Run<Chatter>) -> u32 {
+    let mut weight = 0u32;
+    for node in 0..found.nodes() {
+        weight = weight.wrapping_mul(31).wrapping_add(found.state(node, found.horizon()));
+    }
+    weight
+}
+
+/// The sum over so many runs.
+fn runs(alloc: Global, count: u32, again: bool, faults: u32) -> Result<u32, AllocError> {
+    let Some(setting) = setting() else {
+        return Ok(0);
+    };
+    let mut spent = run(alloc, &setting, &FaultSet::empty())?;
+    let mut total = 0u32;
+    for number in 0..count {
+        let set = set_of(number, faults);
+        spent = if again {
+            rerun(&setting, &set, spent)
+        } else {
+            run(alloc, &setting, &set)?
+        };
+        total = total.wrapping_add(weigh(&spent));
+    }
+    Ok(total)
+}
+
+fn main(rt: HostRuntime) -> ExitCode {
+    let Ok(mut words) = env::args(&rt) else {
+        return ExitCode::from(2);
+    };
+    let _program = words.next();
+    let count = number(words.next());
+    let again = match words.next() {
+        Some(word) => word.as_str() == "rerun",
+        None => false,
+    };
+    let faults = number(words.next());
+    match runs(rt.alloc(), count, again, faults) {
+        Ok(total) => {
+            let _printed = println!(rt; "{total}").is_ok();
+            ExitCode::SUCCESS
+        }
+        Err(_) => ExitCode::from(3),
+    }
+}
+
+/// The number that a word is, or 0.
+fn number(word: Option<String>) -> u32 {
+    match word {
+        Some(word) => word.as_str().parse::<u32>().unwrap_or(0),
+        None => 0,
+    }
+}

@@ -1,0 +1,21 @@
+//! Formulas.
+
+use lf_list::Listed;
+
+/// What a run is to show. Of a formula that is true in the run of a set of faults, the set reaches the outcome.
+///
+/// Nodes and steps may be any numbers: where there is no such point, nobody is up.
+#[derive(Debug, Drop)]
+pub enum Formula<F> {
+    /// Every part is true. It is true where there is no part.
+    All(Formulas<F>),
+    /// Some part is true. It is false where there is no part.
+    Any(Formulas<F>),
+    /// The node isn't up at the step.
+    Down { node: u32, step: u32 },
+    /// The node is up at the step, and its state after it shows the fact.
+    Shows { node: u32, step: u32, fact: F },
+}
+
+/// The parts of a formula.
+pub type Formulas<F> = Listed<Formula<F>>;

@@ -1,0 +1,85 @@
+//! Truth of a formula.
+
+ghost use Rattle.std.specs.Prelude.{◌≡◌, ℕ, not, ◌&&◌, List};
+ghost use Rattle.std.specs.List.{list_all, list_any};
+ghost use Rattle.lf_faults.specs.declared.fault.Parts.{Parts};
+ghost use Rattle.lf_sim.specs.Runs.{World, is_up, view};
+ghost use Rattle.lf_outcome.specs.declared.formula.Formula.{Formula};
+ghost use Rattle.lf_outcome.specs.declared.formula.Formula.TheVariants as kind;
+ghost use Rattle.lf_sim.specs.Settings.{IsRun, set_of, world_of};
+ghost use Rattle.lf_outcome.specs.Truth.{is_shown, reaches};
+
+use crate::Formula;
+use lf_sim::{Machine, Run, Setting};
+
+/// When a set of faults reaches an outcome, by the four kinds of formulas, for every world and every list of faults.
+pub fn by_cases<State, Note, Fact>()
+    // all parts are true, as they are where there is none
+    ensures all { (w : World State Note Fact) (faults : List Parts) (parts : List (Formula Fact)) →
+        reaches w faults (kind.All parts) ≡ list_all (reaches w faults) parts }
+    // some part is true, as none is where there is none
+    ensures any { (w : World State Note Fact) (faults : List Parts) (parts : List (Formula Fact)) →
+        reaches w faults (kind.Any parts) ≡ list_any (reaches w faults) parts }
+    // n isn't up at t
+    ensures down { (w : World State Note Fact) (faults : List Parts) (n t : ℕ) →
+        reaches w faults (kind.Down n t) ≡ not (is_up w faults n t) }
+    // n is up at t, and its view after t shows the fact
+    ensures shows { (w : World State Note Fact) (faults : List Parts) (n t : ℕ) (fact : Fact) →
+        reaches w faults (kind.Shows n t fact) ≡ (is_up w faults n t && w.rules.shows n (view w faults n t) fact) }
+{}
+
+/// Whether the run reaches the outcome, where it is a run of this setting. It takes no memory.
+#[cycle(holds)]
+pub fn holds<M: Machine>(setting: &Setting<M>, formula: &Formula<M::Fact>, run: &Run<M>) -> bool
+    requires { IsRun (world_of setting.now) run.now }
+    ensures { result ≡ reaches (world_of setting.now) (set_of run.now) formula.now }
+{
+    match formula {
+        Formula::All(parts) => all_hold(setting, parts.as_slice(), run),
+        Formula::Any(parts) => any_holds(setting, parts.as_slice(), run),
+        Formula::Down { node, step } => !run.up(*node, *step),
+        Formula::Shows { node, step, fact } => shows(setting, run, *node, *step, *fact),
+    }
+}
+
+/// Whether the run reaches all of the outcomes.
+#[cycle(holds)]
+fn all_hold<M: Machine>(setting: &Setting<M>, parts: &[Formula<M::Fact>], run: &Run<M>) -> bool
+    requires { IsRun (world_of setting.now) run.now }
+    ensures { result ≡ list_all (reaches (world_of setting.now) (set_of run.now)) parts.now }
+{
+    'all: for part in parts {
+        if !holds(setting, part, run) {
+            return false;
+        }
+    }
+    true
+}
+
+/// Whether the run reaches one of the outcomes.
+#[cycle(holds)]
+fn any_holds<M: Machine>(setting: &Setting<M>, parts: &[Formula<M::Fact>], run: &Run<M>) -> bool
+    requires { IsRun (world_of setting.now) run.now }
+    ensures { result ≡ list_any (reaches (world_of setting.now) (set_of run.now)) parts.now }
+{
+    'any: for part in parts {
+        if holds(setting, part, run) {
+            return true;
+        }
+    }
+    false
+}
+
+/// Whether a node is up at a step, and its state after it shows a fact.
+fn shows<M: Machine>(
+    setting: &Setting<M>,
+    run: &Run<M>,
+    node: u32,
+    step: u32,
+    fact: M::Fact,
+) -> bool
+    requires { IsRun (world_of setting.now) run.now }
+    ensures { result ≡ is_shown (world_of setting.now) (set_of run.now) node step fact }
+{
+    run.up(node, step) && setting.machine.shows(node, run.state(node, step), fact)
+}

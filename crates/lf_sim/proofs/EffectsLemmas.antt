@@ -1,0 +1,187 @@
+-- The tables of what a set of faults does, fault by fault.
+use Rattle.std.proofs.Common.{◌≡◌, ℕ, ◌+◌, ◌-◌, ◌*◌, ◌<◌, ◌≤◌, Bool, true, false, List, [], ◌∷◌, ◌++◌, length, take, slice_set, get_or, refl, sym, ap, ◌∙◌, subst, arith, inl, inr, eq-eqb, nat_eq, nat_le}
+use Rattle.std.specs.Prelude.{◌||◌, ◌&&◌, not, ◌≢◌, ◌⊎◌, slice_index, slice_index_or}
+use Rattle.std.specs.List.{list_any}
+use Rattle.std.proofs.lemmas.Bool.{false_from_ne_true, ne_eqb, eqb-true, false≢true, and_parts, leb-true, le-leb}
+use Rattle.std.proofs.lemmas.Bool.Decides.{eqb_tells, nat_tests}
+use Rattle.std.proofs.lemmas.List.{take_more, append-nil, take-append-drop, get_or-set_other, get_or-set_same}
+use Rattle.std.proofs.lemmas.List.Folds.{list_any-append}
+use Rattle.std.proofs.Math.Bool.{or-false, or-true}
+use Rattle.std.proofs.Math.ListN.{drop_of_length-le}
+use Rattle.lf_faults.specs.declared.fault.Parts.{Parts}
+use Rattle.lf_faults.specs.declared.fault.Parts.TheVariants.{Omit, Crash, Pause}
+use Rattle.lf_faults.specs.Allowed.{is_pause_of}
+use Rattle.lf_faults.specs.Faults.{IsFault, omits, crashes, pauses, wakes, is_omitted, is_crashed, is_paused, is_woken}
+use Rattle.lf_sim.specs.Effects.{place, AreLost, AreCrashes, ArePausing}
+use Rattle.lf_sim.proofs.FaultTests.{omits-is}
+use Rattle.lf_sim.proofs.ListsLemmas.{found-in, passed-in}
+
+bool-cases : (b : Bool) → (b ≡ false) ⊎ (b ≡ true)
+bool-cases true = inr refl
+bool-cases false = inl refl
+
+leb-cases : (a b : ℕ) → (nat_le a b ≡ false) ⊎ (nat_le a b ≡ true)
+leb-cases a b = bool-cases (nat_le a b)
+
+leb-not : (a b : ℕ) → nat_le a b ≡ false → a ≤ b → ⊥
+leb-not a b fails h = false≢true (sym fails ∙ le-leb a b h)
+
+-- a test of the first elements, one more
+one-more : {X : Type 0} (p : X → Bool) (xs : List X) (i : ℕ) (x : X) → x ≡ get_or xs i x → i < length xs → list_any p (take (i + 1) xs) ≡ (list_any p (take i xs) || p x)
+one-more p xs i x is h =
+    ap (list_any p) (take_more xs i x h) ∙ list_any-append p (take i xs) (get_or xs i x ∷ [])
+    ∙ ap (λ b. list_any p (take i xs) || b) (or-false (p (get_or xs i x)) ∙ ap p (sym is))
+
+one-true : {X : Type 0} (p : X → Bool) (xs : List X) (i : ℕ) (x : X) → x ≡ get_or xs i x → i < length xs → p x ≡ true → list_any p (take (i + 1) xs) ≡ true
+one-true p xs i x is h e = one-more p xs i x is h ∙ ap (λ b. list_any p (take i xs) || b) e ∙ or-true (list_any p (take i xs))
+
+one-false : {X : Type 0} (p : X → Bool) (xs : List X) (i : ℕ) (x : X) → x ≡ get_or xs i x → i < length xs → p x ≡ false → list_any p (take (i + 1) xs) ≡ list_any p (take i xs)
+one-false p xs i x is h e = one-more p xs i x is h ∙ ap (λ b. list_any p (take i xs) || b) e ∙ or-false (list_any p (take i xs))
+
+-- faults of another kind
+pub omits-not : (n m t : ℕ) (f : Parts) → ((a b c : ℕ) → f ≡ Omit a b c → ⊥) → omits n m t f ≡ false
+omits-not n m t (Omit a b c) h = absurd (h a b c refl)
+omits-not n m t (Crash a c) h = refl
+omits-not n m t (Pause a c) h = refl
+
+pub crashes-not : (n t : ℕ) (f : Parts) → ((a c : ℕ) → f ≡ Crash a c → ⊥) → crashes n t f ≡ false
+crashes-not n t (Omit a b c) h = refl
+crashes-not n t (Crash a c) h = absurd (h a c refl)
+crashes-not n t (Pause a c) h = refl
+
+pub is_pause_of-not : (n : ℕ) (f : Parts) → ((a c : ℕ) → f ≡ Pause a c → ⊥) → is_pause_of n f ≡ false
+is_pause_of-not n (Omit a b c) h = refl
+is_pause_of-not n (Crash a c) h = refl
+is_pause_of-not n (Pause a c) h = absurd (h a c refl)
+
+-- the place of a fault's slot
+abbrev place_of : Parts → ℕ
+place_of (Omit a b c) = place a b c
+place_of (Crash a c) = 0
+place_of (Pause a c) = 0
+
+module _ (xs : List Parts) (i : ℕ) (x : Parts) (is : x ≡ get_or xs i x) (h : i < length xs) where
+  pub lost_pass : (lost : List Bool) → ((n m t : ℕ) → omits n m t x ≡ false) → AreLost (take i xs) lost → AreLost (take (i + 1) xs) lost
+  lost_pass lost none before n m t a b c d = before n m t a b c d ∙ sym (one-false (omits n m t) xs i x is h (none n m t))
+
+  pub lost_more : (lost : List Bool) (from to step : ℕ) → x ≡ Omit from to step → IsFault (Omit from to step) → length lost ≡ 3072
+      → AreLost (take i xs) lost → AreLost (take (i + 1) xs) (slice_set lost (place from to step) true)
+  lost_more lost from to step made fault long before n m t a b c d =
+      let sender : from < 8 = fault.0 in
+      let receiver : to < 8 = fault.1 in
+      let first : 1 ≤ step = fault.3 in
+      let last : step ≤ 48 = fault.4 in
+      let inside : place from to step < length lost = omega arith in
+      elim (eqb_tells (place n m t) (place from to step)) [
+        | inl same ↦
+            let e : place n m t ≡ place from to step = same.1 in
+            let e₁ : n ≡ from = omega (arith, e, a, b, c, d, sender, receiver, first, last) in
+            let e₂ : m ≡ to = omega (arith, e, a, b, c, d, sender, receiver, first, last) in
+            let e₃ : t ≡ step = omega (arith, e, a, b, c, d, sender, receiver, first, last) in
+            let passes : omits n m t x ≡ true = rw (made, eq-eqb n from e₁, eq-eqb m to e₂, eq-eqb t step e₃) refl in
+            ap (λ k. slice_index_or (slice_set lost (place from to step) true) k false) e ∙ get_or-set_same lost (place from to step) true false inside
+            ∙ sym (one-true (omits n m t) xs i x is h passes)
+        | inr other ↦
+            let fails : omits n m t x ≡ false = false_from_ne_true (omits n m t x) (λ k. other.1 (ap place_of (sym (omits-is n m t x k) ∙ made))) in
+            get_or-set_other lost (place from to step) (place n m t) true false other.1 ∙ before n m t a b c d ∙ sym (one-false (omits n m t) xs i x is h fails)
+      ]
+
+  pub crashes_pass : (steps : List ℕ) → ((n t : ℕ) → crashes n t x ≡ false) → AreCrashes (take i xs) steps → AreCrashes (take (i + 1) xs) steps
+  crashes_pass steps none before n t a b = before n t a b ∙ sym (one-false (crashes n t) xs i x is h (none n t))
+
+  -- a crash no earlier than another of the node
+  pub crashes_kept : (steps : List ℕ) (node step : ℕ) → x ≡ Crash node step → slice_index steps node ≤ step → AreCrashes (take i xs) steps → AreCrashes (take (i + 1) xs) steps
+  crashes_kept steps node step made late before n t a b =
+      before n t a b ∙ (elim (eqb_tells n node) [
+        | inl same ↦
+            let here : slice_index steps n ≤ step = (let P : ℕ → Type 0 = λ k. slice_index steps k ≤ step in subst P (sym same.1) late) in
+            let gives : crashes n t x ≡ nat_le step t = rw (made, same.0) refl in
+            let old = before n t a b in
+            elim (leb-cases step t) [
+              | inl fails ↦ sym (one-false (crashes n t) xs i x is h (gives ∙ fails))
+              | inr holds ↦
+                  let reached : nat_le (slice_index steps n) t ≡ true = le-leb (slice_index steps n) t (omega (arith, leb-true step t holds, here)) in
+                  sym old ∙ reached ∙ sym (one-true (crashes n t) xs i x is h (gives ∙ holds))
+            ]
+        | inr other ↦ sym (one-false (crashes n t) xs i x is h (rw (made, other.0) refl))
+      ])
+
+  -- the earliest so far
+  pub crashes_more : (steps : List ℕ) (node step : ℕ) → x ≡ Crash node step → node < 8 → length steps ≡ 8 → step < slice_index steps node
+      → AreCrashes (take i xs) steps → AreCrashes (take (i + 1) xs) (slice_set steps node step)
+  crashes_more steps node step made inside long early before n t a b =
+      elim (eqb_tells n node) [
+        | inl same ↦
+            let gives : crashes n t x ≡ nat_le step t = rw (made, same.0) refl in
+            let at : slice_index (slice_set steps node step) n ≡ step = ap (λ k. slice_index (slice_set steps node step) k) same.1 ∙ get_or-set_same steps node step 0 (omega (arith, inside, long)) in
+            let old : nat_le (slice_index steps n) t ≡ is_crashed (take i xs) n t = before n t a b in
+            let here : step < slice_index steps n = (let P : ℕ → Type 0 = λ k. step < slice_index steps k in subst P (sym same.1) early) in
+            ap (λ k. nat_le k t) at ∙ (elim (leb-cases step t) [
+              | inl fails ↦
+                  let before-it : nat_le (slice_index steps n) t ≡ false = false_from_ne_true (nat_le (slice_index steps n) t) (λ k. leb-not step t fails (omega (arith, leb-true (slice_index steps n) t k, here))) in
+                  fails ∙ sym before-it ∙ old ∙ sym (one-false (crashes n t) xs i x is h (gives ∙ fails))
+              | inr holds ↦ holds ∙ sym (one-true (crashes n t) xs i x is h (gives ∙ holds))
+            ])
+        | inr other ↦
+            ap (λ k. nat_le k t) (get_or-set_other steps node n step 0 other.1) ∙ before n t a b ∙ sym (one-false (crashes n t) xs i x is h (rw (made, other.0) refl))
+      ]
+
+  pub pausing_pass : (pausing : List Bool) → ((n : ℕ) → is_pause_of n x ≡ false) → ArePausing (take i xs) pausing → ArePausing (take (i + 1) xs) pausing
+  pausing_pass pausing none before n a = before n a ∙ sym (one-false (is_pause_of n) xs i x is h (none n))
+
+  pub pausing_more : (pausing : List Bool) (node step : ℕ) → x ≡ Pause node step → node < 8 → length pausing ≡ 8 → ArePausing (take i xs) pausing → ArePausing (take (i + 1) xs) (slice_set pausing node true)
+  pausing_more pausing node step made inside long before n a =
+      elim (eqb_tells n node) [
+        | inl same ↦
+            ap (λ k. slice_index_or (slice_set pausing node true) k false) same.1 ∙ get_or-set_same pausing node true false (omega (arith, inside, long))
+            ∙ sym (one-true (is_pause_of n) xs i x is h (rw (made, same.0) refl))
+        | inr other ↦
+            get_or-set_other pausing node n true false other.1 ∙ before n a ∙ sym (one-false (is_pause_of n) xs i x is h (rw (made, other.0) refl))
+      ]
+
+-- a node with no pause is never paused, and never wakes
+is_pause_of-pauses : (length n t : ℕ) (f : Parts) → pauses length n t f ≡ true → is_pause_of n f ≡ true
+is_pause_of-pauses length n t (Omit a b c) h = absurd (false≢true h)
+is_pause_of-pauses length n t (Crash a c) h = absurd (false≢true h)
+is_pause_of-pauses length n t (Pause a c) h = (and_parts (nat_eq n a) (nat_le c t) (and_parts (nat_eq n a && nat_le c t) _ h).0).0
+
+is_pause_of-wakes : (length n t : ℕ) (f : Parts) → wakes length n t f ≡ true → is_pause_of n f ≡ true
+is_pause_of-wakes length n t (Omit a b c) h = absurd (false≢true h)
+is_pause_of-wakes length n t (Crash a c) h = absurd (false≢true h)
+is_pause_of-wakes length n t (Pause a c) h = (and_parts (nat_eq n a) (nat_eq t (c + length)) h).0
+
+pub paused-never : (faults : List Parts) (length n t : ℕ) → list_any (is_pause_of n) faults ≡ false → is_paused length faults n t ≡ false
+paused-never faults length n t none = false_from_ne_true (is_paused length faults n t) (λ h.
+    let found = found-in (pauses length n t) faults h in
+    false≢true (sym none ∙ passed-in (is_pause_of n) faults found.0 found.1 (is_pause_of-pauses length n t found.0 found.2)))
+
+pub woken-never : (faults : List Parts) (length n t : ℕ) → list_any (is_pause_of n) faults ≡ false → is_woken length faults n t ≡ false
+woken-never faults length n t none = false_from_ne_true (is_woken length faults n t) (λ h.
+    let found = found-in (wakes length n t) faults h in
+    false≢true (sym none ∙ passed-in (is_pause_of n) faults found.0 found.1 (is_pause_of-wakes length n t found.0 found.2)))
+
+-- the whole list
+pub list_any-take : {X : Type 0} (p : X → Bool) (xs : List X) (i : ℕ) → length xs ≤ i → list_any p (take i xs) ≡ list_any p xs
+list_any-take p xs i h =
+    ap (list_any p) (sym (append-nil (take i xs)) ∙ ap (λ ys. take i xs ++ ys) (sym (drop_of_length-le xs h)) ∙ take-append-drop i xs)
+
+-- what leaves a node up
+pub leaves_crashed : (faults : List Parts) (steps : List ℕ) (length n t : ℕ) → AreCrashes faults steps → n < 8 → t ≤ 48 → slice_index steps n ≤ t
+    → false ≡ (not (is_crashed faults n t) && not (is_paused length faults n t))
+leaves_crashed faults steps length n t ends a b late =
+    let crashed : is_crashed faults n t ≡ true = sym (ends n t a b) ∙ le-leb (slice_index steps n) t late in
+    rw crashed refl
+
+pub leaves_uncrashed : (faults : List Parts) (steps : List ℕ) (n t : ℕ) → AreCrashes faults steps → n < 8 → t ≤ 48 → t < slice_index steps n → is_crashed faults n t ≡ false
+leaves_uncrashed faults steps n t ends a b early =
+    sym (ends n t a b) ∙ false_from_ne_true (nat_le (slice_index steps n) t) (λ k. omega (arith, leb-true (slice_index steps n) t k, early))
+
+pub leaves_unpaused : (faults : List Parts) (pausing : List Bool) (length n t : ℕ) → ArePausing faults pausing → n < 8 → slice_index_or pausing n false ≡ false → is_crashed faults n t ≡ false
+    → true ≡ (not (is_crashed faults n t) && not (is_paused length faults n t))
+leaves_unpaused faults pausing length n t pauses a off alive =
+    let never : is_paused length faults n t ≡ false = paused-never faults length n t (sym (pauses n a) ∙ off) in
+    rw (alive, never) refl
+
+pub leaves_up : (faults : List Parts) (length n t : ℕ) (paused : Bool) → paused ≡ is_paused length faults n t → is_crashed faults n t ≡ false
+    → not paused ≡ (not (is_crashed faults n t) && not (is_paused length faults n t))
+leaves_up faults length n t paused is alive = rw (is, alive) refl

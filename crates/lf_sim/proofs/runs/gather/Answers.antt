@@ -1,0 +1,87 @@
+use Rattle.std.proofs.Common.{◌≡◌, ℕ, ◌+◌, ◌<◌, ◌≤◌, ◌++◌, length, drop, vec_len, vec_capacity, refl, sym, ap, ◌∙◌, arith, slice_index_or}
+use Rattle.lf_latency.specs.Arrivals.{arrival_of}
+use Rattle.lf_sim.specs.declared.schedule.Slot.{Slot}
+use Rattle.lf_sim.specs.Runs.{letters, did}
+use Rattle.lf_sim.specs.Schedules.{slots_to}
+use Rattle.lf_sim.specs.Settings.{world_of}
+use Rattle.std.proofs.lemmas.List.{get_or_default}
+use Rattle.lf_sim.proofs.SchedulesLemmas.{row_few}
+use Rattle.lf_sim.proofs.InboxLemmas.{Arriving, letters_at, slot_known, row-letters, gather_some, gather_none, gathered}
+use Rattle.lf_sim.proofs.runs.gather.Goals as goal
+use Rattle.lf_sim.proofs.runs.gather.Goals.{in-Some, in_default}
+
+abbrev blank : Slot
+blank = record { from = 0; sent = 0 }
+
+pub loop-slot-init : goal.loop-slot-init
+loop-slot-init g c =
+    let w = world_of c.args.setting.now in
+    let F = c.args.effects.now.set in
+    let net = c.args.setting.now.network in
+    let nodes : net.nodes ≡ w.rules.nodes = c.args.setting.now.network_agrees ∙ sym c.args.setting.now.nodes_agree in
+    record {
+      found = ap (λ xs. xs ++ letters_at w F c.args.to (c.args.t + 1) c.arriving-slot-items.result.now) c.clear.ensures.items
+          ∙ ap (letters_at w F c.args.to (c.args.t + 1)) c.arriving-slot-items.ensures ∙ row-letters w F c.args.to (c.args.t + 1) net.nodes nodes;
+      few = omega (arith, c.clear.ensures.len);
+      kept = refl;
+    }
+
+pub letter_of-requires-clause-from : goal.letter_of-requires-clause-from
+letter_of-requires-clause-from g c =
+    let net = c.args.setting.now.network in
+    let known = slot_known (arrival_of net) net.nodes c.args.to (c.args.t + 1) c.loop-slot.slot-index c.arriving-slot-items.result.now blank c.arriving-slot-items.ensures c.loop-slot-test.true in
+    omega (arith, known.sender, c.requires.nodes, c.args.setting.now.network_agrees, c.args.setting.now.nodes_agree)
+
+pub letter_of-requires-clause-apart : goal.letter_of-requires-clause-apart
+letter_of-requires-clause-apart g c =
+    let net = c.args.setting.now.network in
+    (slot_known (arrival_of net) net.nodes c.args.to (c.args.t + 1) c.loop-slot.slot-index c.arriving-slot-items.result.now blank c.arriving-slot-items.ensures c.loop-slot-test.true).apart
+
+pub letter_of-requires-clause-sent : goal.letter_of-requires-clause-sent
+letter_of-requires-clause-sent g c =
+    let net = c.args.setting.now.network in
+    let known = slot_known (arrival_of net) net.nodes c.args.to (c.args.t + 1) c.loop-slot.slot-index c.arriving-slot-items.result.now blank c.arriving-slot-items.ensures c.loop-slot-test.true in
+    (known.first, omega (arith, known.early))
+
+pub letter_of-requires-clause-arrives : goal.letter_of-requires-clause-arrives
+letter_of-requires-clause-arrives g c =
+    let net = c.args.setting.now.network in
+    (slot_known (arrival_of net) net.nodes c.args.to (c.args.t + 1) c.loop-slot.slot-index c.arriving-slot-items.result.now blank c.arriving-slot-items.ensures c.loop-slot-test.true).arrives
+
+pub push_reserved-requires : goal.push_reserved-requires
+push_reserved-requires g c =
+    let net = c.args.setting.now.network in
+    let nodes : net.nodes ≤ 8 = omega (arith, c.requires.few, c.requires.nodes, c.args.setting.now.network_agrees, c.args.setting.now.nodes_agree) in
+    let few : length (slots_to (arrival_of net) net.nodes c.args.to (c.args.t + 1)) ≤ 384 = row_few (arrival_of net) c.args.to (c.args.t + 1) net.nodes nodes (omega (arith, c.requires.short)) in
+    omega (arith, few, ap length c.arriving-slot-items.ensures, c.loop-slot-test.true, c.loop-slot.invariant.few, c.loop-slot.invariant.kept, c.clear.ensures.capacity, c.requires.letters)
+
+pub loop-slot-preserved : goal.loop-slot-preserved
+loop-slot-preserved g c =
+    let w = world_of c.args.setting.now in
+    let F = c.args.effects.now.set in
+    let slots = c.arriving-slot-items.result.now in
+    let i = c.loop-slot.slot-index in
+    let s = slice_index_or slots i blank in
+    let at : s ≡ slice_index_or slots i s = sym (get_or_default slots i s blank c.loop-slot-test.true) in
+    let inv = c.loop-slot.invariant in
+    let all = letters w F (did w F) c.args.to (c.args.t + 1) in
+    elim c.match-letter_of.branch [
+      | in-Some b ↦
+          record {
+            found = rw (b.inbox-is, b.push_reserved.ensures.items) (gather_some w F c.args.to (c.args.t + 1) i slots s c.loop-slot.inbox.items all c.letter_of.result b.in-Some.letter c.loop-slot-test.true at c.letter_of.ensures b.in-Some.is inv.found);
+            few = rw b.inbox-is (omega (arith, b.push_reserved.ensures.len, inv.few));
+            kept = rw b.inbox-is (b.push_reserved.ensures.capacity ∙ inv.kept);
+          }
+      | in_default b ↦
+          record {
+            found = rw b.inbox-is (gather_none w F c.args.to (c.args.t + 1) i slots s c.loop-slot.inbox.items all c.letter_of.result c.loop-slot-test.true at c.letter_of.ensures b.in_default.not-Some inv.found);
+            few = rw b.inbox-is (omega (arith, inv.few));
+            kept = rw b.inbox-is inv.kept;
+          }
+    ]
+
+pub returns-clause-items : goal.returns-clause-items
+returns-clause-items g c =
+    let w = world_of c.args.setting.now in
+    let F = c.args.effects.now.set in
+    gathered w F c.args.to (c.args.t + 1) c.loop-slot.slot-index c.arriving-slot-items.result.now c.loop-slot.inbox.items (letters w F (did w F) c.args.to (c.args.t + 1)) c.loop-slot-test.false c.loop-slot.invariant.found

@@ -1,0 +1,123 @@
+//! What a set of faults does, in tables to look it up.
+
+ghost use Rattle.std.specs.Prelude.{◌≡◌, ◌<◌, ◌≤◌, ◌&&◌, not, length};
+ghost use Rattle.lf_faults.specs.Faults.{is_omitted, is_crashed, is_paused, is_woken};
+ghost use Rattle.lf_sim.specs.Effects.{AreLost, AreCrashes, ArePausing};
+
+use lf_faults::{FaultSet, Parts};
+
+/// The places for slots: 8 senders, 8 receivers and 48 steps.
+const SLOTS: usize = 3072;
+
+/// A step after all others.
+const NEVER: u32 = 49;
+
+/// What a set of faults does.
+#[derive(Clone, Copy, Drop)]
+pub(crate) struct Effects {
+    pub(crate) set: FaultSet,
+    // By sender, receiver and step, whether the note is lost.
+    lost: [bool; SLOTS],
+    // By node, the step from which it has crashed.
+    crashes: [u32; 8],
+    // By node, whether it is ever paused.
+    pausing: [bool; 8],
+    ghost losses: { AreLost set lost },
+    ghost ends: { AreCrashes set crashes },
+    ghost pauses: { ArePausing set pausing },
+}
+
+impl Effects {
+    /// What the set does.
+    pub(crate) fn new(set: &FaultSet) -> Effects
+        ensures { result.set ≡ set.now }
+    {
+        Effects {
+            set: *set,
+            lost: losses(set),
+            crashes: crash_steps(set),
+            pausing: pausing(set),
+        }
+    }
+
+    /// Whether the note of a slot is lost.
+    pub(crate) fn omits(&self, from: u32, to: u32, step: u32) -> bool
+        requires from { from < 8 }
+        requires to { to < 8 }
+        requires first { 1 ≤ step }
+        requires last { step ≤ 48 }
+        ensures { result ≡ is_omitted self.now.set from to step }
+    {
+        self.lost[((from * 8 + to) * 48 + step - 1) as usize]
+    }
+
+    /// Whether a node is up at a step, where a pause takes `length` steps.
+    pub(crate) fn leaves_up(&self, node: u32, step: u32, length: u32) -> bool
+        requires node { node < 8 }
+        requires step { step ≤ 48 }
+        requires length { length ≤ 8 }
+        ensures { result ≡ (not (is_crashed self.now.set node step) && not (is_paused length self.now.set node step)) }
+    {
+        if self.crashes[node as usize] <= step {
+            return false;
+        }
+        if !self.pausing[node as usize] {
+            return true;
+        }
+        !self.set.pauses(node, step, length)
+    }
+
+    /// Whether a step is the first after a pause of the node.
+    pub(crate) fn wakes(&self, node: u32, step: u32, length: u32) -> bool
+        requires node { node < 8 }
+        requires length { length ≤ 8 }
+        ensures { result ≡ is_woken length self.now.set node step }
+    {
+        if !self.pausing[node as usize] {
+            return false;
+        }
+        self.set.wakes(node, step, length)
+    }
+}
+
+/// By slot, whether the set loses its note.
+fn losses(set: &FaultSet) -> [bool; SLOTS]
+    ensures { AreLost set.now result }
+{
+    let mut lost = [false; SLOTS];
+    for fault in set.items() {
+        if let Parts::Omit { from, to, step } = fault.parts() {
+            lost[((from * 8 + to) * 48 + step - 1) as usize] = true;
+        }
+    }
+    lost
+}
+
+/// By node, the step from which the set crashes it.
+fn crash_steps(set: &FaultSet) -> [u32; 8]
+    ensures { AreCrashes set.now result }
+{
+    let mut steps = [NEVER; 8];
+    for fault in set.items() {
+        if let Parts::Crash { node, step } = fault.parts() {
+            let at = node as usize;
+            if step < steps[at] {
+                steps[at] = step;
+            }
+        }
+    }
+    steps
+}
+
+/// By node, whether the set ever pauses it.
+fn pausing(set: &FaultSet) -> [bool; 8]
+    ensures { ArePausing set.now result }
+{
+    let mut pausing = [false; 8];
+    for fault in set.items() {
+        if let Parts::Pause { node, .. } = fault.parts() {
+            pausing[node as usize] = true;
+        }
+    }
+    pausing
+}

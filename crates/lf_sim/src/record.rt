@@ -1,0 +1,103 @@
+//! What a run leaves.
+
+ghost use Rattle.std.specs.Prelude.{◌≡◌, ℕ, ◌<◌, ◌≤◌, IsTrue};
+ghost use Rattle.lf_sim.specs.Settings.{takes_step};
+
+use crate::Machine;
+use crate::grid::Grid;
+use lf_faults::FaultSet;
+
+/// What every node did under a set of faults. `run` makes it.
+#[derive(Drop)]
+pub struct Run<M: Machine> {
+    pub(crate) set: FaultSet,
+    pub(crate) grid: Grid<M::State, M::Note>,
+}
+
+impl<M: Machine> Run<M> {
+    ghost use Rattle.lf_sim.specs.Runs.{World, view, sent, is_up};
+    ghost use Rattle.lf_sim.specs.Settings.{IsRun, nodes_of, horizon_of, set_of, up_of, state_of, sent_of};
+
+    /// The set of faults.
+    pub fn set(&self) -> FaultSet
+        ensures { result ≡ set_of self.now }
+    {
+        self.set
+    }
+
+    /// How many nodes there are, at most 8.
+    pub fn nodes(&self) -> u32
+        ensures value { result ≡ nodes_of self.now }
+        ensures few { result ≤ 8 }
+    {
+        self.grid.nodes
+    }
+
+    /// The last step, at most 48.
+    pub fn horizon(&self) -> u32
+        ensures value { result ≡ horizon_of self.now }
+        ensures short { result ≤ 48 }
+    {
+        self.grid.horizon
+    }
+
+    /// Whether a node is up at a step: false where it isn't a node or the step isn't one of the run, where it has
+    /// crashed, and where it is paused.
+    pub fn up(&self, node: u32, step: u32) -> bool
+        ensures value { result ≡ up_of self.now node step }
+        ensures meaning { (w : World M.State M.Note M.Fact) → IsRun w self.now → result ≡ is_up w (set_of self.now) node step }
+        ensures node { IsTrue result → node < nodes_of self.now }
+        ensures step { IsTrue result → step ≤ horizon_of self.now }
+    {
+        let grid = &self.grid;
+        takes_step(
+            &self.set,
+            grid.nodes,
+            grid.horizon,
+            grid.pause_length,
+            node,
+            step,
+        )
+    }
+
+    /// The state of a node after a step, or before the first.
+    pub fn state(&self, node: u32, step: u32) -> M::State
+        requires node { node < nodes_of self.now }
+        requires step { step ≤ horizon_of self.now }
+        ensures value { Some result ≡ state_of self.now node step }
+        ensures meaning { (w : World M.State M.Note M.Fact) → IsRun w self.now → result ≡ view w (set_of self.now) node step }
+    {
+        self.grid.cell(node, step).state
+    }
+
+    /// What a node sent to another at a step, lost or not. None where it wasn't up.
+    pub fn sent(&self, from: u32, to: u32, step: u32) -> Option<M::Note>
+        requires from { from < nodes_of self.now }
+        requires step { step ≤ horizon_of self.now }
+        ensures value { Some result ≡ sent_of self.now from to step }
+        ensures meaning { (w : World M.State M.Note M.Fact) → IsRun w self.now → result ≡ sent w (set_of self.now) from to step }
+    {
+        self.grid.cell(from, step).out.to(to)
+    }
+}
+
+/// Whether a node is up at a step.
+fn takes_step(
+    set: &FaultSet,
+    nodes: u32,
+    horizon: u32,
+    pause_length: u32,
+    node: u32,
+    step: u32,
+) -> bool
+    requires { pause_length ≤ 8 }
+    ensures value { result ≡ takes_step nodes horizon pause_length set.now node step }
+    ensures node { IsTrue result → node < nodes }
+    ensures step { IsTrue result → step ≤ horizon }
+{
+    node < nodes
+        && 1 <= step
+        && step <= horizon
+        && !set.crashes(node, step)
+        && !set.pauses(node, step, pause_length)
+}
