@@ -1,0 +1,24 @@
+#!/usr/bin/env bash
+# Counts the instructions that one simulated point takes (one node at one step), in runs of a machine that sends to all
+# at every step: 8 nodes, 48 steps, notes that take one to four steps. It is the difference between two counts of runs,
+# so that what the program does besides them falls out. Instructions repeat exactly, whatever else the machine does.
+# Wants the Rattle kit and valgrind.
+set -euo pipefail
+cd "$(dirname "$0")/../crates/bench_runs"
+rt run -- 1 rerun 0 >/dev/null
+
+# the instructions of COUNT runs, in MODE (run or rerun), under sets of FAULTS faults
+count() {
+    valgrind --tool=callgrind --callgrind-out-file=/dev/null out/bench_runs "$1" "$2" "$3" 2>&1 | awk '/Collected/ { print $NF }'
+}
+
+few=20
+many=120
+points=$((8 * 48 * (many - few)))
+for mode in rerun run; do
+    for faults in 0 2 6; do
+        less=$(count "$few" "$mode" "$faults")
+        more=$(count "$many" "$mode" "$faults")
+        echo "$mode, sets of $faults faults: $(((more - less) / points)) instructions a point"
+    done
+done
