@@ -1,9 +1,9 @@
 -- The tables of what a set of faults does, fault by fault.
-use Rattle.std.proofs.Common.{◌≡◌, ℕ, ◌+◌, ◌-◌, ◌*◌, ◌<◌, ◌≤◌, Bool, true, false, List, [], ◌∷◌, ◌++◌, length, take, slice_set, get_or, refl, sym, ap, ◌∙◌, subst, arith, inl, inr, eq-eqb, nat_eq, nat_le}
-use Rattle.std.specs.Prelude.{◌||◌, ◌&&◌, not, ◌≢◌, ◌⊎◌, slice_index, slice_index_or}
+use Rattle.std.proofs.Common.{◌≡◌, ℕ, ◌+◌, ◌<◌, ◌≤◌, Bool, true, false, List, [], ◌∷◌, ◌++◌, length, take, slice_set, get_or, refl, sym, ap, ◌∙◌, subst, arith, inl, inr, eq-eqb, nat_eq, nat_le}
+use Rattle.std.specs.Prelude.{◌||◌, ◌&&◌, not, ◌⊎◌, slice_index, slice_index_or}
 use Rattle.std.specs.List.{list_any}
-use Rattle.std.proofs.lemmas.Bool.{false_from_ne_true, ne_eqb, eqb-true, false≢true, and_parts, leb-true, le-leb}
-use Rattle.std.proofs.lemmas.Bool.Decides.{eqb_tells, nat_tests}
+use Rattle.std.proofs.lemmas.Bool.{false_from_ne_true, false≢true, and_parts, leb-true, le-leb}
+use Rattle.std.proofs.lemmas.Bool.Decides.{eqb_tells}
 use Rattle.std.proofs.lemmas.List.{take_more, append-nil, take-append-drop, get_or-set_other, get_or-set_same}
 use Rattle.std.proofs.lemmas.List.Folds.{list_any-append}
 use Rattle.std.proofs.Math.Bool.{or-false, or-true}
@@ -11,7 +11,7 @@ use Rattle.std.proofs.Math.ListN.{drop_of_length-le}
 use Rattle.lf_faults.specs.declared.fault.Parts.{Parts}
 use Rattle.lf_faults.specs.declared.fault.Parts.TheVariants.{Omit, Crash, Pause}
 use Rattle.lf_faults.specs.Allowed.{is_pause_of}
-use Rattle.lf_faults.specs.Faults.{IsFault, omits, crashes, pauses, wakes, is_omitted, is_crashed, is_paused, is_woken}
+use Rattle.lf_faults.specs.Faults.{IsFault, omits, crashes, pauses, wakes, is_crashed, is_paused, is_woken}
 use Rattle.lf_sim.specs.Effects.{place, AreLost, AreCrashes, ArePausing}
 use Rattle.lf_sim.proofs.FaultTests.{omits-is}
 use Rattle.lf_sim.proofs.ListsLemmas.{found-in, passed-in}

@@ -1,9 +1,9 @@
 -- What the slots of a row hold, and the cells of a run.
-use Rattle.std.proofs.Common.{◌≡◌, ℕ, zero, suc, ◌+◌, ◌*◌, ◌<◌, ◌≤◌, Bool, true, false, cond, List, [], ◌∷◌, ◌++◌, length, drop, get_or, refl, sym, ap, ◌∙◌, subst, arith, inl, inr, add-one, append_assoc, length-append, nat_eq, nat_le}
+use Rattle.std.proofs.Common.{◌≡◌, ℕ, zero, suc, ◌+◌, ◌*◌, ◌<◌, ◌≤◌, true, List, [], ◌∷◌, ◌++◌, length, drop, get_or, refl, sym, ap, ◌∙◌, subst, arith, inl, inr, add-one, append_assoc, length-append, nat_eq, nat_le}
 use Rattle.std.specs.Prelude.{not, ◌&&◌, ◌≢◌, slice_get, Option, None, Some}
 use Rattle.std.specs.Option.{option_to_list}
 use Rattle.std.specs.List.{Contains}
-use Rattle.std.proofs.lemmas.Bool.{and_parts, cases_lt, leb-true, eqb-true, ne_eqb}
+use Rattle.std.proofs.lemmas.Bool.{and_parts, cases_lt, leb-true, eqb-true}
 use Rattle.std.proofs.lemmas.Bool.Decides.{eqb_tells}
 use Rattle.std.proofs.lemmas.List.{append-nil, get_or-append-add, get_or_at, get_or_default}
 use Rattle.std.proofs.lemmas.Option.{slice_get-get_or, slice_get_within}
@@ -14,10 +14,10 @@ use Rattle.lf_faults.specs.declared.fault.Parts.{Parts}
 use Rattle.lf_sim.specs.declared.letter.Letter.{Letter}
 use Rattle.lf_sim.specs.declared.out.Stepped.{Stepped}
 use Rattle.lf_sim.specs.declared.schedule.Slot.{Slot}
-use Rattle.lf_sim.specs.Runs.{World, each_below, is_up, letter, letters, letters_from, did}
+use Rattle.lf_sim.specs.Runs.{World, each_below, letter, letters, letters_from, did}
 use Rattle.lf_sim.specs.Schedules.{slot_at, slots_from, slots_to}
 use Rattle.lf_sim.specs.Tables.{row_of, table, HasPast}
-use Rattle.lf_sim.proofs.ListsLemmas.{each_below-add-one, from-each_below, none_from_not}
+use Rattle.lf_sim.proofs.ListsLemmas.{from-each_below, none_from_not}
 use Rattle.lf_sim.proofs.RunsLemmas.{letter-zero, letter-self, letter-elsewhere}
 use Rattle.lf_sim.proofs.SchedulesLemmas.{arrives, in-cond, in-one, slot_at-there, slot_at-elsewhere, slot_at-self}
 

@@ -5,5 +5,4 @@ pub mod InboxLemmas
 pub mod ListsLemmas
 pub mod PointsLemmas
 pub mod RunsLemmas
-pub mod SamplesLemmas
 pub mod SchedulesLemmas

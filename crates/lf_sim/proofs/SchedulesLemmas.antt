@@ -1,8 +1,8 @@
 -- How a schedule is filled, and that there is room for all of it.
-use Rattle.std.proofs.Common.{◌≡◌, ℕ, zero, suc, ◌+◌, ◌-◌, ◌*◌, ◌/◌, ◌%◌, ◌<◌, ◌≤◌, Bool, true, false, cond, List, [], ◌∷◌, ◌++◌, length, take, drop, slice_index, slice_set, refl, sym, ap, ◌∙◌, subst, arith, inl, inr, add-one, append_assoc, length-append, eq-eqb, get_or}
-use Rattle.std.specs.Prelude.{not, ◌&&◌, ◌==◌, ◌≢◌, nat_eq, nat_lt, nat_le}
-use Rattle.std.specs.List.{Contains, AllPairs, IsDistinct, slice_range, list_any}
-use Rattle.std.proofs.lemmas.Bool.{and_parts, cases_lt, eqb-true, ltb-true, leb-true, lt-ltb, le-leb, ne_eqb}
+use Rattle.std.proofs.Common.{◌≡◌, ℕ, zero, suc, ◌+◌, ◌-◌, ◌*◌, ◌/◌, ◌%◌, ◌<◌, ◌≤◌, Bool, true, false, cond, List, [], ◌∷◌, ◌++◌, length, take, drop, slice_index, slice_set, refl, sym, ap, ◌∙◌, subst, arith, inl, inr, append_assoc, length-append, eq-eqb}
+use Rattle.std.specs.Prelude.{not, ◌&&◌, ◌≢◌, nat_eq, nat_le}
+use Rattle.std.specs.List.{Contains, AllPairs, slice_range}
+use Rattle.std.proofs.lemmas.Bool.{and_parts, cases_lt, eqb-true, lt-ltb, le-leb, ne_eqb}
 use Rattle.std.proofs.lemmas.Bool.Decides.{Decides-eqb}
 use Rattle.std.proofs.lemmas.List.{append-nil, take_more_set, take-append-le, drop-take, take-take, get_or-set_other, get_or-set_same}
 use Rattle.std.proofs.Math.Seq.{drop-append_seam, take-length}
@@ -11,7 +11,7 @@ use Rattle.std.proofs.lemmas.Map.Steps.{length-le_from_distinct_below}
 use Rattle.lf_sim.specs.declared.schedule.Slot.{Slot}
 use Rattle.lf_sim.specs.Runs.{each_below}
 use Rattle.lf_sim.specs.Schedules.{is_row, slot_at, slots_from, slots_to, row_at, IsSchedule}
-use Rattle.lf_sim.proofs.ListsLemmas.{each_below-same, each_below-add-one, found-in, from-each_below, AllPairs-each_below}
+use Rattle.lf_sim.proofs.ListsLemmas.{each_below-add-one, found-in, from-each_below, AllPairs-each_below}
 
 -- lengths
 each_below-length : {A B : Type 0} (f : ℕ → List A) (g : ℕ → List B) (n : ℕ) → ((k : ℕ) → length (f k) ≡ length (g k)) → length (each_below f n) ≡ length (each_below g n)

@@ -5,6 +5,7 @@ pub mod OutsLemmas
 pub mod Points
 pub mod Runs
 pub mod Samples
+pub mod SamplesLemmas
 pub mod Schedules
 pub mod Settings
 pub mod Tables

@@ -73,10 +73,11 @@ impl Effects {
         requires length { length ≤ 8 }
         ensures { result ≡ is_woken length self.now.set node step }
     {
-        if !self.pausing[node as usize] {
-            return false;
+        if self.pausing[node as usize] {
+            self.set.wakes(node, step, length)
+        } else {
+            false
         }
-        self.set.wakes(node, step, length)
     }
 }
 

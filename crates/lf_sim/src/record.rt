@@ -45,7 +45,8 @@ impl<M: Machine> Run<M> {
     /// crashed, and where it is paused.
     pub fn up(&self, node: u32, step: u32) -> bool
         ensures value { result ≡ up_of self.now node step }
-        ensures meaning { (w : World M.State M.Note M.Fact) → IsRun w self.now → result ≡ is_up w (set_of self.now) node step }
+        ensures meaning { (w : World M.State M.Note M.Fact) → IsRun w self.now →
+            result ≡ is_up w (set_of self.now) node step }
         ensures node { IsTrue result → node < nodes_of self.now }
         ensures step { IsTrue result → step ≤ horizon_of self.now }
     {
@@ -65,7 +66,8 @@ impl<M: Machine> Run<M> {
         requires node { node < nodes_of self.now }
         requires step { step ≤ horizon_of self.now }
         ensures value { Some result ≡ state_of self.now node step }
-        ensures meaning { (w : World M.State M.Note M.Fact) → IsRun w self.now → result ≡ view w (set_of self.now) node step }
+        ensures meaning { (w : World M.State M.Note M.Fact) → IsRun w self.now →
+            result ≡ view w (set_of self.now) node step }
     {
         self.grid.cell(node, step).state
     }
@@ -75,7 +77,8 @@ impl<M: Machine> Run<M> {
         requires from { from < nodes_of self.now }
         requires step { step ≤ horizon_of self.now }
         ensures value { Some result ≡ sent_of self.now from to step }
-        ensures meaning { (w : World M.State M.Note M.Fact) → IsRun w self.now → result ≡ sent w (set_of self.now) from to step }
+        ensures meaning { (w : World M.State M.Note M.Fact) → IsRun w self.now →
+            result ≡ sent w (set_of self.now) from to step }
     {
         self.grid.cell(from, step).out.to(to)
     }

@@ -225,7 +225,8 @@ fn gather<M: Machine>(
     requires short { t < 48 }
     requires past { HasPast (world_of setting.now) effects.now.set cells.now (t + 1) }
     requires letters { 384 ≤ vec_capacity inbox.old }
-    ensures items { inbox.new.items ≡ letters (world_of setting.now) effects.now.set (did (world_of setting.now) effects.now.set) to (t + 1) }
+    ensures items { inbox.new.items ≡
+        letters (world_of setting.now) effects.now.set (did (world_of setting.now) effects.now.set) to (t + 1) }
     ensures letters { vec_capacity inbox.new ≡ vec_capacity inbox.old }
 {
     inbox.clear();
@@ -255,7 +256,9 @@ fn letter_of<M: Machine>(
     requires apart { slot.from ≢ to }
     requires sent { (1 ≤ slot.sent) × (slot.sent ≤ t) }
     requires arrives { arrival_of setting.now.network slot.from to slot.sent ≡ t + 1 }
-    ensures { result ≡ letter (world_of setting.now) effects.now.set (did (world_of setting.now) effects.now.set) to (t + 1) slot.from slot.sent }
+    ensures { result ≡
+        letter (world_of setting.now) effects.now.set (did (world_of setting.now) effects.now.set)
+        to (t + 1) slot.from slot.sent }
 {
     let _setting = setting;
     let from = u32::from(slot.from);

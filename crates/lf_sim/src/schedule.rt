@@ -27,7 +27,8 @@ pub(crate) struct Schedule {
 impl Schedule {
     /// The schedule of a network.
     pub(crate) fn new(network: &Network) -> Schedule
-        ensures { IsSchedule (arrival_of network.now) network.now.nodes network.now.horizon result.slots result.starts }
+        ensures { IsSchedule (arrival_of network.now) network.now.nodes network.now.horizon
+            result.slots result.starts }
     {
         let nodes = network.nodes();
         let horizon = network.horizon();
@@ -69,7 +70,8 @@ fn put_row(
     requires short { step ≤ 48 }
     requires room { start + length (slots_to (arrival_of network.now) nodes to step) ≤ length slots.old }
     ensures end { result ≡ start + length (slots_to (arrival_of network.now) nodes to step) }
-    ensures slots { take result slots.new ≡ take start slots.old ++ slots_to (arrival_of network.now) nodes to step }
+    ensures slots { take result slots.new ≡
+        take start slots.old ++ slots_to (arrival_of network.now) nodes to step }
 {
     let mut end = start;
     for from in 0..nodes {
@@ -98,7 +100,8 @@ fn put_link(
     requires short { step ≤ 48 }
     requires room { start + length (slots_from (arrival_of network.now) to step from step) ≤ length slots.old }
     ensures end { result ≡ start + length (slots_from (arrival_of network.now) to step from step) }
-    ensures slots { take result slots.new ≡ take start slots.old ++ slots_from (arrival_of network.now) to step from step }
+    ensures slots { take result slots.new ≡
+        take start slots.old ++ slots_from (arrival_of network.now) to step from step }
 {
     let mut end = start;
     for sent in 1..step {

@@ -21,7 +21,8 @@ pub struct Setting<M: Machine> {
     ghost nodes_agree: { (M.rules machine).nodes ≡ spec.nodes },
     ghost network_agrees: { network.nodes ≡ spec.nodes },
     ghost horizons_agree: { network.horizon ≡ spec.horizon },
-    ghost scheduled: { IsSchedule (arrival_of network) network.nodes network.horizon schedule.slots schedule.starts },
+    ghost scheduled: { IsSchedule (arrival_of network) network.nodes network.horizon
+        schedule.slots schedule.starts },
 }
 
 impl<M: Machine> Setting<M> {
@@ -29,8 +30,10 @@ impl<M: Machine> Setting<M> {
     pub fn new(machine: M, network: Network, spec: FaultSpec) -> Option<Setting<M>>
     where
         M: Drop,
-        ensures some { IsSome result ↔ ((M.rules machine).nodes ≡ spec.nodes) × (network.nodes ≡ spec.nodes) × (network.horizon ≡ spec.horizon) }
-        ensures value { IfSome result (λ s. (s.machine ≡ machine) × (s.network ≡ network) × (s.spec ≡ spec)) }
+        ensures some { IsSome result ↔ ((M.rules machine).nodes ≡ spec.nodes) ×
+            (network.nodes ≡ spec.nodes) × (network.horizon ≡ spec.horizon) }
+        ensures value { IfSome result
+            (λ s. (s.machine ≡ machine) × (s.network ≡ network) × (s.spec ≡ spec)) }
     {
         if machine.nodes() == spec.nodes()
             && network.nodes() == spec.nodes()

@@ -16,7 +16,7 @@ struct Ring;
 
 impl Machine for Ring {
     ghost use Rattle.lf_sim.specs.Samples.{ring, told};
-    ghost use Rattle.lf_sim.proofs.SamplesLemmas.{ring-silent};
+    ghost use Rattle.lf_sim.specs.SamplesLemmas.{ring-silent};
 
     type State = u32;
 
@@ -59,7 +59,7 @@ struct Hub;
 
 impl Machine for Hub {
     ghost use Rattle.lf_sim.specs.Samples.{hub, told};
-    ghost use Rattle.lf_sim.proofs.SamplesLemmas.{hub-silent};
+    ghost use Rattle.lf_sim.specs.SamplesLemmas.{hub-silent};
 
     type State = u32;
 
@@ -212,9 +212,8 @@ fn plain_turn<M: Machine>(
     requires last { t ≤ setting.now.spec.horizon }
 {
     let nodes = setting.spec.nodes();
-    let horizon = setting.spec.horizon();
+    let _horizon = setting.spec.horizon();
     let length = setting.spec.pause_length();
-    prove!(nodes <= 8 && horizon <= 48 && node < nodes && t <= horizon);
     let last = match cells.get(((t - 1) * nodes + node) as usize) {
         Some(cell) => cell.state,
         None => setting.machine.start(node),
@@ -274,8 +273,7 @@ fn plain_note<M: Machine>(
     requires last { t ≤ setting.now.spec.horizon }
 {
     let nodes = setting.network.nodes();
-    let horizon = setting.network.horizon();
-    prove!(nodes <= 8 && horizon <= 48 && from < nodes && sent < horizon);
+    let _horizon = setting.network.horizon();
     if from == to || setting.network.arrival(from, to, sent) != t {
         return None;
     }
@@ -432,20 +430,33 @@ fn runs_are_the_plain_ones(rt: HostRuntime) -> Result<(), Fail> {
     Ok(())
 }
 
+/// Whether a machine fits a network and these bounds.
+fn fits<M: Machine + Drop>(machine: M, network: &Network, nodes: u32, horizon: u32) -> bool {
+    match FaultSpec::new(nodes, horizon, 1, 0, 0) {
+        Some(spec) => Setting::new(machine, *network, spec).is_some(),
+        None => false,
+    }
+}
+
 #[test]
 fn a_setting_has_one_size(rt: HostRuntime) {
     let network = Network::new([0; 32], Links::new(4, 1, 0), 4, 9);
-    for (nodes, horizon, fits) in [
+    for (nodes, horizon, ring) in [
         (4, 9, true),
         (3, 9, false),
         (5, 9, false),
         (4, 8, false),
         (4, 10, false),
     ] {
-        let spec = FaultSpec::new(nodes, horizon, 1, 0, 0);
-        let made = spec.map(|spec| Setting::new(Ring, network, spec).is_some());
-        assert_eq!(rt; made, Some(fits), "{nodes} nodes and {horizon} steps");
-        let other = spec.map(|spec| Setting::new(Hub, network, spec).is_some());
-        assert_eq!(rt; other, Some(false), "{nodes} nodes and {horizon} steps");
+        assert_eq!(rt;
+            fits(Ring, &network, nodes, horizon),
+            ring,
+            "{nodes} nodes, {horizon} steps"
+        );
+        assert_eq!(rt;
+            fits(Hub, &network, nodes, horizon),
+            false,
+            "{nodes} nodes, {horizon} steps"
+        );
     }
 }

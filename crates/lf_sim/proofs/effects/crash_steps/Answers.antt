@@ -1,6 +1,5 @@
-use Rattle.std.proofs.Common.{◌≡◌, ◌<◌, ◌≤◌, length, sym, ap, subst, ◌∙◌, arith}
+use Rattle.std.proofs.Common.{length, sym, ap, subst, ◌∙◌}
 use Rattle.std.proofs.Math.ListN.{length-set}
-use Rattle.lf_faults.specs.declared.fault.Parts.TheVariants.{Crash}
 use Rattle.lf_faults.specs.Faults.{IsFault}
 use Rattle.lf_sim.proofs.EffectsLemmas.{crashes_pass, crashes_kept, crashes_more, crashes-not}
 use Rattle.lf_sim.proofs.effects.crash_steps.Goals as goal

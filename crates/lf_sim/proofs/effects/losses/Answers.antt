@@ -1,4 +1,4 @@
-use Rattle.std.proofs.Common.{◌<◌, ◌+◌, ◌-◌, ◌*◌, false, refl, arith}
+use Rattle.std.proofs.Common.{◌<◌, false, refl, arith}
 use Rattle.std.proofs.lemmas.List.{get_or-replicate}
 use Rattle.lf_sim.specs.Effects.{place}
 use Rattle.lf_sim.proofs.effects.losses.Goals as goal

@@ -1,4 +1,4 @@
-use Rattle.std.proofs.Common.{◌≡◌, ℕ, ◌+◌, ◌<◌, ◌≤◌, ◌++◌, length, drop, vec_len, vec_capacity, refl, sym, ap, ◌∙◌, arith, slice_index_or}
+use Rattle.std.proofs.Common.{◌≡◌, ◌+◌, ◌≤◌, ◌++◌, length, refl, sym, ap, ◌∙◌, arith, slice_index_or}
 use Rattle.lf_latency.specs.Arrivals.{arrival_of}
 use Rattle.lf_sim.specs.declared.schedule.Slot.{Slot}
 use Rattle.lf_sim.specs.Runs.{letters, did}
@@ -6,7 +6,7 @@ use Rattle.lf_sim.specs.Schedules.{slots_to}
 use Rattle.lf_sim.specs.Settings.{world_of}
 use Rattle.std.proofs.lemmas.List.{get_or_default}
 use Rattle.lf_sim.proofs.SchedulesLemmas.{row_few}
-use Rattle.lf_sim.proofs.InboxLemmas.{Arriving, letters_at, slot_known, row-letters, gather_some, gather_none, gathered}
+use Rattle.lf_sim.proofs.InboxLemmas.{letters_at, slot_known, row-letters, gather_some, gather_none, gathered}
 use Rattle.lf_sim.proofs.runs.gather.Goals as goal
 use Rattle.lf_sim.proofs.runs.gather.Goals.{in-Some, in_default}
 

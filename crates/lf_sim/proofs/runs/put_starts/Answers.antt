@@ -1,4 +1,4 @@
-use Rattle.std.proofs.Common.{◌+◌, [], ◌∙◌, arith}
+use Rattle.std.proofs.Common.{[], ◌∙◌, arith}
 use Rattle.lf_sim.specs.Settings.{world_of}
 use Rattle.lf_sim.proofs.RunsLemmas.{start_is}
 use Rattle.lf_sim.proofs.InboxLemmas.{row_more}

@@ -1,8 +1,8 @@
-use Rattle.std.proofs.Common.{◌≡◌, ◌+◌, ◌*◌, ◌<◌, ◌≤◌, sym, ap, ◌∙◌, arith}
+use Rattle.std.proofs.Common.{◌+◌, ◌*◌, ◌≤◌, ◌∙◌, arith}
 use Rattle.std.proofs.Math.Nat.{mul-le-mul_right}
 use Rattle.lf_sim.specs.Settings.{world_of}
 use Rattle.lf_sim.specs.Tables.{row_of, table}
-use Rattle.lf_sim.proofs.InboxLemmas.{past_of, row_more, table_more}
+use Rattle.lf_sim.proofs.InboxLemmas.{past_of, row_more}
 use Rattle.lf_sim.proofs.runs.put_turns.Goals as goal
 
 pub turn-cell-requires-clause-past : goal.turn-cell-requires-clause-past

@@ -1,5 +1,5 @@
-use Rattle.std.proofs.Common.{◌≡◌, ◌+◌, ◌<◌, ◌≤◌, true, false, sym, ◌∙◌, arith}
-use Rattle.lf_sim.specs.Runs.{is_up, did}
+use Rattle.std.proofs.Common.{◌≡◌, ◌+◌, ◌<◌, true, false, ◌∙◌, arith}
+use Rattle.lf_sim.specs.Runs.{is_up}
 use Rattle.lf_sim.specs.Settings.{world_of}
 use Rattle.lf_sim.proofs.RunsLemmas.{is_up_from, step_is, rest_is}
 use Rattle.lf_sim.proofs.InboxLemmas.{past_is, past_long}

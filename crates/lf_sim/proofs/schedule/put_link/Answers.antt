@@ -1,4 +1,4 @@
-use Rattle.std.proofs.Common.{◌≡◌, ◌+◌, ◌<◌, ◌≤◌, ◌++◌, length, take, sym, ap, ◌∙◌, arith}
+use Rattle.std.proofs.Common.{◌<◌, length, take, sym, ap, ◌∙◌, arith}
 use Rattle.lf_latency.specs.Arrivals.{arrival_of}
 use Rattle.lf_sim.proofs.SchedulesLemmas.{link_put, link_count, link_room, link_pass}
 use Rattle.lf_sim.proofs.schedule.put_link.Goals as goal

@@ -1,4 +1,3 @@
-use Rattle.std.proofs.Common.{sym, ◌∙◌}
 use Rattle.lf_sim.proofs.EffectsLemmas.{leaves_crashed, leaves_uncrashed, leaves_unpaused, leaves_up}
 use Rattle.lf_sim.proofs.effects.Effects.leaves_up.Goals as goal
 

@@ -1,4 +1,4 @@
-use Rattle.std.proofs.Common.{◌≡◌, ◌+◌, ◌-◌, ◌*◌, ◌<◌, ◌≤◌, sym, ◌∙◌, arith}
+use Rattle.std.proofs.Common.{◌+◌, ◌-◌, ◌*◌, ◌≤◌, ◌∙◌, arith}
 use Rattle.lf_latency.specs.Arrivals.{arrival_of}
 use Rattle.lf_sim.proofs.SchedulesLemmas.{row_cut, row_ends, row_inside, row_of}
 use Rattle.lf_sim.proofs.setting.Setting.arriving.Goals as goal

@@ -1,6 +1,6 @@
 -- The machines for tests send to no node what they may not.
-use Rattle.std.proofs.Common.{◌≡◌, ℕ, ◌+◌, ◌*◌, ◌%◌, ◌<◌, ◌≤◌, Bool, true, false, cond, List, length, drop, get_or, refl, sym, ap, ◌∙◌, subst, arith, inl, inr, add-one, nat_eq, eq-eqb}
-use Rattle.std.specs.Prelude.{◌⊎◌, ◌≢◌, Option, None}
+use Rattle.std.proofs.Common.{◌≡◌, ℕ, ◌+◌, ◌%◌, ◌<◌, ◌≤◌, Bool, true, false, cond, sym, ◌∙◌, arith, inl, inr, nat_eq}
+use Rattle.std.specs.Prelude.{◌⊎◌, ◌≢◌, None}
 use Rattle.std.proofs.lemmas.Bool.Decides.{eqb_tells}
 use Rattle.lf_sim.specs.declared.out.Out.{Out}
 use Rattle.lf_sim.specs.Outs.{note_to, nothing, with_note}
