@@ -1,0 +1,6 @@
+pub mod Limits
+pub mod Words
+pub mod RetryTable
+pub mod RedundantTable
+pub mod Protocols
+pub mod ProtocolsLemmas

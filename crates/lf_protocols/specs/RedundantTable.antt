@@ -1,0 +1,43 @@
+-- The table of redundant.
+use Rattle.std.specs.Prelude.{ℕ, ◌+◌, Bool, true, false, ◌==◌, nat_lt, if◌then◌else◌, List, fold}
+use Rattle.lf_sim.specs.declared.letter.Letter.{Letter}
+use Rattle.lf_sim.specs.declared.out.Stepped.{Stepped}
+use Rattle.lf_sim.specs.Outs.{nothing, to_others}
+use Rattle.lf_protocols.specs.declared.note.Note.{Note}
+use Rattle.lf_protocols.specs.declared.note.Note.TheVariants.{Payload}
+use Rattle.lf_protocols.specs.declared.fact.Fact.{Fact}
+use Rattle.lf_protocols.specs.declared.fact.Fact.TheVariants as facts
+use Rattle.lf_protocols.specs.declared.state.Relay.{Relay}
+use Rattle.lf_protocols.specs.declared.state.Relay.TheVariants.{Has, Lacks}
+
+-- at the start node 0 has the data and has sent at no step, and the others lack it
+abbrev pub redundant_start : ℕ → Relay
+redundant_start node = if node == 0 then Has 0 else Lacks
+
+-- the data, where the receiver lacks it: the receiver has it, and has sent at no step
+abbrev pub redundant_note : Relay → Note → Relay
+redundant_note Lacks Payload = Has 0
+redundant_note (Has sent) Payload = Has sent
+
+-- the letters of the inbox, one after another in its order
+abbrev pub redundant_after : Relay → List (Letter Note) → Relay
+redundant_after state inbox = fold (λ before letter. redundant_note before letter.note) state inbox
+
+-- after the inbox, a node that has the data and has sent at fewer than `tries` steps sends it to all, and counts one
+-- step more
+abbrev pub redundant_sends : ℕ → ℕ → ℕ → Relay → Stepped Relay Note
+redundant_sends nodes tries node Lacks = record { state = Lacks; out = nothing }
+redundant_sends nodes tries node (Has sent) =
+    if nat_lt sent tries
+    then record { state = Has (sent + 1); out = to_others nodes node Payload }
+    else record { state = Has sent; out = nothing }
+
+abbrev pub redundant_step : ℕ → ℕ → ℕ → Relay → List (Letter Note) → Stepped Relay Note
+redundant_step nodes tries node state inbox = redundant_sends nodes tries node (redundant_after state inbox)
+
+-- of `has` and `lacks`, a state shows the one that it is
+abbrev pub redundant_shows : Relay → Fact → Bool
+redundant_shows (Has sent) facts.Has = true
+redundant_shows (Has sent) facts.Lacks = false
+redundant_shows Lacks facts.Has = false
+redundant_shows Lacks facts.Lacks = true

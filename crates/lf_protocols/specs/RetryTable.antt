@@ -1,0 +1,38 @@
+-- The table of retry.
+use Rattle.std.specs.Prelude.{ℕ, Bool, true, false, ◌&&◌, ◌==◌, nat_le, if◌then◌else◌, List, fold}
+use Rattle.lf_sim.specs.declared.letter.Letter.{Letter}
+use Rattle.lf_sim.specs.declared.out.Out.{Out}
+use Rattle.lf_sim.specs.declared.out.Stepped.{Stepped}
+use Rattle.lf_sim.specs.Outs.{nothing, to_others}
+use Rattle.lf_protocols.specs.declared.note.Note.{Note}
+use Rattle.lf_protocols.specs.declared.note.Note.TheVariants.{Payload}
+use Rattle.lf_protocols.specs.declared.fact.Fact.{Fact}
+use Rattle.lf_protocols.specs.declared.fact.Fact.TheVariants as facts
+use Rattle.lf_protocols.specs.declared.state.Holding.{Holding}
+use Rattle.lf_protocols.specs.declared.state.Holding.TheVariants.{Has, Lacks}
+
+-- at the start node 0 has the data, and the others lack it
+abbrev pub retry_start : ℕ → Holding
+retry_start node = if node == 0 then Has else Lacks
+
+-- the data: its receiver has the data
+abbrev pub retry_note : Holding → Note → Holding
+retry_note state Payload = Has
+
+-- the letters of the inbox, one after another in its order
+abbrev pub retry_after : Holding → List (Letter Note) → Holding
+retry_after state inbox = fold (λ before letter. retry_note before letter.note) state inbox
+
+-- after the inbox, node 0 sends the data to all at a step that is at most `tries`
+abbrev pub retry_out : ℕ → ℕ → ℕ → ℕ → Out Note
+retry_out nodes tries node t = if (node == 0) && nat_le t tries then to_others nodes node Payload else nothing
+
+abbrev pub retry_step : ℕ → ℕ → ℕ → ℕ → Holding → List (Letter Note) → Stepped Holding Note
+retry_step nodes tries node t state inbox = record { state = retry_after state inbox; out = retry_out nodes tries node t }
+
+-- of `has` and `lacks`, a state shows the one that it is
+abbrev pub retry_shows : Holding → Fact → Bool
+retry_shows Has facts.Has = true
+retry_shows Has facts.Lacks = false
+retry_shows Lacks facts.Has = false
+retry_shows Lacks facts.Lacks = true

@@ -1,0 +1,69 @@
+//! What a node of redundant does.
+
+ghost use Rattle.std.specs.Prelude.{◌≡◌};
+ghost use Rattle.lf_protocols.specs.RedundantTable.{redundant_start, redundant_after, redundant_sends, redundant_step, redundant_shows};
+
+use crate::{Fact, Note, Relay};
+use lf_sim::{Letter, Out, Stepped};
+
+/// The state before step 1.
+pub fn start(node: u32) -> Relay
+    ensures { result ≡ redundant_start node }
+{
+    if node == 0 {
+        Relay::Has { sent: 0 }
+    } else {
+        Relay::Lacks
+    }
+}
+
+/// The state after the inbox.
+fn after_inbox(state: Relay, inbox: &[Letter<Note>]) -> Relay
+    ensures { result ≡ redundant_after state inbox.now }
+{
+    inbox
+        .iter()
+        .fold(state, |relay, letter| match (relay, letter.note) {
+            (Relay::Lacks, Note::Payload) => Relay::Has { sent: 0 },
+            (Relay::Has { .. }, Note::Payload) => relay,
+        })
+}
+
+/// What a node does once it has handled its inbox.
+fn sends(nodes: u32, tries: u32, node: u32, state: Relay) -> Stepped<Relay, Note>
+    ensures { result ≡ redundant_sends nodes tries node state }
+{
+    match state {
+        Relay::Has { sent } if sent < tries => Stepped {
+            state: Relay::Has { sent: sent + 1 },
+            out: Out::to_others(nodes, node, Note::Payload),
+        },
+        Relay::Has { .. } | Relay::Lacks => Stepped {
+            state,
+            out: Out::none(),
+        },
+    }
+}
+
+/// What a node does at a step.
+pub fn step(
+    nodes: u32,
+    tries: u32,
+    node: u32,
+    state: Relay,
+    inbox: &[Letter<Note>],
+) -> Stepped<Relay, Note>
+    ensures { result ≡ redundant_step nodes tries node state inbox.now }
+{
+    sends(nodes, tries, node, after_inbox(state, inbox))
+}
+
+/// Whether a state shows a fact.
+pub fn shows(state: Relay, fact: Fact) -> bool
+    ensures { result ≡ redundant_shows state fact }
+{
+    match (state, fact) {
+        (Relay::Has { .. }, Fact::Has) | (Relay::Lacks, Fact::Lacks) => true,
+        (Relay::Has { .. }, Fact::Lacks) | (Relay::Lacks, Fact::Has) => false,
+    }
+}
