@@ -30,6 +30,10 @@ all_keys =
     Nodes ∷ Horizon ∷ LastOmission ∷ Crashes ∷ Budget ∷ Pauses ∷ PauseLength ∷ MaxSets
     ∷ Seed ∷ Least ∷ Spread ∷ Protocol ∷ Tries ∷ Patience ∷ Votes ∷ Outcome ∷ Links ∷ []
 
--- whether a text is one of them
+-- whether a text is one of some keys
+unfoldable pub is_name_of_one : List Key → List ℕ → Bool
+is_name_of_one some name = list_any (λ key. bytes_eq name (key_name key)) some
+
+-- whether a text is one of all the keys
 unfoldable pub is_key_name : List ℕ → Bool
-is_key_name name = list_any (λ key. bytes_eq name (key_name key)) all_keys
+is_key_name name = is_name_of_one all_keys name

@@ -1,7 +1,7 @@
 //! The keys of a scenario.
 
 ghost use Rattle.std.specs.Prelude.{◌≡◌};
-ghost use Rattle.lf_scenario.specs.Keys.{key_name, is_key_name};
+ghost use Rattle.lf_scenario.specs.Keys.{key_name, is_key_name, is_name_of_one};
 
 /// A key of a scenario. They are read in this order.
 #[derive(Clone, Copy, Debug, PartialEq, Eq)]
@@ -93,18 +93,38 @@ impl Key {
 }
 
 /// Whether a text is one of the seventeen keys.
+#[tactic(auto, unfolding(crate::specs::Keys::is_key_name))]
 pub(crate) fn is_key(name: &str) -> bool
     ensures { result ≡ is_key_name name.now }
 {
-    let limits = name == "nodes"
-        || name == "horizon"
-        || name == "last_omission"
-        || name == "crashes"
-        || name == "budget"
-        || name == "pauses"
-        || name == "pause_length"
-        || name == "max_sets";
-    let delays = name == "seed" || name == "least" || name == "spread";
-    let protocol = name == "protocol" || name == "tries" || name == "patience" || name == "votes";
-    limits || delays || protocol || name == "outcome" || name == "links"
+    names_one(
+        name,
+        &[
+            Key::Nodes,
+            Key::Horizon,
+            Key::LastOmission,
+            Key::Crashes,
+            Key::Budget,
+            Key::Pauses,
+            Key::PauseLength,
+            Key::MaxSets,
+            Key::Seed,
+            Key::Least,
+            Key::Spread,
+            Key::Protocol,
+            Key::Tries,
+            Key::Patience,
+            Key::Votes,
+            Key::Outcome,
+            Key::Links,
+        ],
+    )
+}
+
+/// Whether a text is one of these keys.
+#[tactic(auto, unfolding(crate::specs::Keys::is_name_of_one))]
+fn names_one(name: &str, keys: &[Key]) -> bool
+    ensures { result ≡ is_name_of_one keys.now name.now }
+{
+    keys.iter().any(|key| name == key.name())
 }

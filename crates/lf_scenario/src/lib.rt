@@ -6,7 +6,10 @@
 
 mod error;
 mod key;
+mod names;
+mod reading;
 mod value;
 
 pub use error::ScenarioError;
 pub use key::Key;
+pub use names::{OutcomeName, ProtocolName};

@@ -1,10 +1,11 @@
 //! Readers of one value.
 
-ghost use Rattle.std.specs.Prelude.{◌≡◌, option_map, replicate};
+ghost use Rattle.std.specs.Prelude.{◌≡◌, ◌≤◌, true, option_map, replicate, IfOk};
 ghost use Rattle.toml.specs.Data.{get_member};
 ghost use Rattle.toml.specs.View.{view, table_view};
-ghost use Rattle.lf_scenario.specs.Values.{whole, seed_in, required, optional, foreign};
+ghost use Rattle.lf_scenario.specs.Values.{whole, seed_in, required, optional, owned, unowned, known};
 
+use crate::key::is_key;
 use crate::{Key, ScenarioError};
 use hex::FromHex;
 use toml::{Table, Value};
@@ -18,7 +19,8 @@ pub(crate) fn at<'a>(table: &'a Table, key: &str) -> Option<&'a Value>
 
 /// A whole number from `low` to `high`.
 pub(crate) fn whole(value: &Value, key: Key, low: u32, high: u32) -> Result<u32, ScenarioError>
-    ensures { result ≡ whole low high key (view value.now) }
+    ensures value { result ≡ whole low high key (view value.now) }
+    ensures within { IfOk result (λ n. (low ≤ n) × (n ≤ high)) }
 {
     match value {
         Value::Integer(number) => match u32::try_from(*number) {
@@ -43,13 +45,15 @@ fn seed_in(value: &Value) -> Result<[u8; 32], ScenarioError>
 }
 
 /// The whole number of a key that has to be there.
+#[tactic(auto, unfolding(crate::specs::Values::required))]
 pub(crate) fn required_whole(
     table: &Table,
     key: Key,
     low: u32,
     high: u32,
 ) -> Result<u32, ScenarioError>
-    ensures { result ≡ required (table_view table.now) key (whole low high) }
+    ensures value { result ≡ required (table_view table.now) key (whole low high) }
+    ensures within { IfOk result (λ n. (low ≤ n) × (n ≤ high)) }
 {
     match at(table, key.name()) {
         Some(value) => whole(value, key, low, high),
@@ -58,6 +62,7 @@ pub(crate) fn required_whole(
 }
 
 /// The whole number of a key that may be missing.
+#[tactic(auto, unfolding(crate::specs::Values::optional))]
 pub(crate) fn optional_whole(
     table: &Table,
     key: Key,
@@ -65,7 +70,9 @@ pub(crate) fn optional_whole(
     high: u32,
     default: u32,
 ) -> Result<u32, ScenarioError>
-    ensures { result ≡ optional (table_view table.now) key (whole low high) default }
+    requires { (low ≤ default) × (default ≤ high) }
+    ensures value { result ≡ optional (table_view table.now) key (whole low high) default }
+    ensures within { IfOk result (λ n. (low ≤ n) × (n ≤ high)) }
 {
     match at(table, key.name()) {
         Some(value) => whole(value, key, low, high),
@@ -74,6 +81,7 @@ pub(crate) fn optional_whole(
 }
 
 /// The seed, which is of zeros where it is missing.
+#[tactic(auto, unfolding(crate::specs::Values::optional))]
 pub(crate) fn optional_seed(table: &Table) -> Result<[u8; 32], ScenarioError>
     ensures { result ≡ optional (table_view table.now) Key.Seed seed_in (replicate 32 0) }
 {
@@ -83,12 +91,47 @@ pub(crate) fn optional_seed(table: &Table) -> Result<[u8; 32], ScenarioError>
     }
 }
 
-/// Refuses a key that this protocol doesn't have.
-pub(crate) fn foreign(table: &Table, key: Key) -> Result<(), ScenarioError>
-    ensures { result ≡ foreign (table_view table.now) key }
+/// The whole number of a key of some protocols, and 0 where this protocol doesn't have it.
+#[tactic(auto, unfolding(crate::specs::Values::foreign))]
+pub(crate) fn owned_whole(
+    table: &Table,
+    key: Key,
+    has: bool,
+    low: u32,
+    high: u32,
+) -> Result<u32, ScenarioError>
+    ensures value { result ≡ owned has (table_view table.now) key (whole low high) 0 }
+    ensures within { IfOk result (λ n. has ≡ true → (low ≤ n) × (n ≤ high)) }
+{
+    if has {
+        return required_whole(table, key, low, high);
+    }
+    match at(table, key.name()) {
+        Some(_) => Err(ScenarioError::OtherProtocol(key)),
+        None => Ok(0),
+    }
+}
+
+/// Refuses a key that no protocol has.
+#[tactic(auto, unfolding(crate::specs::Values::foreign))]
+pub(crate) fn unowned(table: &Table, key: Key) -> Result<(), ScenarioError>
+    ensures { result ≡ unowned (table_view table.now) key }
 {
     match at(table, key.name()) {
         Some(_) => Err(ScenarioError::OtherProtocol(key)),
         None => Ok(()),
     }
+}
+
+/// Refuses a table with a key that scenarios don't have.
+#[tactic(auto, unfolding(crate::specs::Values::known))]
+pub(crate) fn known(table: &Table) -> Result<(), ScenarioError>
+    ensures { result ≡ known (table_view table.now) }
+{
+    'members: for (name, _value) in table.iter() {
+        if !is_key(name.as_str()) {
+            return Err(ScenarioError::UnknownKey);
+        }
+    }
+    Ok(())
 }
