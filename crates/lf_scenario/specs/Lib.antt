@@ -2,3 +2,4 @@ pub mod Keys
 pub mod Refusals
 pub mod Values
 pub mod Reading
+pub mod LinkTables

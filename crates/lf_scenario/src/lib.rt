@@ -6,10 +6,12 @@
 
 mod error;
 mod key;
+mod links;
 mod names;
 mod reading;
 mod value;
 
 pub use error::ScenarioError;
 pub use key::Key;
+pub use links::Link;
 pub use names::{OutcomeName, ProtocolName};
