@@ -3,3 +3,5 @@ pub mod Refusals
 pub mod Values
 pub mod Reading
 pub mod LinkTables
+pub mod Ranges
+pub mod Scenarios

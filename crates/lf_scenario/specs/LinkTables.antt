@@ -9,7 +9,7 @@
 --
 -- A table with another key is refused first, and one whose ends are no link last: an end is no node, the two are equal,
 -- or an earlier table has the same two in the same order. All refusals name the key `links`.
-use Rattle.std.specs.Prelude.{ℕ, ℤ, pos, negsuc, ◌+◌, ◌<◌, ◌≤◌, ◌≢◌, ◌==◌, Bool, true, false, not, ◌&&◌, ◌||◌, if◌then◌else◌, List, [], ◌∷◌, ◌++◌, codes, Result, Ok, Err}
+use Rattle.std.specs.Prelude.{ℕ, ℤ, pos, negsuc, ◌+◌, ◌<◌, ◌≤◌, ◌≢◌, ◌==◌, Bool, true, false, not, ◌&&◌, ◌||◌, if◌then◌else◌, List, [], ◌∷◌, ◌++◌, fold, codes, Result, Ok, Err}
 use Rattle.std.specs.List.{list_any}
 use Rattle.std.specs.Str.{bytes_eq}
 use Rattle.toml.specs.Data.{Data, string, integer, float, boolean, datetime, array, table, Items, no_items, item, Members, no_members, member, get_member}
@@ -90,3 +90,17 @@ pub record IsLink (nodes : ℕ) (link : Link) : Type 0 where
   pub pair : IsPair nodes link.from link.to
   pub least : (1 ≤ link.least) × (link.least ≤ 16)
   pub spread : link.spread ≤ 15
+
+-- the least delay from n to m: that of the link between them, and the scenario's where none is given
+abbrev pub least_after : ℕ → ℕ → ℕ → Link → ℕ
+least_after n m least link = if (link.from == n) && (link.to == m) then link.least else least
+
+abbrev pub least_given : List Link → ℕ → ℕ → ℕ → ℕ
+least_given links least n m = fold (least_after n m) least links
+
+-- and the spread
+abbrev pub spread_after : ℕ → ℕ → ℕ → Link → ℕ
+spread_after n m spread link = if (link.from == n) && (link.to == m) then link.spread else spread
+
+abbrev pub spread_given : List Link → ℕ → ℕ → ℕ → ℕ
+spread_given links spread n m = fold (spread_after n m) spread links

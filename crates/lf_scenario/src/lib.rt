@@ -8,10 +8,14 @@ mod error;
 mod key;
 mod links;
 mod names;
+mod reader;
 mod reading;
+mod scenario;
 mod value;
 
 pub use error::ScenarioError;
 pub use key::Key;
 pub use links::Link;
 pub use names::{OutcomeName, ProtocolName};
+pub use reader::{LONGEST, read};
+pub use scenario::Scenario;

@@ -1,13 +1,14 @@
 //! The tables of links.
 
-ghost use Rattle.std.specs.Prelude.{◌≡◌, ◌≢◌, ◌≤◌, [], All, IfOk, IfErr};
+ghost use Rattle.std.specs.Prelude.{ℕ, ◌≡◌, ◌≢◌, ◌≤◌, [], All, IfOk, IfErr};
 ghost use Rattle.toml.specs.View.{view, table_view, array_view};
-ghost use Rattle.lf_latency.specs.Links.{is_pair};
+ghost use Rattle.lf_latency.specs.Links.{is_pair, IsPair, IsLinks, least_of, spread_of};
 ghost use Rattle.lf_scenario.specs.Values.{optional};
-ghost use Rattle.lf_scenario.specs.LinkTables.{all_tables, link_keys, end_in, end_at, delay_at, is_given, joined, link_in, links_from, links_in, IsLink};
+ghost use Rattle.lf_scenario.specs.LinkTables.{all_tables, link_keys, end_in, end_at, delay_at, is_given, joined, link_in, links_from, links_in, least_given, spread_given, IsLink};
 
 use crate::value::{at, whole};
 use crate::{Key, ScenarioError};
+use lf_latency::Links;
 use std::alloc::Global;
 use toml::value::Array;
 use toml::{Table, Value};
@@ -201,4 +202,21 @@ pub(crate) fn read_links(
         Some(_) => Err(ScenarioError::WrongKind(Key::Links)),
         None => Ok(Vec::new(alloc)),
     }
+}
+
+/// The delays of all links: those that are given, and the scenario's elsewhere.
+pub(crate) fn all_delays(nodes: u32, least: u32, spread: u32, given: &[Link]) -> Links
+    requires nodes { (2 ≤ nodes) × (nodes ≤ 8) }
+    requires least { (1 ≤ least) × (least ≤ 16) }
+    requires spread { spread ≤ 15 }
+    requires links { All (IsLink nodes) given.now }
+    ensures form { IsLinks nodes result }
+    ensures least { (n m : ℕ) → IsPair nodes n m → least_of result n m ≡ least_given given.now least n m }
+    ensures spread { (n m : ℕ) → IsPair nodes n m → spread_of result n m ≡ spread_given given.now spread n m }
+{
+    let mut delays = Links::new(nodes, least, spread);
+    'links: for link in given {
+        delays = delays.with(link.from, link.to, link.least, link.spread);
+    }
+    delays
 }

@@ -1,8 +1,10 @@
 //! The reading of a table.
 
-ghost use Rattle.std.specs.Prelude.{◌≡◌, ◌<◌, ◌≤◌};
+ghost use Rattle.std.specs.Prelude.{◌≡◌, ◌<◌, ◌≤◌, IfOk};
 ghost use Rattle.lf_protocols.specs.Limits.{IsWithinLimits};
+ghost use Rattle.lf_protocols.specs.Protocols.{nodes_of};
 ghost use Rattle.toml.specs.View.{view, table_view};
+ghost use Rattle.lf_scenario.specs.Ranges.{AreDelays, IsInRange};
 ghost use Rattle.lf_scenario.specs.Values.{required};
 ghost use Rattle.lf_scenario.specs.Reading.{protocol_in, has_tries, has_patience, kind_of, outcome_of, outcome_in, bounds_in, delays_in, kind_in, described_in};
 
@@ -68,7 +70,8 @@ fn without_pauses(
 /// What decides when notes arrive, but for the links that have delays of their own.
 #[tactic(auto, unfolding(crate::specs::Reading::delays_in))]
 fn read_delays(table: &Table) -> Result<Delays, ScenarioError>
-    ensures { result ≡ delays_in (table_view table.now) }
+    ensures value { result ≡ delays_in (table_view table.now) }
+    ensures within { IfOk result AreDelays }
 {
     let seed = optional_seed(table)?;
     let least = optional_whole(table, Key::Least, 1, 16, 1)?;
@@ -129,7 +132,8 @@ fn has_patience(name: ProtocolName) -> bool
 /// The protocol with its settings.
 fn made(name: ProtocolName, nodes: u32, tries: u32) -> Protocol
     requires { IsWithinLimits (kind_of name nodes tries) }
-    ensures { result ≡ kind_of name nodes tries }
+    ensures value { result ≡ kind_of name nodes tries }
+    ensures nodes { nodes_of result ≡ nodes }
 {
     match name {
         ProtocolName::Retry => Protocol::retry(nodes, tries).unwrap(),
@@ -141,7 +145,8 @@ fn made(name: ProtocolName, nodes: u32, tries: u32) -> Protocol
 #[tactic(auto, unfolding(crate::specs::Reading::kind_in))]
 fn read_protocol(table: &Table, nodes: u32) -> Result<Protocol, ScenarioError>
     requires { (2 ≤ nodes) × (nodes ≤ 8) }
-    ensures { result ≡ kind_in nodes (table_view table.now) }
+    ensures value { result ≡ kind_in nodes (table_view table.now) }
+    ensures nodes { IfOk result (λ protocol. nodes_of protocol ≡ nodes) }
 {
     let name = required_protocol(table)?;
     let tries = owned_whole(table, Key::Tries, has_tries(name), 1, 48)?;
@@ -190,7 +195,8 @@ fn required_outcome(table: &Table, protocol: Protocol) -> Result<OutcomeName, Sc
 /// All that a scenario says but its links.
 #[tactic(auto, unfolding(crate::specs::Reading::described_in))]
 pub(crate) fn read_described(table: &Table) -> Result<Described, ScenarioError>
-    ensures { result ≡ described_in (table_view table.now) }
+    ensures value { result ≡ described_in (table_view table.now) }
+    ensures within { IfOk result IsInRange }
 {
     known(table)?;
     let bounds = read_bounds(table)?;
