@@ -35,10 +35,10 @@ chosen from to n m own old new here others =
     elim (cases_eq from n) [
       | inr apart ↦ rw (ne_eqb from n apart) (sym (others (λ same _. apart (sym same))))
       | inl same ↦
-        elim (cases_eq to m) [
-          | inr apart ↦ rw (and_right (from == n) (to == m) (ne_eqb to m apart)) (sym (others (λ _ equal. apart (sym equal))))
-          | inl equal ↦ rw (eq-eqb from n same, eq-eqb to m equal) (sym (here (sym same) (sym equal)))
-        ]
+          elim (cases_eq to m) [
+            | inr apart ↦ rw (and_right (from == n) (to == m) (ne_eqb to m apart)) (sym (others (λ _ equal. apart (sym equal))))
+            | inl equal ↦ rw (eq-eqb from n same, eq-eqb to m equal) (sym (here (sym same) (sym equal)))
+          ]
     ]
 
 -- one link more is put among the delays

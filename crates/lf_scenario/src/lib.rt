@@ -19,3 +19,6 @@ pub use links::Link;
 pub use names::{OutcomeName, ProtocolName};
 pub use reader::{LONGEST, read};
 pub use scenario::Scenario;
+
+#[cfg(test)]
+mod tests;

@@ -9,7 +9,9 @@ ghost use Rattle.lf_scenario.specs.Values.{required};
 ghost use Rattle.lf_scenario.specs.Reading.{protocol_in, has_tries, has_patience, kind_of, outcome_of, outcome_in, bounds_in, delays_in, kind_in, described_in};
 
 use crate::names::{OutcomeName, ProtocolName};
-use crate::value::{at, known, optional_seed, optional_whole, owned_whole, required_whole, unowned};
+use crate::value::{
+    at, known, optional_seed, optional_whole, owned_whole, required_whole, unowned,
+};
 use crate::{Key, ScenarioError};
 use lf_faults::FaultSpec;
 use lf_protocols::{Kind, Protocol};
