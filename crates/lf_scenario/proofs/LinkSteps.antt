@@ -1,0 +1,55 @@
+-- One table more among those of links.
+use Rattle.std.proofs.Common.{◌≡◌, ℕ, ◌+◌, ◌<◌, ◌==◌, ◌&&◌, cond, List, [], ◌∷◌, ◌++◌, length, get_or, drop, fold, Ok, String, BTreeMap, Global, inl, inr, refl, sym, ap, ◌∙◌, arith}
+use Rattle.std.proofs.lemmas.Bool.{cases_eq, eq-eqb, ne_eqb, and_left, and_right}
+use Rattle.std.proofs.lemmas.List.{drop_more}
+use Rattle.toml.specs.Data.{item, table, Items}
+use Rattle.toml.specs.View.{view, items_view, members_view}
+use Rattle.toml.specs.declared.value.Value.{Value, Table}
+use Rattle.toml.proofs.Views.{items_view-drop, view-Table}
+use Rattle.lf_scenario.specs.declared.links.Link.{Link}
+use Rattle.lf_scenario.specs.Values.{◌>>=◌}
+use Rattle.lf_scenario.specs.LinkTables.{link_in, links_from, IsLink}
+
+-- the first of the items is a table
+shape : (vs : List Value) (i : ℕ) (v : Value) (t : BTreeMap (String Global) Value) → i < length vs → v ≡ get_or vs i v → v ≡ Table t
+    → items_view (drop i vs) ≡ item (table (members_view t.entries)) (items_view (drop (i + 1) vs))
+shape vs i v t within here is =
+    items_view-drop vs i v within
+    ∙ ap (λ d. item d (items_view (drop (i + 1) vs))) (ap view (sym here ∙ is) ∙ view-Table t)
+
+-- its link is read, and the rest goes on from there
+pub links_from-step : (nodes least spread : ℕ) (before after : List Link) (vs : List Value) (i : ℕ) (v : Value) (t : BTreeMap (String Global) Value) (link : Link)
+    → i < length vs → v ≡ get_or vs i v → v ≡ Table t
+    → Ok link ≡ link_in nodes least spread before (members_view t.entries) → after ≡ before ++ link ∷ []
+    → links_from nodes least spread after (items_view (drop (i + 1) vs)) ≡ links_from nodes least spread before (items_view (drop i vs))
+links_from-step nodes least spread before after vs i v t link within here is read pushed =
+    let rest : Items = items_view (drop (i + 1) vs) in
+    ap (λ b. links_from nodes least spread b rest) pushed
+    ∙ ap (λ r. r >>= (λ l. links_from nodes least spread (before ++ l ∷ []) rest)) read
+    ∙ sym (ap (links_from nodes least spread before) (shape vs i v t within here is))
+
+-- a link's own delay at its ends, and the one before elsewhere
+chosen : (from to n m own old new : ℕ) → (n ≡ from → m ≡ to → new ≡ own) → ((n ≡ from → m ≡ to → ⊥) → new ≡ old)
+    → cond ((from == n) && (to == m)) own old ≡ new
+chosen from to n m own old new here others =
+    elim (cases_eq from n) [
+      | inr apart ↦ rw (ne_eqb from n apart) (sym (others (λ same _. apart (sym same))))
+      | inl same ↦
+          elim (cases_eq to m) [
+            | inr apart ↦ rw (and_right (from == n) (to == m) (ne_eqb to m apart)) (sym (others (λ _ equal. apart (sym equal))))
+            | inl equal ↦ rw (eq-eqb from n same, eq-eqb to m equal) (sym (here (sym same) (sym equal)))
+          ]
+    ]
+
+-- one link more is put among the delays
+pub given-step : (after : ℕ → Link → ℕ) (old new whole : ℕ) (links : List Link) (i : ℕ) (d : Link) → i < length links
+    → after old (get_or links i d) ≡ new → fold after old (drop i links) ≡ whole → fold after new (drop (i + 1) links) ≡ whole
+given-step after old new whole links i d within put same =
+    ap (λ x. fold after x (drop (i + 1) links)) (sym put)
+    ∙ sym (ap (fold after old) (drop_more links i d within))
+    ∙ same
+
+pub own_delay : (from to n m own old new : ℕ) (delay : ℕ → ℕ → ℕ) → delay n m ≡ new → delay from to ≡ own → ((n ≡ from → m ≡ to → ⊥) → new ≡ old)
+    → cond ((from == n) && (to == m)) own old ≡ new
+own_delay from to n m own old new delay is here others =
+    chosen from to n m own old new (λ same equal. sym is ∙ ap (λ k. delay k m) same ∙ ap (delay from) equal ∙ here) others

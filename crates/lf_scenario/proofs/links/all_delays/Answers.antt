@@ -1,0 +1,26 @@
+use Rattle.std.proofs.Common.{ℕ, ◌<◌, length, get_or, refl, arith}
+use Rattle.lf_latency.specs.Links.{least_of, spread_of, IsPair}
+use Rattle.lf_scenario.specs.declared.links.Link.{Link}
+use Rattle.lf_scenario.specs.LinkTables.{least_after, spread_after, least_given, spread_given, IsLink}
+use Rattle.lf_scenario.proofs.LinkSteps.{given-step, own_delay}
+use Rattle.lf_scenario.proofs.links.all_delays.Goals as goal
+
+pub links-preserved : goal.links-preserved
+links-preserved c =
+    let d : Link = record { from = 0; to = 0; least = 0; spread = 0 } in
+    let links = c.args.given.now in
+    let i = c.links.link-index in
+    let within : i < length links = omega arith in
+    let link : Link = get_or links i d in
+    let old = c.links.delays in
+    let new = c.with-delays.result in
+    let put = c.with-delays.ensures in
+    record {
+      form = put.form c.args.nodes c.links.invariant.form (c.requires.links i d within).pair;
+      least = λ n m pair. given-step (least_after n m) (least_of old n m) (least_of new n m) _ links i d within
+          (own_delay link.from link.to n m link.least (least_of old n m) (least_of new n m) (least_of new) refl put.least_here (λ other. (put.others n m other).0))
+          (c.links.invariant.least n m pair);
+      spread = λ n m pair. given-step (spread_after n m) (spread_of old n m) (spread_of new n m) _ links i d within
+          (own_delay link.from link.to n m link.spread (spread_of old n m) (spread_of new n m) (spread_of new) refl put.spread_here (λ other. (put.others n m other).1))
+          (c.links.invariant.spread n m pair);
+    }

@@ -1,0 +1,105 @@
+-- The reading of a scenario, as the table of its keys.
+--
+-- The keys are read from top to bottom, and the first that is refused is the refusal. A line says of its key whether it
+-- has to be there, what it takes, and what stands for it where it is missing:
+--
+--     required    the key has to be there
+--     optional    the last word of the line stands for a missing key
+--     owned       the key has to be there where the protocol has it, and may not be there where it hasn't
+--     unowned     no protocol has the key
+--
+-- A key is refused as one of another protocol, then as missing, then for its kind, then for its value.
+use Rattle.std.specs.Prelude.{ℕ, ◌-◌, Bool, true, false, if◌then◌else◌, List, replicate, codes, Result, Ok, Err}
+use Rattle.std.specs.Str.{bytes_eq}
+use Rattle.toml.specs.Data.{Data, string, integer, float, boolean, datetime, array, table, Members}
+use Rattle.lf_faults.specs.Allowed.{Bounds}
+use Rattle.lf_protocols.specs.declared.protocol.Kind.{Kind}
+use Rattle.lf_protocols.specs.declared.protocol.Kind.TheVariants as kinds
+use Rattle.lf_scenario.specs.declared.key.Key.{Key}
+use Rattle.lf_scenario.specs.declared.key.Key.TheVariants.{Nodes, Horizon, LastOmission, Crashes, Budget, Pauses, PauseLength, MaxSets, Seed, Least, Spread, Protocol, Tries, Patience, Votes, Outcome, Links}
+use Rattle.lf_scenario.specs.declared.error.ScenarioError.{ScenarioError}
+use Rattle.lf_scenario.specs.declared.error.ScenarioError.TheVariants as refusals
+use Rattle.lf_scenario.specs.declared.names.ProtocolName.{ProtocolName}
+use Rattle.lf_scenario.specs.declared.names.ProtocolName.TheVariants as protocols
+use Rattle.lf_scenario.specs.declared.names.OutcomeName.{OutcomeName}
+use Rattle.lf_scenario.specs.declared.names.OutcomeName.TheVariants as outcomes
+use Rattle.lf_scenario.specs.declared.reading.Delays.{Delays}
+use Rattle.lf_scenario.specs.declared.reading.Described.{Described}
+use Rattle.lf_scenario.specs.Values.{Reading, ◌>>=◌, whole, seed_in, required, optional, owned, unowned, known}
+
+-- the protocols, by their names
+abbrev pub protocol_of : List ℕ → Reading ProtocolName
+protocol_of name =
+    if bytes_eq name (codes "retry") then Ok protocols.Retry
+    else if bytes_eq name (codes "redundant") then Ok protocols.Redundant
+    else Err refusals.Protocol
+
+-- which protocols have which of their keys
+abbrev pub has_tries : ProtocolName → Bool
+has_tries protocols.Retry = true
+has_tries protocols.Redundant = true
+
+abbrev pub has_patience : ProtocolName → Bool
+has_patience protocols.Retry = false
+has_patience protocols.Redundant = false
+
+-- the protocol with its settings
+abbrev pub kind_of : ProtocolName → ℕ → ℕ → Kind
+kind_of protocols.Retry nodes tries = kinds.Retry nodes tries
+kind_of protocols.Redundant nodes tries = kinds.Redundant nodes tries
+
+-- the outcomes of a protocol, by their names
+abbrev pub outcome_of : Kind → List ℕ → Reading OutcomeName
+outcome_of (kinds.Retry nodes tries) name = if bytes_eq name (codes "delivered") then Ok outcomes.Delivered else Err refusals.Outcome
+outcome_of (kinds.Redundant nodes tries) name = if bytes_eq name (codes "delivered") then Ok outcomes.Delivered else Err refusals.Outcome
+
+-- the text of a protocol's name
+abbrev pub protocol_in : Key → Data → Reading ProtocolName
+protocol_in key (string name) = protocol_of name
+protocol_in key _ = Err (refusals.WrongKind key)
+
+-- the text of an outcome's name, or a list
+abbrev pub outcome_in : Kind → Key → Data → Reading OutcomeName
+outcome_in k key (string name) = outcome_of k name
+outcome_in k key (array parts) = Err refusals.Formula
+outcome_in k key _ = Err (refusals.WrongKind key)
+
+-- nodes, steps, and bounds on faults
+unfoldable pub bounds_in : Members → Reading Bounds
+bounds_in ms = do
+  nodes ← required ms Nodes (whole 2 8)
+  horizon ← required ms Horizon (whole 1 48)
+  last_omission ← required ms LastOmission (whole 0 (horizon - 1))
+  crashes ← required ms Crashes (whole 0 nodes)
+  budget ← required ms Budget (whole 0 6)
+  pauses ← optional ms Pauses (whole 0 nodes) 0
+  pause_length ← optional ms PauseLength (whole 1 8) 1
+  Ok (record { nodes = nodes; horizon = horizon; last_omission = last_omission; crashes = crashes; budget = budget; pauses = pauses; pause_length = pause_length })
+
+-- what decides when notes arrive, but for the links that have delays of their own
+unfoldable pub delays_in : Members → Reading Delays
+delays_in ms = do
+  seed ← optional ms Seed seed_in (replicate 32 0)
+  least ← optional ms Least (whole 1 16) 1
+  spread ← optional ms Spread (whole 0 15) 0
+  Ok (record { seed = seed; least = least; spread = spread })
+
+-- the protocol among so many nodes
+unfoldable pub kind_in : ℕ → Members → Reading Kind
+kind_in nodes ms = do
+  name ← required ms Protocol protocol_in
+  tries ← owned (has_tries name) ms Tries (whole 1 48) 0
+  patience ← owned (has_patience name) ms Patience (whole 1 48) 0
+  votes ← unowned ms Votes
+  Ok (kind_of name nodes tries)
+
+-- all that a scenario says but its links
+unfoldable pub described_in : Members → Reading Described
+described_in ms = do
+  all ← known ms
+  bounds ← bounds_in ms
+  max_sets ← optional ms MaxSets (whole 1 1000000) 100000
+  delays ← delays_in ms
+  kind ← kind_in bounds.nodes ms
+  outcome ← required ms Outcome (outcome_in kind)
+  Ok (record { bounds = bounds; max_sets = max_sets; delays = delays; protocol = kind; outcome = outcome })

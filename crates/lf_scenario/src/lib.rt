@@ -1,0 +1,24 @@
+//! The reader of scenarios, which are TOML texts.
+//!
+//! A scenario says which protocol runs, among how many nodes and on which network, how many faults there may be, and
+//! what the protocol promises. `specs/Reading.antt` has the table of its keys.
+#![tactic(auto)]
+
+mod error;
+mod key;
+mod links;
+mod names;
+mod reader;
+mod reading;
+mod scenario;
+mod value;
+
+pub use error::ScenarioError;
+pub use key::Key;
+pub use links::Link;
+pub use names::{OutcomeName, ProtocolName};
+pub use reader::{LONGEST, read};
+pub use scenario::Scenario;
+
+#[cfg(test)]
+mod tests;

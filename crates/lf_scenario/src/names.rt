@@ -1,0 +1,17 @@
+//! What a scenario names.
+
+/// A protocol.
+#[derive(Clone, Copy, Debug, PartialEq, Eq)]
+pub enum ProtocolName {
+    /// Node 0 sends again, step after step.
+    Retry,
+    /// Each node sends on what it has.
+    Redundant,
+}
+
+/// What a protocol promises.
+#[derive(Clone, Copy, Debug, PartialEq, Eq)]
+pub enum OutcomeName {
+    /// All nodes that are up have the data, or none has.
+    Delivered,
+}

@@ -1,0 +1,303 @@
+//! Worked examples of texts, and what is read of them.
+
+use crate::{Key, LONGEST, OutcomeName, ScenarioError, read};
+use lf_protocols::Kind;
+use std::alloc::{AllocError, Global};
+use std::test::Fail;
+
+/// The lines of a scenario, in the order of its keys.
+const LINES: [&str; 8] = [
+    "nodes = 3",
+    "horizon = 4",
+    "last_omission = 3",
+    "crashes = 0",
+    "budget = 2",
+    "protocol = \"retry\"",
+    "tries = 1",
+    "outcome = \"delivered\"",
+];
+
+/// The text with the line at `place` changed, and with more at its end.
+fn text(alloc: Global, place: usize, line: &str, more: &str) -> Result<String, AllocError> {
+    let mut text = String::new(alloc);
+    for (i, kept) in LINES.iter().enumerate() {
+        text.push_str(if i == place { line } else { kept })?;
+        text.push('\n')?;
+    }
+    text.push_str(more)?;
+    Ok(text)
+}
+
+/// The number of the refusal and its key. None where the text is read.
+fn refusal(alloc: Global, text: &[u8]) -> Option<(u32, Option<Key>)> {
+    match read(alloc, text) {
+        Ok(_) => None,
+        Err(e) => Some((e.number(), e.key())),
+    }
+}
+
+#[test]
+fn a_scenario_is_read(rt: HostRuntime) -> Result<(), Fail> {
+    let text = text(rt.alloc(), 8, "", "")?;
+    let scenario = read(rt.alloc(), text.as_bytes())?;
+    assert_eq!(rt;
+        scenario.protocol.kind(),
+        Kind::Retry { nodes: 3, tries: 1 }
+    );
+    assert_eq!(rt; scenario.bounds.last_omission(), 3);
+    assert_eq!(rt; scenario.bounds.crashes(), 0);
+    assert_eq!(rt; scenario.bounds.budget(), 2);
+    assert_eq!(rt; scenario.bounds.pauses(), 0);
+    assert_eq!(rt; scenario.bounds.pause_length(), 1);
+    assert_eq!(rt; scenario.network.nodes(), 3);
+    assert_eq!(rt; scenario.network.horizon(), 4);
+    assert_eq!(rt; scenario.network.least(0, 2), 1);
+    assert_eq!(rt; scenario.network.arrival(0, 2, 1), 2);
+    assert_eq!(rt; scenario.outcome, OutcomeName::Delivered);
+    assert_eq!(rt; scenario.max_sets, 100_000);
+    Ok(())
+}
+
+#[test]
+fn optional_keys_are_read(rt: HostRuntime) -> Result<(), Fail> {
+    let text = text(
+        rt.alloc(),
+        5,
+        "protocol = \"redundant\"",
+        "pauses = 2\npause_length = 8\nmax_sets = 1_0\nleast = 0x2\nspread = +3\nseed = \"000102030405060708090a0b0c0d0e0f101112131415161718191a1b1c1d1E1F\"\nlinks = [{from = 0, to = 2, least = 4}, {to = 0, from = 2, spread = 0}]\n",
+    )?;
+    let scenario = read(rt.alloc(), text.as_bytes())?;
+    assert_eq!(rt;
+        scenario.protocol.kind(),
+        Kind::Redundant { nodes: 3, tries: 1 }
+    );
+    assert_eq!(rt; scenario.bounds.pauses(), 2);
+    assert_eq!(rt; scenario.bounds.pause_length(), 8);
+    assert_eq!(rt; scenario.max_sets, 10);
+    let seed = scenario.network.seed();
+    for (i, byte) in seed.iter().enumerate() {
+        assert_eq!(rt; usize::from(*byte), i);
+    }
+    let network = scenario.network;
+    assert_eq!(rt; (network.least(0, 2), network.spread(0, 2)), (4, 3));
+    assert_eq!(rt; (network.least(2, 0), network.spread(2, 0)), (2, 0));
+    assert_eq!(rt; (network.least(0, 1), network.spread(0, 1)), (2, 3));
+    Ok(())
+}
+
+#[test]
+fn keys_are_refused(rt: HostRuntime) -> Result<(), Fail> {
+    let alloc = rt.alloc();
+    for (place, line, number, key) in [
+        (0, "nodes = 9", 6, Some(Key::Nodes)),
+        (0, "nodes = -0", 6, Some(Key::Nodes)),
+        (0, "nodes = 9223372036854775808", 2, None),
+        (0, "nodes = 03", 2, None),
+        (0, "nodes = 3\nnodes = 3", 2, None),
+        (0, "", 3, Some(Key::Nodes)),
+        (1, "horizon = 49", 6, Some(Key::Horizon)),
+        (1, "horizon = true", 5, Some(Key::Horizon)),
+        (2, "last_omission = 4", 6, Some(Key::LastOmission)),
+        (2, "last_omission = -1", 6, Some(Key::LastOmission)),
+        (3, "crashes = 4", 6, Some(Key::Crashes)),
+        (4, "budget = 2.0", 5, Some(Key::Budget)),
+        (4, "budget = nan", 5, Some(Key::Budget)),
+        (4, "budget = 2026-11-22", 5, Some(Key::Budget)),
+        (4, "budget = 7", 6, Some(Key::Budget)),
+        (5, "protocol = \"raft\"", 9, Some(Key::Protocol)),
+        (5, "protocol = \"two_phase\"", 9, Some(Key::Protocol)),
+        (5, "protocol = 1", 5, Some(Key::Protocol)),
+        (6, "", 3, Some(Key::Tries)),
+        (6, "tries = 49", 6, Some(Key::Tries)),
+        (7, "", 3, Some(Key::Outcome)),
+        (7, "outcome = \"agreement\"", 10, Some(Key::Outcome)),
+        (
+            7,
+            "outcome = [\"shows\", 0, 5, \"has\"]",
+            11,
+            Some(Key::Outcome),
+        ),
+        (7, "outcome = {}", 5, Some(Key::Outcome)),
+    ] {
+        let text = text(alloc, place, line, "")?;
+        assert_eq!(rt;
+            refusal(alloc, text.as_bytes()),
+            Some((number, key)),
+            "at {line}"
+        );
+    }
+    Ok(())
+}
+
+#[test]
+fn more_keys_are_refused(rt: HostRuntime) -> Result<(), Fail> {
+    let alloc = rt.alloc();
+    for (more, number, key) in [
+        ("color = 1", 4, None),
+        ("pauses = 4", 6, Some(Key::Pauses)),
+        ("pause_length = 9", 6, Some(Key::PauseLength)),
+        ("pause_length = 0", 6, Some(Key::PauseLength)),
+        ("max_sets = 0", 6, Some(Key::MaxSets)),
+        ("max_sets = 1000001", 6, Some(Key::MaxSets)),
+        ("seed = \"00\"", 7, Some(Key::Seed)),
+        (
+            "seed = \"000102030405060708090a0b0c0d0e0f101112131415161718191a1b1c1d1e1g\"",
+            7,
+            Some(Key::Seed),
+        ),
+        ("seed = 0", 5, Some(Key::Seed)),
+        ("least = 17", 6, Some(Key::Least)),
+        ("spread = 16", 6, Some(Key::Spread)),
+        ("patience = 3", 4, Some(Key::Patience)),
+        ("votes = [true]", 4, Some(Key::Votes)),
+        ("spread = 16\ncolour = 1", 4, None),
+        ("# \u{e9}\nnodes", 2, None),
+    ] {
+        let text = text(alloc, 8, "", more)?;
+        assert_eq!(rt;
+            refusal(alloc, text.as_bytes()),
+            Some((number, key)),
+            "at {more}"
+        );
+    }
+    Ok(())
+}
+
+#[test]
+fn links_are_refused(rt: HostRuntime) -> Result<(), Fail> {
+    let alloc = rt.alloc();
+    for (links, number) in [
+        ("[{from = 0, to = 9}, 3]", 5),
+        ("{from = 0, to = 1}", 5),
+        ("[{from = 9, to = 0, least = 17}]", 6),
+        ("[{from = \"0\"}]", 5),
+        ("[{from = 0}]", 3),
+        ("[{to = 0}]", 3),
+        ("[{from = 0, to = 1, spread = -1}]", 6),
+        ("[{from = 0, to = 1, colour = 1.5}]", 4),
+        ("[{from = 1, to = 1}]", 8),
+        ("[{from = -1, to = 1}]", 8),
+        ("[{from = 0, to = 3}]", 8),
+        ("[{from = 4294967296, to = 1}]", 8),
+        (
+            "[{from = 0, to = 1}, {from = 1, to = 0}, {from = 0, to = 1}]",
+            8,
+        ),
+        ("[{from = 1, to = 1}, {from = 0}]", 8),
+    ] {
+        let line = format!(in alloc; "links = {links}")?;
+        let text = text(alloc, 8, "", line.as_str())?;
+        let expected = Some((number, Some(Key::Links)));
+        assert_eq!(rt; refusal(alloc, text.as_bytes()), expected, "at {links}");
+    }
+    Ok(())
+}
+
+#[test]
+fn keys_behind_a_table_are_its_own(rt: HostRuntime) -> Result<(), Fail> {
+    let alloc = rt.alloc();
+    let inside = text(
+        alloc,
+        7,
+        "[[links]]\nfrom = 0\nto = 1\noutcome = \"delivered\"",
+        "",
+    )?;
+    assert_eq!(rt;
+        refusal(alloc, inside.as_bytes()),
+        Some((3, Some(Key::Outcome)))
+    );
+    let behind = text(alloc, 8, "", "[[links]]\nfrom = 0\nto = 2\nleast = 4\n")?;
+    let network = read(alloc, behind.as_bytes())?.network;
+    assert_eq!(rt; network.nodes(), 3);
+    assert_eq!(rt; network.horizon(), 4);
+    assert_eq!(rt; network.arrival(0, 2, 1), 5);
+    Ok(())
+}
+
+#[test]
+fn each_prefix_lacks_the_next_key(rt: HostRuntime) -> Result<(), Fail> {
+    let alloc = rt.alloc();
+    let missing = [
+        Some((3, Some(Key::Nodes))),
+        Some((3, Some(Key::Horizon))),
+        Some((3, Some(Key::LastOmission))),
+        Some((3, Some(Key::Crashes))),
+        Some((3, Some(Key::Budget))),
+        Some((3, Some(Key::Protocol))),
+        Some((3, Some(Key::Tries))),
+        Some((3, Some(Key::Outcome))),
+        None,
+    ];
+    let mut prefix = Vec::new(alloc);
+    assert_eq!(rt;
+        refusal(alloc, prefix.as_slice()),
+        Some((3, Some(Key::Nodes)))
+    );
+    for (line, (before, after)) in LINES.iter().zip(missing.iter().zip(missing[1..].iter())) {
+        assert_eq!(rt; refusal(alloc, prefix.as_slice()), *before, "before {line}");
+        for (i, byte) in line.bytes().enumerate() {
+            prefix.push(byte)?;
+            let whole = i + 1 == line.len();
+            let expected = if whole { *after } else { Some((2, None)) };
+            assert_eq!(rt;
+                refusal(alloc, prefix.as_slice()),
+                expected,
+                "at {i} of {line}"
+            );
+        }
+        prefix.push(b'\n')?;
+    }
+    Ok(())
+}
+
+#[test]
+fn long_texts_are_refused(rt: HostRuntime) -> Result<(), Fail> {
+    let alloc = rt.alloc();
+    let mut text = Vec::new(alloc);
+    for byte in text_of_all(alloc)?.bytes() {
+        text.push(byte)?;
+    }
+    text.push(b'#')?;
+    for _ in text.len()..LONGEST {
+        text.push(b' ')?;
+    }
+    assert_eq!(rt; refusal(alloc, text.as_slice()), None);
+    text.push(b' ')?;
+    assert_eq!(rt; refusal(alloc, text.as_slice()), Some((1, None)));
+    assert_eq!(rt; refusal(alloc, b"nodes = 3\n# \xff"), Some((2, None)));
+    for deep in [b'[', b'{'] {
+        let mut text = Vec::new(alloc);
+        for byte in b"nodes = " {
+            text.push(*byte)?;
+        }
+        for _ in text.len()..LONGEST {
+            text.push(deep)?;
+        }
+        assert_eq!(rt; refusal(alloc, text.as_slice()), Some((2, None)));
+    }
+    Ok(())
+}
+
+/// The whole text.
+fn text_of_all(alloc: Global) -> Result<String, AllocError> {
+    text(alloc, 8, "", "")
+}
+
+#[test]
+fn refusals_are_told_in_words(rt: HostRuntime) -> Result<(), Fail> {
+    let alloc = rt.alloc();
+    for (refusal, words) in [
+        (
+            ScenarioError::OutOfRange(Key::Nodes),
+            "a number of `nodes` is out of range: it takes a whole number from 2 to 8",
+        ),
+        (
+            ScenarioError::Missing(Key::Protocol),
+            "the key `protocol` is missing: it takes a text: \"retry\" or \"redundant\"",
+        ),
+        (ScenarioError::NoDocument, "the text is not TOML"),
+    ] {
+        assert_eq!(rt; format!(in alloc; "{refusal}")?.as_str(), words);
+    }
+    Ok(())
+}
