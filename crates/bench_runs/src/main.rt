@@ -5,7 +5,7 @@
 //! `rerun` gives one run's memory to the next. FAULTS is how many faults each set has, 0 to 6.
 #![tactic(auto)]
 
-ghost use Rattle.std.specs.Prelude.{◌≡◌, ◌≤◌, ◌<◌};
+ghost use Rattle.std.specs.Prelude.{◌≡◌};
 ghost use Rattle.bench_runs.specs.Chatter.{heard};
 
 use lf_faults::{Fault, FaultSet, FaultSpec};
@@ -39,13 +39,7 @@ impl Machine for Chatter {
         node
     }
 
-    fn step(
-        &self,
-        node: u32,
-        _t: u32,
-        state: u32,
-        inbox: &[Letter<u32>],
-    ) -> Stepped<u32, u32> {
+    fn step(&self, node: u32, _t: u32, state: u32, inbox: &[Letter<u32>]) -> Stepped<u32, u32> {
         let number = sum(state, inbox);
         Stepped {
             state: number,
@@ -94,7 +88,9 @@ fn set_of(number: u32, faults: u32) -> FaultSet {
     ];
     let mut set = FaultSet::empty();
     for (k, fault) in (0..6).zip(all) {
-        if k < faults && let Some(fault) = fault {
+        if k < faults
+            && let Some(fault) = fault
+        {
             set = set.insert(fault).unwrap_or(set);
         }
     }
@@ -105,7 +101,9 @@ fn set_of(number: u32, faults: u32) -> FaultSet {
 fn weigh(found: &Run<Chatter>) -> u32 {
     let mut weight = 0u32;
     for node in 0..found.nodes() {
-        weight = weight.wrapping_mul(31).wrapping_add(found.state(node, found.horizon()));
+        weight = weight
+            .wrapping_mul(31)
+            .wrapping_add(found.state(node, found.horizon()));
     }
     weight
 }
