@@ -1,6 +1,6 @@
 -- One table more among those of links.
-use Rattle.std.proofs.Common.{◌≡◌, ℕ, ◌+◌, ◌<◌, ◌==◌, ◌&&◌, cond, List, [], ◌∷◌, ◌++◌, length, get_or, drop, fold, Ok, String, BTreeMap, Global, inl, inr, refl, sym, ap, ◌∙◌, arith}
-use Rattle.std.proofs.lemmas.Bool.{cases_eq, eq-eqb, ne_eqb, and_left, and_right}
+use Rattle.std.proofs.Common.{◌≡◌, ℕ, ◌+◌, ◌<◌, ◌==◌, ◌&&◌, cond, List, [], ◌∷◌, ◌++◌, length, get_or, drop, fold, Ok, String, BTreeMap, Global, inl, inr, sym, ap, ◌∙◌}
+use Rattle.std.proofs.lemmas.Bool.{cases_eq, eq-eqb, ne_eqb, and_right}
 use Rattle.std.proofs.lemmas.List.{drop_more}
 use Rattle.toml.specs.Data.{item, table, Items}
 use Rattle.toml.specs.View.{view, items_view, members_view}
@@ -8,7 +8,7 @@ use Rattle.toml.specs.declared.value.Value.{Value, Table}
 use Rattle.toml.proofs.Views.{items_view-drop, view-Table}
 use Rattle.lf_scenario.specs.declared.links.Link.{Link}
 use Rattle.lf_scenario.specs.Values.{◌>>=◌}
-use Rattle.lf_scenario.specs.LinkTables.{link_in, links_from, IsLink}
+use Rattle.lf_scenario.specs.LinkTables.{link_in, links_from}
 
 -- the first of the items is a table
 shape : (vs : List Value) (i : ℕ) (v : Value) (t : BTreeMap (String Global) Value) → i < length vs → v ≡ get_or vs i v → v ≡ Table t

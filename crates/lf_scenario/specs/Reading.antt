@@ -9,15 +9,14 @@
 --     unowned     no protocol has the key
 --
 -- A key is refused as one of another protocol, then as missing, then for its kind, then for its value.
-use Rattle.std.specs.Prelude.{ℕ, ◌-◌, Bool, true, false, if◌then◌else◌, List, replicate, codes, Result, Ok, Err}
+use Rattle.std.specs.Prelude.{ℕ, ◌-◌, Bool, true, false, if◌then◌else◌, List, replicate, codes, Ok, Err}
 use Rattle.std.specs.Str.{bytes_eq}
-use Rattle.toml.specs.Data.{Data, string, integer, float, boolean, datetime, array, table, Members}
+use Rattle.toml.specs.Data.{Data, string, array, Members}
 use Rattle.lf_faults.specs.Allowed.{Bounds}
 use Rattle.lf_protocols.specs.declared.protocol.Kind.{Kind}
 use Rattle.lf_protocols.specs.declared.protocol.Kind.TheVariants as kinds
 use Rattle.lf_scenario.specs.declared.key.Key.{Key}
-use Rattle.lf_scenario.specs.declared.key.Key.TheVariants.{Nodes, Horizon, LastOmission, Crashes, Budget, Pauses, PauseLength, MaxSets, Seed, Least, Spread, Protocol, Tries, Patience, Votes, Outcome, Links}
-use Rattle.lf_scenario.specs.declared.error.ScenarioError.{ScenarioError}
+use Rattle.lf_scenario.specs.declared.key.Key.TheVariants.{Nodes, Horizon, LastOmission, Crashes, Budget, Pauses, PauseLength, MaxSets, Seed, Least, Spread, Protocol, Tries, Patience, Votes, Outcome}
 use Rattle.lf_scenario.specs.declared.error.ScenarioError.TheVariants as refusals
 use Rattle.lf_scenario.specs.declared.names.ProtocolName.{ProtocolName}
 use Rattle.lf_scenario.specs.declared.names.ProtocolName.TheVariants as protocols

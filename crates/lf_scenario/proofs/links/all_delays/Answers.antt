@@ -1,7 +1,7 @@
-use Rattle.std.proofs.Common.{ℕ, ◌<◌, length, get_or, refl, arith}
-use Rattle.lf_latency.specs.Links.{least_of, spread_of, IsPair}
+use Rattle.std.proofs.Common.{◌<◌, length, get_or, refl, arith}
+use Rattle.lf_latency.specs.Links.{least_of, spread_of}
 use Rattle.lf_scenario.specs.declared.links.Link.{Link}
-use Rattle.lf_scenario.specs.LinkTables.{least_after, spread_after, least_given, spread_given, IsLink}
+use Rattle.lf_scenario.specs.LinkTables.{least_after, spread_after}
 use Rattle.lf_scenario.proofs.LinkSteps.{given-step, own_delay}
 use Rattle.lf_scenario.proofs.links.all_delays.Goals as goal
 

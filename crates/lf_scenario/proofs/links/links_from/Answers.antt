@@ -1,6 +1,5 @@
-use Rattle.std.proofs.Common.{rules, ◌≡◌, ◌∙◌, List, [], ◌∷◌, ◌++◌, All, arith}
+use Rattle.std.proofs.Common.{rules, ◌≡◌, ◌∙◌, [], ◌∷◌, ◌++◌, arith}
 use Rattle.std.proofs.lemmas.Grind.{common_steps}
-use Rattle.lf_scenario.specs.LinkTables.{links_from, IsLink}
 use Rattle.lf_scenario.proofs.LinkSteps.{links_from-step}
 use Rattle.lf_scenario.proofs.links.links_from.Goals as goal
 
