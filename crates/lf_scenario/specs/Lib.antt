@@ -5,3 +5,4 @@ pub mod Reading
 pub mod LinkTables
 pub mod Ranges
 pub mod Scenarios
+pub mod Sameness

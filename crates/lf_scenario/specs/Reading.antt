@@ -20,8 +20,8 @@ use Rattle.lf_scenario.specs.declared.key.Key.TheVariants.{Nodes, Horizon, LastO
 use Rattle.lf_scenario.specs.declared.error.ScenarioError.TheVariants as refusals
 use Rattle.lf_scenario.specs.declared.names.ProtocolName.{ProtocolName}
 use Rattle.lf_scenario.specs.declared.names.ProtocolName.TheVariants as protocols
-use Rattle.lf_scenario.specs.declared.names.OutcomeName.{OutcomeName}
-use Rattle.lf_scenario.specs.declared.names.OutcomeName.TheVariants as outcomes
+use Rattle.lf_outcome.specs.declared.outcome.Outcome.{Outcome as OutcomeName}
+use Rattle.lf_outcome.specs.declared.outcome.Outcome.TheVariants as outcomes
 use Rattle.lf_scenario.specs.declared.reading.Delays.{Delays}
 use Rattle.lf_scenario.specs.declared.reading.Described.{Described}
 use Rattle.lf_scenario.specs.Values.{Reading, ◌>>=◌, whole, seed_in, required, optional, owned, unowned, known}

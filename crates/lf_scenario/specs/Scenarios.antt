@@ -3,6 +3,7 @@ use Rattle.std.specs.Prelude.{◌≡◌, ℕ, List, [], Some, Ok, IsUtf8}
 use Rattle.toml.specs.Data.{Members}
 use Rattle.toml.specs.Parse.{parse_document}
 use Rattle.lf_latency.specs.Links.{IsPair, least_of, spread_of}
+use Rattle.lf_outcome.specs.Named.{formula_of}
 use Rattle.lf_scenario.specs.declared.key.Key.TheVariants.{Links}
 use Rattle.lf_scenario.specs.declared.links.Link.{Link}
 use Rattle.lf_scenario.specs.declared.reading.Described.{Described}
@@ -30,17 +31,17 @@ asked_in ms = do
 
 -- the scenario is the one that is asked for
 pub record IsScenario (asked : Asked) (s : Scenario) : Type 0 where
-  pub protocol : s.protocol ≡ asked.described.protocol
-  pub bounds : s.bounds ≡ asked.described.bounds
-  pub outcome : s.outcome ≡ asked.described.outcome
+  pub protocol : s.setting.machine ≡ asked.described.protocol
+  pub bounds : s.setting.spec ≡ asked.described.bounds
+  pub formula : s.formula ≡ formula_of asked.described.outcome asked.described.bounds.nodes asked.described.bounds.horizon
   pub max_sets : s.max_sets ≡ asked.described.max_sets
-  pub nodes : s.network.nodes ≡ asked.described.bounds.nodes
-  pub horizon : s.network.horizon ≡ asked.described.bounds.horizon
-  pub seed : s.network.seed ≡ asked.described.delays.seed
+  pub nodes : s.setting.network.nodes ≡ asked.described.bounds.nodes
+  pub horizon : s.setting.network.horizon ≡ asked.described.bounds.horizon
+  pub seed : s.setting.network.seed ≡ asked.described.delays.seed
   pub least : (n m : ℕ) → IsPair asked.described.bounds.nodes n m →
-      least_of s.network.links n m ≡ least_given asked.links asked.described.delays.least n m
+      least_of s.setting.network.links n m ≡ least_given asked.links asked.described.delays.least n m
   pub spread : (n m : ℕ) → IsPair asked.described.bounds.nodes n m →
-      spread_of s.network.links n m ≡ spread_given asked.links asked.described.delays.spread n m
+      spread_of s.setting.network.links n m ≡ spread_given asked.links asked.described.delays.spread n m
 
 -- the scenario that a table asks for
 pub record IsAskedBy (ms : Members) (s : Scenario) : Type 0 where

@@ -16,7 +16,7 @@ mod value;
 pub use error::ScenarioError;
 pub use key::Key;
 pub use links::Link;
-pub use names::{OutcomeName, ProtocolName};
+pub use names::ProtocolName;
 pub use reader::{LONGEST, read};
 pub use scenario::Scenario;
 

@@ -8,10 +8,3 @@ pub enum ProtocolName {
     /// Each node sends on what it has.
     Redundant,
 }
-
-/// What a protocol promises.
-#[derive(Clone, Copy, Debug, PartialEq, Eq)]
-pub enum OutcomeName {
-    /// All nodes that are up have the data, or none has.
-    Delivered,
-}

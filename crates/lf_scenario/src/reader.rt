@@ -11,6 +11,8 @@ use crate::links::{all_delays, read_links};
 use crate::reading::{Delays, Described, read_described};
 use crate::{Link, Scenario, ScenarioError};
 use lf_latency::Network;
+use lf_outcome::named;
+use lf_sim::Setting;
 use std::alloc::Global;
 use toml::Table;
 
@@ -48,14 +50,14 @@ fn read_table(alloc: Global, table: &Table) -> Result<Scenario, ScenarioError>
     let nodes = described.bounds.nodes();
     let delays = described.delays;
     let given = read_links(alloc, table, nodes, delays.least, delays.spread)?;
-    Ok(assembled(described, given.as_slice()))
+    assembled(alloc, described, given.as_slice())
 }
 
-/// The scenario of what was read.
-fn assembled(described: Described, given: &[Link]) -> Scenario
+/// The scenario of what was read. The error is that memory has run out.
+fn assembled(alloc: Global, described: Described, given: &[Link]) -> Result<Scenario, ScenarioError>
     requires ranges { IsInRange described }
     requires links { All (IsLink described.bounds.nodes) given.now }
-    ensures { IsScenario (record { described = described; links = given.now }) result }
+    ensures { MatchResult result (IsScenario (record { described = described; links = given.now })) (λ e. e ≡ ScenarioError.Memory) }
 {
     let bounds = described.bounds;
     let nodes = bounds.nodes();
@@ -66,11 +68,13 @@ fn assembled(described: Described, given: &[Link]) -> Scenario
         spread,
     } = described.delays;
     let links = all_delays(nodes, least, spread, given);
-    Scenario {
-        protocol: described.protocol,
-        network: Network::new(seed, links, nodes, horizon),
-        bounds,
-        outcome: described.outcome,
+    let network = Network::new(seed, links, nodes, horizon);
+    let Ok(formula) = named(alloc, described.outcome, nodes, horizon) else {
+        return Err(ScenarioError::Memory);
+    };
+    Ok(Scenario {
+        setting: Setting::new(described.protocol, network, bounds).unwrap(),
+        formula,
         max_sets: described.max_sets,
-    }
+    })
 }

@@ -8,12 +8,13 @@ ghost use Rattle.lf_scenario.specs.Ranges.{AreDelays, IsInRange};
 ghost use Rattle.lf_scenario.specs.Values.{required};
 ghost use Rattle.lf_scenario.specs.Reading.{protocol_in, has_tries, has_patience, kind_of, outcome_of, outcome_in, bounds_in, delays_in, kind_in, described_in};
 
-use crate::names::{OutcomeName, ProtocolName};
+use crate::names::ProtocolName;
 use crate::value::{
     at, known, optional_seed, optional_whole, owned_whole, required_whole, unowned,
 };
 use crate::{Key, ScenarioError};
 use lf_faults::FaultSpec;
+use lf_outcome::Outcome;
 use lf_protocols::{Kind, Protocol};
 use toml::{Table, Value};
 
@@ -32,7 +33,7 @@ pub struct Described {
     pub max_sets: u32,
     pub delays: Delays,
     pub protocol: Protocol,
-    pub outcome: OutcomeName,
+    pub outcome: Outcome,
 }
 
 /// Nodes, steps, and bounds on faults.
@@ -158,13 +159,13 @@ fn read_protocol(table: &Table, nodes: u32) -> Result<Protocol, ScenarioError>
 }
 
 /// The outcome of this name.
-fn outcome_name(name: &str, protocol: Protocol) -> Result<OutcomeName, ScenarioError>
+fn outcome_name(name: &str, protocol: Protocol) -> Result<Outcome, ScenarioError>
     ensures { result ≡ outcome_of protocol name.now }
 {
     match protocol.kind() {
         Kind::Retry { .. } | Kind::Redundant { .. } => {
             if name == "delivered" {
-                Ok(OutcomeName::Delivered)
+                Ok(Outcome::Delivered)
             } else {
                 Err(ScenarioError::Outcome)
             }
@@ -173,7 +174,7 @@ fn outcome_name(name: &str, protocol: Protocol) -> Result<OutcomeName, ScenarioE
 }
 
 /// An outcome.
-fn outcome(value: &Value, key: Key, protocol: Protocol) -> Result<OutcomeName, ScenarioError>
+fn outcome(value: &Value, key: Key, protocol: Protocol) -> Result<Outcome, ScenarioError>
     ensures { result ≡ outcome_in protocol key (view value.now) }
 {
     match value {
@@ -185,7 +186,7 @@ fn outcome(value: &Value, key: Key, protocol: Protocol) -> Result<OutcomeName, S
 
 /// The outcome of the table.
 #[tactic(auto, unfolding(crate::specs::Values::required))]
-fn required_outcome(table: &Table, protocol: Protocol) -> Result<OutcomeName, ScenarioError>
+fn required_outcome(table: &Table, protocol: Protocol) -> Result<Outcome, ScenarioError>
     ensures { result ≡ required (table_view table.now) Key.Outcome (outcome_in protocol) }
 {
     match at(table, Key::Outcome.name()) {

@@ -1,28 +1,53 @@
 //! Scenarios.
 
-ghost use Rattle.std.specs.Prelude.{◌≡◌, ◌≤◌};
-ghost use Rattle.lf_protocols.specs.Protocols.{nodes_of};
+ghost use Rattle.std.specs.Prelude.{◌≡◌, ◌≤◌, ◌↔◌, IsTrue};
 
-use crate::OutcomeName;
-use lf_faults::FaultSpec;
-use lf_latency::Network;
-use lf_protocols::Protocol;
+use lf_outcome::{Formula, same};
+use lf_protocols::{Fact, Protocol};
+use lf_sim::Setting;
 
 /// What runs, on which network, with how many faults, and what it promises.
-#[derive(Clone, Copy, Debug)]
+#[derive(Drop)]
 pub struct Scenario {
-    /// The protocol that runs.
-    pub protocol: Protocol,
-    /// The network that it runs on.
-    pub network: Network,
-    /// How many faults there may be.
-    pub bounds: FaultSpec,
-    /// What the protocol promises.
-    pub outcome: OutcomeName,
-    /// The most sets of faults of one size that the search keeps, 1..=1,000,000.
-    pub max_sets: u32,
-    ghost nodes_agree: { nodes_of protocol ≡ bounds.nodes },
-    ghost network_agrees: { network.nodes ≡ bounds.nodes },
-    ghost horizons_agree: { network.horizon ≡ bounds.horizon },
+    pub(crate) setting: Setting<Protocol>,
+    pub(crate) formula: Formula<Fact>,
+    pub(crate) max_sets: u32,
     ghost some_sets: { (1 ≤ max_sets) × (max_sets ≤ 1000000) },
+}
+
+impl Scenario {
+    ghost use Rattle.lf_scenario.specs.Sameness.{AreSame};
+
+    /// The protocol on its network, with bounds on its faults.
+    pub fn setting(&self) -> &Setting<Protocol>
+        ensures { result.now ≡ self.now.setting }
+    {
+        &self.setting
+    }
+
+    /// What the protocol promises.
+    pub fn formula(&self) -> &Formula<Fact>
+        ensures { result.now ≡ self.now.formula }
+    {
+        &self.formula
+    }
+
+    /// The most sets of faults of one size that the search keeps, 1..=1,000,000.
+    pub fn max_sets(&self) -> u32
+        ensures value { result ≡ self.now.max_sets }
+        ensures some { (1 ≤ result) × (result ≤ 1000000) }
+    {
+        self.max_sets
+    }
+
+    /// Whether two scenarios are equal by value: in their settings, their formulas and `max_sets`.
+    pub fn same(&self, other: &Scenario) -> bool
+        ensures { IsTrue result ↔ AreSame self.now other.now }
+    {
+        self.setting.machine == other.setting.machine
+            && self.setting.network.same(&other.setting.network)
+            && self.setting.spec == other.setting.spec
+            && same(&self.formula, &other.formula)
+            && self.max_sets == other.max_sets
+    }
 }

@@ -1,6 +1,7 @@
 //! Worked examples of texts, and what is read of them.
 
-use crate::{Key, LONGEST, OutcomeName, ScenarioError, read};
+use crate::{Key, LONGEST, ScenarioError, read};
+use lf_outcome::{Outcome, named, same as same_formula};
 use lf_protocols::Kind;
 use std::alloc::{AllocError, Global};
 use std::test::Fail;
@@ -41,20 +42,21 @@ fn a_scenario_is_read(rt: HostRuntime) -> Result<(), Fail> {
     let text = text(rt.alloc(), 8, "", "")?;
     let scenario = read(rt.alloc(), text.as_bytes())?;
     assert_eq!(rt;
-        scenario.protocol.kind(),
+        scenario.setting().machine.kind(),
         Kind::Retry { nodes: 3, tries: 1 }
     );
-    assert_eq!(rt; scenario.bounds.last_omission(), 3);
-    assert_eq!(rt; scenario.bounds.crashes(), 0);
-    assert_eq!(rt; scenario.bounds.budget(), 2);
-    assert_eq!(rt; scenario.bounds.pauses(), 0);
-    assert_eq!(rt; scenario.bounds.pause_length(), 1);
-    assert_eq!(rt; scenario.network.nodes(), 3);
-    assert_eq!(rt; scenario.network.horizon(), 4);
-    assert_eq!(rt; scenario.network.least(0, 2), 1);
-    assert_eq!(rt; scenario.network.arrival(0, 2, 1), 2);
-    assert_eq!(rt; scenario.outcome, OutcomeName::Delivered);
-    assert_eq!(rt; scenario.max_sets, 100_000);
+    assert_eq!(rt; scenario.setting().spec.last_omission(), 3);
+    assert_eq!(rt; scenario.setting().spec.crashes(), 0);
+    assert_eq!(rt; scenario.setting().spec.budget(), 2);
+    assert_eq!(rt; scenario.setting().spec.pauses(), 0);
+    assert_eq!(rt; scenario.setting().spec.pause_length(), 1);
+    assert_eq!(rt; scenario.setting().network.nodes(), 3);
+    assert_eq!(rt; scenario.setting().network.horizon(), 4);
+    assert_eq!(rt; scenario.setting().network.least(0, 2), 1);
+    assert_eq!(rt; scenario.setting().network.arrival(0, 2, 1), 2);
+    let delivered = named(rt.alloc(), Outcome::Delivered, 3, 4)?;
+    assert!(rt; same_formula(scenario.formula(), &delivered));
+    assert_eq!(rt; scenario.max_sets(), 100_000);
     Ok(())
 }
 
@@ -68,17 +70,17 @@ fn optional_keys_are_read(rt: HostRuntime) -> Result<(), Fail> {
     )?;
     let scenario = read(rt.alloc(), text.as_bytes())?;
     assert_eq!(rt;
-        scenario.protocol.kind(),
+        scenario.setting().machine.kind(),
         Kind::Redundant { nodes: 3, tries: 1 }
     );
-    assert_eq!(rt; scenario.bounds.pauses(), 2);
-    assert_eq!(rt; scenario.bounds.pause_length(), 8);
-    assert_eq!(rt; scenario.max_sets, 10);
-    let seed = scenario.network.seed();
+    assert_eq!(rt; scenario.setting().spec.pauses(), 2);
+    assert_eq!(rt; scenario.setting().spec.pause_length(), 8);
+    assert_eq!(rt; scenario.max_sets(), 10);
+    let seed = scenario.setting().network.seed();
     for (i, byte) in seed.iter().enumerate() {
         assert_eq!(rt; usize::from(*byte), i);
     }
-    let network = scenario.network;
+    let network = scenario.setting().network;
     assert_eq!(rt; (network.least(0, 2), network.spread(0, 2)), (4, 3));
     assert_eq!(rt; (network.least(2, 0), network.spread(2, 0)), (2, 0));
     assert_eq!(rt; (network.least(0, 1), network.spread(0, 1)), (2, 3));
