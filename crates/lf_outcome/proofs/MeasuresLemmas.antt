@@ -3,20 +3,20 @@ use Rattle.std.proofs.Common.{◌≡◌, ◌⊎◌, ℕ, ◌+◌, ◌≤◌, Lis
 use Rattle.std.specs.List.{fold}
 use Rattle.std.proofs.lemmas.List.{take_all}
 use Rattle.lf_outcome.specs.declared.formula.Formula.{Formula, fold-roll-Formula}
-use Rattle.lf_outcome.specs.declared.formula.Formula.TheVariants.{rolls-All, rolls-Any}
+use Rattle.lf_outcome.specs.declared.formula.Formula.TheVariants.{rolls-All, rolls-Any, rolls-Down, rolls-Shows}
 use Rattle.lf_outcome.specs.declared.formula.Formula.TheVariants as kind
 use Rattle.lf_outcome.specs.declared.formula.Formula.TheOpen.{Formula-F}
 use Rattle.lf_outcome.specs.Measures.{depth_of, depth_step, atoms_of, atoms_step}
 
 module _ {Fact : Type 0} where
-  depth_of-parts : (f : Formula Fact) (parts : List (Formula Fact)) → (f ≡ kind.All parts) ⊎ (f ≡ kind.Any parts)
+  pub depth_of-parts : (f : Formula Fact) (parts : List (Formula Fact)) → (f ≡ kind.All parts) ⊎ (f ≡ kind.Any parts)
       → depth_of f ≡ fold max 0 (map depth_of parts) + 1
   depth_of-parts f parts (inl is) =
       ap depth_of is ∙ ap depth_of (sym (rolls-All parts)) ∙ fold-roll-Formula Fact ℕ depth_step (Formula-F.All parts)
   depth_of-parts f parts (inr is) =
       ap depth_of is ∙ ap depth_of (sym (rolls-Any parts)) ∙ fold-roll-Formula Fact ℕ depth_step (Formula-F.Any parts)
 
-  atoms_of-parts : (f : Formula Fact) (parts : List (Formula Fact)) → (f ≡ kind.All parts) ⊎ (f ≡ kind.Any parts)
+  pub atoms_of-parts : (f : Formula Fact) (parts : List (Formula Fact)) → (f ≡ kind.All parts) ⊎ (f ≡ kind.Any parts)
       → atoms_of f ≡ sum (map atoms_of parts)
   atoms_of-parts f parts (inl is) =
       ap atoms_of is ∙ ap atoms_of (sym (rolls-All parts)) ∙ fold-roll-Formula Fact ℕ atoms_step (Formula-F.All parts)
@@ -39,3 +39,15 @@ module _ {Fact : Type 0} where
       let whole : sum (map atoms_of (take i xs)) ≡ sum (map atoms_of parts) =
       ap (λ (ys : List (Formula Fact)). sum (map atoms_of ys)) (take_all i xs far ∙ same) in
       omega (arith, whole, atoms_of-parts f parts is, h)
+
+  pub depth_of-Shows : (n t : ℕ) (fact : Fact) → depth_of (kind.Shows n t fact) ≡ 1
+  depth_of-Shows n t fact = ap depth_of (sym (rolls-Shows n t fact)) ∙ fold-roll-Formula Fact ℕ depth_step (Formula-F.Shows n t fact)
+
+  pub atoms_of-Shows : (n t : ℕ) (fact : Fact) → atoms_of (kind.Shows n t fact) ≡ 1
+  atoms_of-Shows n t fact = ap atoms_of (sym (rolls-Shows n t fact)) ∙ fold-roll-Formula Fact ℕ atoms_step (Formula-F.Shows n t fact)
+
+pub depth_of-Down : (Fact : Type 0) (n t : ℕ) → depth_of {Fact = Fact} (kind.Down n t) ≡ 1
+depth_of-Down Fact n t = ap depth_of (sym (rolls-Down n t)) ∙ fold-roll-Formula Fact ℕ depth_step (Formula-F.Down n t)
+
+pub atoms_of-Down : (Fact : Type 0) (n t : ℕ) → atoms_of {Fact = Fact} (kind.Down n t) ≡ 1
+atoms_of-Down Fact n t = ap atoms_of (sym (rolls-Down n t)) ∙ fold-roll-Formula Fact ℕ atoms_step (Formula-F.Down n t)

@@ -1,1 +1,2 @@
 pub mod LinkSteps
+pub mod NamedRanges

@@ -3,6 +3,7 @@ pub mod Refusals
 pub mod Values
 pub mod Reading
 pub mod LinkTables
+pub mod Formulas
 pub mod Ranges
 pub mod Scenarios
 pub mod Sameness

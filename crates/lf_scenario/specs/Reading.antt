@@ -52,6 +52,11 @@ abbrev pub outcome_of : Kind → List ℕ → Reading OutcomeName
 outcome_of (kinds.Retry nodes tries) name = if bytes_eq name (codes "delivered") then Ok outcomes.Delivered else Err refusals.Outcome
 outcome_of (kinds.Redundant nodes tries) name = if bytes_eq name (codes "delivered") then Ok outcomes.Delivered else Err refusals.Outcome
 
+-- whether the protocol has the outcome
+abbrev pub is_outcome_of : Kind → OutcomeName → Bool
+is_outcome_of (kinds.Retry nodes tries) outcomes.Delivered = true
+is_outcome_of (kinds.Redundant nodes tries) outcomes.Delivered = true
+
 -- the text of a protocol's name
 abbrev pub protocol_in : Key → Data → Reading ProtocolName
 protocol_in key (string name) = protocol_of name

@@ -3,6 +3,7 @@
 ghost use Rattle.std.specs.Prelude.{◌≡◌, ◌≢◌, ◌<◌, ◌≤◌, length, All, MatchResult, IsErrAnd};
 ghost use Rattle.toml.specs.Data.{Members};
 ghost use Rattle.toml.specs.View.{table_view};
+ghost use Rattle.lf_protocols.specs.Protocols.{nodes_of};
 ghost use Rattle.lf_scenario.specs.LinkTables.{IsLink};
 ghost use Rattle.lf_scenario.specs.Ranges.{IsInRange};
 ghost use Rattle.lf_scenario.specs.Scenarios.{IsDocument, IsScenario, IsAskedBy, asked_in};
@@ -10,8 +11,10 @@ ghost use Rattle.lf_scenario.specs.Scenarios.{IsDocument, IsScenario, IsAskedBy,
 use crate::links::{all_delays, read_links};
 use crate::reading::{Delays, Described, read_described};
 use crate::{Link, Scenario, ScenarioError};
+use lf_faults::FaultSpec;
 use lf_latency::Network;
 use lf_outcome::named;
+use lf_protocols::Protocol;
 use lf_sim::Setting;
 use std::alloc::Global;
 use toml::Table;
@@ -73,8 +76,18 @@ fn assembled(alloc: Global, described: Described, given: &[Link]) -> Result<Scen
         return Err(ScenarioError::Memory);
     };
     Ok(Scenario {
-        setting: Setting::new(described.protocol, network, bounds).unwrap(),
+        setting: settled(described.protocol, network, bounds),
         formula,
         max_sets: described.max_sets,
     })
+}
+
+/// The protocol on the network, with bounds on its faults, where the three agree.
+fn settled(protocol: Protocol, network: Network, bounds: FaultSpec) -> Setting<Protocol>
+    requires protocol { nodes_of protocol ≡ bounds.nodes }
+    requires nodes { network.nodes ≡ bounds.nodes }
+    requires horizon { network.horizon ≡ bounds.horizon }
+    ensures { (result.machine ≡ protocol) × (result.network ≡ network) × (result.spec ≡ bounds) }
+{
+    Setting::new(protocol, network, bounds).unwrap()
 }

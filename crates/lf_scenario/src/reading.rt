@@ -1,12 +1,12 @@
 //! The reading of a table.
 
-ghost use Rattle.std.specs.Prelude.{◌≡◌, ◌<◌, ◌≤◌, IfOk};
+ghost use Rattle.std.specs.Prelude.{◌≡◌, ◌<◌, ◌≤◌, true, IfOk};
 ghost use Rattle.lf_protocols.specs.Limits.{IsWithinLimits};
 ghost use Rattle.lf_protocols.specs.Protocols.{nodes_of};
 ghost use Rattle.toml.specs.View.{view, table_view};
 ghost use Rattle.lf_scenario.specs.Ranges.{AreDelays, IsInRange};
 ghost use Rattle.lf_scenario.specs.Values.{required};
-ghost use Rattle.lf_scenario.specs.Reading.{protocol_in, has_tries, has_patience, kind_of, outcome_of, outcome_in, bounds_in, delays_in, kind_in, described_in};
+ghost use Rattle.lf_scenario.specs.Reading.{protocol_in, has_tries, has_patience, kind_of, outcome_of, outcome_in, is_outcome_of, bounds_in, delays_in, kind_in, described_in};
 
 use crate::names::ProtocolName;
 use crate::value::{
@@ -160,7 +160,8 @@ fn read_protocol(table: &Table, nodes: u32) -> Result<Protocol, ScenarioError>
 
 /// The outcome of this name.
 fn outcome_name(name: &str, protocol: Protocol) -> Result<Outcome, ScenarioError>
-    ensures { result ≡ outcome_of protocol name.now }
+    ensures value { result ≡ outcome_of protocol name.now }
+    ensures owned { IfOk result (λ outcome. is_outcome_of protocol outcome ≡ true) }
 {
     match protocol.kind() {
         Kind::Retry { .. } | Kind::Redundant { .. } => {
@@ -175,7 +176,8 @@ fn outcome_name(name: &str, protocol: Protocol) -> Result<Outcome, ScenarioError
 
 /// An outcome.
 fn outcome(value: &Value, key: Key, protocol: Protocol) -> Result<Outcome, ScenarioError>
-    ensures { result ≡ outcome_in protocol key (view value.now) }
+    ensures value { result ≡ outcome_in protocol key (view value.now) }
+    ensures owned { IfOk result (λ outcome. is_outcome_of protocol outcome ≡ true) }
 {
     match value {
         Value::String(text) => outcome_name(text.as_str(), protocol),
@@ -187,7 +189,8 @@ fn outcome(value: &Value, key: Key, protocol: Protocol) -> Result<Outcome, Scena
 /// The outcome of the table.
 #[tactic(auto, unfolding(crate::specs::Values::required))]
 fn required_outcome(table: &Table, protocol: Protocol) -> Result<Outcome, ScenarioError>
-    ensures { result ≡ required (table_view table.now) Key.Outcome (outcome_in protocol) }
+    ensures value { result ≡ required (table_view table.now) Key.Outcome (outcome_in protocol) }
+    ensures owned { IfOk result (λ outcome. is_outcome_of protocol outcome ≡ true) }
 {
     match at(table, Key::Outcome.name()) {
         Some(value) => outcome(value, Key::Outcome, protocol),

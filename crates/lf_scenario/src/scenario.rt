@@ -1,6 +1,7 @@
 //! Scenarios.
 
 ghost use Rattle.std.specs.Prelude.{◌≡◌, ◌≤◌, ◌↔◌, IsTrue};
+ghost use Rattle.lf_scenario.specs.Formulas.{IsFormulaOf};
 
 use lf_outcome::{Formula, same};
 use lf_protocols::{Fact, Protocol};
@@ -12,6 +13,7 @@ pub struct Scenario {
     pub(crate) setting: Setting<Protocol>,
     pub(crate) formula: Formula<Fact>,
     pub(crate) max_sets: u32,
+    ghost formula_fits: { IsFormulaOf setting.machine setting.spec formula },
     ghost some_sets: { (1 ≤ max_sets) × (max_sets ≤ 1000000) },
 }
 
@@ -25,9 +27,10 @@ impl Scenario {
         &self.setting
     }
 
-    /// What the protocol promises.
+    /// What the protocol promises: at points of the run, by facts of the protocol, at most 8 deep, with at most 512 atoms.
     pub fn formula(&self) -> &Formula<Fact>
-        ensures { result.now ≡ self.now.formula }
+        ensures value { result.now ≡ self.now.formula }
+        ensures fits { IsFormulaOf self.now.setting.machine self.now.setting.spec self.now.formula }
     {
         &self.formula
     }

@@ -209,7 +209,8 @@ fn keys_behind_a_table_are_its_own(rt: HostRuntime) -> Result<(), Fail> {
         Some((3, Some(Key::Outcome)))
     );
     let behind = text(alloc, 8, "", "[[links]]\nfrom = 0\nto = 2\nleast = 4\n")?;
-    let network = read(alloc, behind.as_bytes())?.network;
+    let scenario = read(alloc, behind.as_bytes())?;
+    let network = scenario.setting().network;
     assert_eq!(rt; network.nodes(), 3);
     assert_eq!(rt; network.horizon(), 4);
     assert_eq!(rt; network.arrival(0, 2, 1), 5);

@@ -1,0 +1,144 @@
+-- The formulas of the named outcomes are in range.
+use Rattle.std.proofs.Common.{◌≡◌, ℕ, zero, suc, ◌+◌, ◌*◌, ◌<◌, ◌≤◌, Bool, true, ◌&&◌, List, [], ◌∷◌, refl, sym, ap, ◌∙◌, map, max, inl, inr, arith}
+use Rattle.std.specs.Prelude.{nat_le, nat_lt}
+use Rattle.std.specs.List.{fold, range_with_len, list_all}
+use Rattle.std.proofs.lemmas.Bool.{and_from, lt-ltb, le-leb}
+use Rattle.std.proofs.lemmas.List.Folds.{list_all-map}
+use Rattle.lf_faults.specs.Allowed.{Bounds, IsInLimits}
+use Rattle.lf_protocols.specs.declared.fact.Fact.{Fact}
+use Rattle.lf_protocols.specs.declared.fact.Fact.TheVariants.{Has, Lacks}
+use Rattle.lf_protocols.specs.declared.protocol.Kind.{Kind}
+use Rattle.lf_protocols.specs.declared.protocol.Kind.TheVariants as kinds
+use Rattle.lf_outcome.specs.declared.formula.Formula.{Formula, fold-roll-Formula}
+use Rattle.lf_outcome.specs.declared.formula.Formula.TheVariants.{rolls-All, rolls-Any, rolls-Down, rolls-Shows}
+use Rattle.lf_outcome.specs.declared.formula.Formula.TheVariants as kind
+use Rattle.lf_outcome.specs.declared.formula.Formula.TheOpen.{Formula-F}
+use Rattle.lf_outcome.specs.declared.outcome.Outcome.{Outcome}
+use Rattle.lf_outcome.specs.declared.outcome.Outcome.TheVariants.{Delivered}
+use Rattle.lf_outcome.specs.Measures.{depth_of, atoms_of}
+use Rattle.lf_outcome.specs.Named.{shows_or_down, each_shows, formula_of}
+use Rattle.lf_outcome.proofs.MeasuresLemmas.{depth_of-parts, atoms_of-parts, depth_of-Down, depth_of-Shows, atoms_of-Down, atoms_of-Shows}
+use Rattle.lf_scenario.specs.Formulas.{is_point, is_fact_of, range_step, is_in_range, IsFormulaOf}
+use Rattle.lf_scenario.specs.Reading.{is_outcome_of}
+
+-- a node that shows a fact or is down
+module _ (t : ℕ) (fact : Fact) where
+  abbrev either : ℕ → List (Formula Fact)
+  either n = kind.Down n t ∷ kind.Shows n t fact ∷ []
+
+  depth-either : (n : ℕ) → depth_of (shows_or_down t fact n) ≤ 2
+  depth-either n =
+      let whole : depth_of (shows_or_down t fact n) ≡ max (max 0 (depth_of {Fact = Fact} (kind.Down n t))) (depth_of (kind.Shows n t fact)) + 1 =
+      depth_of-parts (kind.Any (either n)) (either n) (inr refl) in
+      omega (arith, whole, depth_of-Down Fact n t, depth_of-Shows n t fact)
+
+  atoms-either : (n : ℕ) → atoms_of (shows_or_down t fact n) ≡ 2
+  atoms-either n =
+      let whole : atoms_of (shows_or_down t fact n) ≡ 0 + atoms_of {Fact = Fact} (kind.Down n t) + atoms_of (kind.Shows n t fact) =
+      atoms_of-parts (kind.Any (either n)) (either n) (inr refl) in
+      omega (arith, whole, atoms_of-Down Fact n t, atoms_of-Shows n t fact)
+
+  -- each of some nodes
+  abbrev all_of : ℕ → ℕ → List (Formula Fact)
+  all_of a n = map (shows_or_down t fact) (range_with_len a n)
+
+  depth-from : (n a start : ℕ) → start ≤ 2 → fold max start (map depth_of (all_of a n)) ≤ 2
+  depth-from zero a start h = h
+  depth-from (suc n) a start h = depth-from n (a + 1) (max start (depth_of (shows_or_down t fact a))) (omega (arith, h, depth-either a))
+
+  atoms-from : (n a start : ℕ) → fold ◌+◌ start (map atoms_of (all_of a n)) ≡ start + 2 * n
+  atoms-from zero a start = omega arith
+  atoms-from (suc n) a start =
+      let rest = atoms-from n (a + 1) (start + atoms_of (shows_or_down t fact a)) in
+      rest ∙ omega (arith, atoms-either a)
+
+  depth-each : (nodes : ℕ) → depth_of (each_shows nodes t fact) ≤ 3
+  depth-each nodes =
+      omega (arith, depth_of-parts (kind.All (all_of 0 nodes)) (all_of 0 nodes) (inl refl), depth-from nodes 0 0 (omega arith))
+
+  atoms-each : (nodes : ℕ) → atoms_of (each_shows nodes t fact) ≡ 2 * nodes
+  atoms-each nodes = atoms_of-parts (kind.All (all_of 0 nodes)) (all_of 0 nodes) (inl refl) ∙ atoms-from nodes 0 0 ∙ omega arith
+
+-- what is in range
+module _ (k : Kind) (nodes horizon : ℕ) where
+  range-All : (parts : List (Formula Fact)) → is_in_range k nodes horizon (kind.All parts) ≡ list_all (is_in_range k nodes horizon) parts
+  range-All parts =
+      ap (is_in_range k nodes horizon) (sym (rolls-All parts)) ∙ fold-roll-Formula Fact Bool (range_step k nodes horizon) (Formula-F.All parts)
+      ∙ list_all-map (λ b. b) (is_in_range k nodes horizon) parts
+
+  range-Any : (parts : List (Formula Fact)) → is_in_range k nodes horizon (kind.Any parts) ≡ list_all (is_in_range k nodes horizon) parts
+  range-Any parts =
+      ap (is_in_range k nodes horizon) (sym (rolls-Any parts)) ∙ fold-roll-Formula Fact Bool (range_step k nodes horizon) (Formula-F.Any parts)
+      ∙ list_all-map (λ b. b) (is_in_range k nodes horizon) parts
+
+  range-Down : (n t : ℕ) → is_in_range k nodes horizon (kind.Down n t) ≡ is_point nodes horizon n t
+  range-Down n t =
+      ap (is_in_range k nodes horizon) (sym (rolls-Down n t)) ∙ fold-roll-Formula Fact Bool (range_step k nodes horizon) (Formula-F.Down n t)
+
+  range-Shows : (n t : ℕ) (fact : Fact) → is_in_range k nodes horizon (kind.Shows n t fact) ≡ (is_point nodes horizon n t && is_fact_of k fact)
+  range-Shows n t fact =
+      ap (is_in_range k nodes horizon) (sym (rolls-Shows n t fact)) ∙ fold-roll-Formula Fact Bool (range_step k nodes horizon) (Formula-F.Shows n t fact)
+
+  -- at the last step
+  module _ (some : 1 ≤ horizon) where
+    point : (n : ℕ) → n < nodes → is_point nodes horizon n horizon ≡ true
+    point n below =
+        and_from (nat_lt n nodes) (nat_le 1 horizon && nat_le horizon horizon) (lt-ltb n nodes below)
+        (and_from (nat_le 1 horizon) (nat_le horizon horizon) (le-leb 1 horizon some) (le-leb horizon horizon (omega arith)))
+
+    down : (n : ℕ) → n < nodes → is_in_range k nodes horizon (kind.Down n horizon) ≡ true
+    down n below = range-Down n horizon ∙ point n below
+
+    shows : (fact : Fact) → is_fact_of k fact ≡ true → (n : ℕ) → n < nodes → is_in_range k nodes horizon (kind.Shows n horizon fact) ≡ true
+    shows fact own n below = range-Shows n horizon fact ∙ and_from (is_point nodes horizon n horizon) (is_fact_of k fact) (point n below) own
+
+    range-either : (fact : Fact) → is_fact_of k fact ≡ true → (n : ℕ) → n < nodes → is_in_range k nodes horizon (shows_or_down horizon fact n) ≡ true
+    range-either fact own n below =
+        range-Any (either horizon fact n)
+        ∙ and_from (is_in_range k nodes horizon (kind.Down n horizon)) (is_in_range k nodes horizon (kind.Shows n horizon fact) && true)
+        (down n below)
+        (and_from (is_in_range k nodes horizon (kind.Shows n horizon fact)) true (shows fact own n below) refl)
+
+    range-from : (fact : Fact) → is_fact_of k fact ≡ true → (n a : ℕ) → a + n ≤ nodes
+        → list_all (is_in_range k nodes horizon) (all_of horizon fact a n) ≡ true
+    range-from fact own zero a h = refl
+    range-from fact own (suc n) a h =
+        and_from (is_in_range k nodes horizon (shows_or_down horizon fact a)) (list_all (is_in_range k nodes horizon) (all_of horizon fact (a + 1) n))
+        (range-either fact own a (omega (arith, h))) (range-from fact own n (a + 1) (omega (arith, h)))
+
+    range-each : (fact : Fact) → is_fact_of k fact ≡ true → is_in_range k nodes horizon (each_shows nodes horizon fact) ≡ true
+    range-each fact own = range-All (all_of horizon fact 0 nodes) ∙ range-from fact own nodes 0 (omega arith)
+
+-- some node-wise promise of two facts
+module _ (k : Kind) (b : Bounds) (limits : IsInLimits b) (one other : Fact) where
+  abbrev both : List (Formula Fact)
+  both = each_shows b.nodes b.horizon one ∷ each_shows b.nodes b.horizon other ∷ []
+
+  either_each : is_fact_of k one ≡ true → is_fact_of k other ≡ true → IsFormulaOf k b (kind.Any both)
+  either_each first second = record {
+    range =
+        range-Any k b.nodes b.horizon both
+        ∙ and_from (is_in_range k b.nodes b.horizon (each_shows b.nodes b.horizon one)) (is_in_range k b.nodes b.horizon (each_shows b.nodes b.horizon other) && true)
+        (range-each k b.nodes b.horizon limits.horizon.0 one first)
+        (and_from (is_in_range k b.nodes b.horizon (each_shows b.nodes b.horizon other)) true (range-each k b.nodes b.horizon limits.horizon.0 other second) refl);
+    depth =
+        let whole : depth_of (kind.Any both) ≡ max (max 0 (depth_of (each_shows b.nodes b.horizon one))) (depth_of (each_shows b.nodes b.horizon other)) + 1 =
+        depth_of-parts (kind.Any both) both (inr refl) in
+        omega (arith, whole, depth-each b.horizon one b.nodes, depth-each b.horizon other b.nodes);
+    atoms =
+        let whole : atoms_of (kind.Any both) ≡ 0 + atoms_of (each_shows b.nodes b.horizon one) + atoms_of (each_shows b.nodes b.horizon other) =
+        atoms_of-parts (kind.Any both) both (inr refl) in
+        omega (arith, whole, atoms-each b.horizon one b.nodes, atoms-each b.horizon other b.nodes, limits.nodes.1);
+  }
+
+pub formula_of-fits : (k : Kind) (b : Bounds) (outcome : Outcome) → IsInLimits b → is_outcome_of k outcome ≡ true
+    → IsFormulaOf k b (formula_of outcome b.nodes b.horizon)
+formula_of-fits (kinds.Retry nodes tries) b Delivered limits own = either_each (kinds.Retry nodes tries) b limits Has Lacks refl refl
+formula_of-fits (kinds.Redundant nodes tries) b Delivered limits own = either_each (kinds.Redundant nodes tries) b limits Has Lacks refl refl
+
+-- of a setting with this protocol and these bounds
+pub formula_of-setting : (k m : Kind) (b s : Bounds) (outcome : Outcome) (nodes horizon : ℕ) (formula : Formula Fact) → m ≡ k → s ≡ b
+    → nodes ≡ b.nodes → horizon ≡ b.horizon → formula ≡ formula_of outcome nodes horizon → IsInLimits b → is_outcome_of k outcome ≡ true
+    → IsFormulaOf m s formula
+formula_of-setting k m b s outcome nodes horizon formula machine spec at_nodes at_horizon is limits own =
+    rw (machine, spec, is, at_nodes, at_horizon) (formula_of-fits k b outcome limits own)
