@@ -143,6 +143,11 @@ fn more_keys_are_refused(rt: HostRuntime) -> Result<(), Fail> {
         ("max_sets = 1000001", 6, Some(Key::MaxSets)),
         ("seed = \"00\"", 7, Some(Key::Seed)),
         (
+            "seed = \"000102030405060708090a0b0c0d0e0f101112131415161718191a1b1c1d1e1\"",
+            7,
+            Some(Key::Seed),
+        ),
+        (
             "seed = \"000102030405060708090a0b0c0d0e0f101112131415161718191a1b1c1d1e1g\"",
             7,
             Some(Key::Seed),
@@ -278,6 +283,166 @@ fn long_texts_are_refused(rt: HostRuntime) -> Result<(), Fail> {
         }
         assert_eq!(rt; refusal(alloc, text.as_slice()), Some((2, None)));
     }
+    Ok(())
+}
+
+#[test]
+fn an_unknown_key_comes_before_a_missing_one(rt: HostRuntime) -> Result<(), Fail> {
+    assert_eq!(rt; refusal(rt.alloc(), b"colour = 1\n"), Some((4, None)));
+    Ok(())
+}
+
+#[test]
+fn numbers_are_those_of_toml(rt: HostRuntime) -> Result<(), Fail> {
+    let text =
+        b"nodes = +2\nhorizon = 3\nlast_omission = 1\ncrashes = -0\nbudget = 0x1\nprotocol = \"retry\"\ntries = 1_0\noutcome = \"delivered\"\n";
+    let scenario = read(rt.alloc(), text)?;
+    assert_eq!(rt;
+        scenario.setting().machine.kind(),
+        Kind::Retry {
+            nodes: 2,
+            tries: 10
+        }
+    );
+    assert_eq!(rt; scenario.setting().spec.crashes(), 0);
+    assert_eq!(rt; scenario.setting().spec.budget(), 1);
+    Ok(())
+}
+
+#[test]
+fn late_notes_of_a_seed(rt: HostRuntime) -> Result<(), Fail> {
+    let text =
+        b"nodes = 2\nhorizon = 3\nlast_omission = 2\ncrashes = 0\nbudget = 1\nspread = 3\nseed = \"0000000000000000000000000000000000000000000000000000000000000000\"\nprotocol = \"retry\"\ntries = 2\noutcome = \"delivered\"\n";
+    let scenario = read(rt.alloc(), text)?;
+    let network = &scenario.setting().network;
+    assert_eq!(rt; network.seed(), [0; 32]);
+    assert_eq!(rt; network.arrival(0, 1, 1), 4);
+    assert_eq!(rt; network.arrival(0, 1, 2), 3);
+    assert_eq!(rt; network.arrival(0, 1, 3), 4);
+    let delivered = named(rt.alloc(), Outcome::Delivered, 2, 3)?;
+    assert!(rt; same_formula(scenario.formula(), &delivered));
+    Ok(())
+}
+
+#[test]
+fn scenarios_are_compared_by_value(rt: HostRuntime) -> Result<(), Fail> {
+    let alloc = rt.alloc();
+    let first = read(alloc, text_of_all(alloc)?.as_bytes())?;
+    let again = read(
+        alloc,
+        text(
+            alloc,
+            4,
+            "budget = 0b10 # two",
+            "spread = 0\nmax_sets = 100000",
+        )?
+        .as_bytes(),
+    )?;
+    assert!(rt; first.same(&again));
+    for (place, line, more) in [
+        (0, "nodes = 4", ""),
+        (1, "horizon = 5", ""),
+        (2, "last_omission = 2", ""),
+        (3, "crashes = 1", ""),
+        (4, "budget = 1", ""),
+        (5, "protocol = \"redundant\"", ""),
+        (6, "tries = 2", ""),
+        (8, "", "max_sets = 99999"),
+        (8, "", "pauses = 1"),
+        (8, "", "pause_length = 2"),
+        (8, "", "least = 2"),
+        (8, "", "spread = 1"),
+        (8, "", "links = [{from = 2, to = 1, spread = 1}]"),
+        (
+            8,
+            "",
+            "seed = \"0000000000000000000000000000000000000000000000000000000000000001\"",
+        ),
+    ] {
+        let other = read(alloc, text(alloc, place, line, more)?.as_bytes())?;
+        assert!(rt; !first.same(&other), "at {line}{more}");
+        assert!(rt; other.same(&other), "at {line}{more}");
+    }
+    Ok(())
+}
+
+/// So many times one byte, between two texts.
+fn nested(
+    alloc: Global,
+    before: &str,
+    byte: u8,
+    times: usize,
+    after: &str,
+) -> Result<Vec<u8>, AllocError> {
+    let mut text = Vec::new(alloc);
+    for byte in before.bytes() {
+        text.push(byte)?;
+    }
+    for _ in 0..times {
+        text.push(byte)?;
+    }
+    for byte in after.bytes() {
+        text.push(byte)?;
+    }
+    Ok(text)
+}
+
+#[test]
+fn all_links_at_once(rt: HostRuntime) -> Result<(), Fail> {
+    let alloc = rt.alloc();
+    let mut all = text(alloc, 0, "nodes = 8", "")?;
+    for from in 0..8_u32 {
+        for to in 0..8_u32 {
+            if from != to {
+                let table = format!(in alloc;
+                    "[[links]]\nfrom = {from}\nto = {to}\nleast = {}\n",
+                    from + to
+                )?;
+                all.push_str(table.as_str())?;
+            }
+        }
+    }
+    let scenario = read(alloc, all.as_bytes())?;
+    assert_eq!(rt; scenario.setting().network.least(7, 6), 13);
+    assert_eq!(rt; scenario.setting().network.least(0, 1), 1);
+    all.push_str("[[links]]\nfrom = 7\nto = 6\n")?;
+    assert_eq!(rt; refusal(alloc, all.as_bytes()), Some((8, Some(Key::Links))));
+    Ok(())
+}
+
+#[test]
+fn deep_and_wide_texts(rt: HostRuntime) -> Result<(), Fail> {
+    let alloc = rt.alloc();
+    let before = text(alloc, 7, "outcome = ", "")?;
+    let before = before.as_str().trim_end();
+    for (depth, expected) in [(80, Some((11, Some(Key::Outcome)))), (81, Some((2, None)))] {
+        let mut deep = nested(alloc, before, b'[', depth, "")?;
+        for _ in 0..depth {
+            deep.push(b']')?;
+        }
+        assert_eq!(rt; refusal(alloc, deep.as_slice()), expected, "at {depth}");
+    }
+    let mut wide = nested(alloc, before, b'[', 1, "")?;
+    while wide.len() + 3 <= LONGEST {
+        wide.push(b'1')?;
+        wide.push(b',')?;
+    }
+    wide.push(b']')?;
+    assert_eq!(rt;
+        refusal(alloc, wide.as_slice()),
+        Some((11, Some(Key::Outcome)))
+    );
+    let mut keys = String::new(alloc);
+    let mut key = 0_u32;
+    while keys.len() + 12 <= LONGEST {
+        keys.push_str(format!(in alloc; "k{key} = 1\n")?.as_str())?;
+        key += 1;
+    }
+    assert_eq!(rt; refusal(alloc, keys.as_bytes()), Some((4, None)));
+    let name = nested(alloc, "", b'n', 65000, " = 1\n")?;
+    assert_eq!(rt; refusal(alloc, name.as_slice()), Some((4, None)));
+    let digits = nested(alloc, "nodes = ", b'1', 65000, "\n")?;
+    assert_eq!(rt; refusal(alloc, digits.as_slice()), Some((2, None)));
     Ok(())
 }
 

@@ -1,0 +1,27 @@
+-- The answer to a scenario: the first allowed set of faults that misses its outcome.
+use Rattle.std.specs.Prelude.{◌≡◌, ◌<◌, Bool, true, false, not, List, length, Option, MatchOption}
+use Rattle.lf_faults.specs.declared.fault.Parts.{Parts}
+use Rattle.lf_faults.specs.Allowed.{Bounds, IsAllowed, IsFirst}
+use Rattle.lf_sim.specs.Settings.{world_of}
+use Rattle.lf_outcome.specs.Truth.{reaches}
+use Rattle.lf_scenario.specs.declared.scenario.Scenario.{Scenario}
+
+-- the run of the faults reaches the scenario's outcome, and elsewhere it misses
+abbrev pub reaches_in : Scenario → List Parts → Bool
+reaches_in s faults = reaches (world_of s.setting) faults s.formula
+
+-- the first, in the order of sets, of the allowed sets that miss, or none where no allowed set misses
+abbrev pub IsAnswer : Scenario → Option (List Parts) → Type 0
+IsAnswer s answer = IsFirst s.setting.spec (λ faults. not (reaches_in s faults)) answer
+
+-- the set answered is allowed, its run misses, and every allowed set with fewer faults reaches; where none is answered,
+-- every allowed set reaches
+abbrev pub IsFewest : Bounds → (List Parts → Bool) → Option (List Parts) → Type 0
+IsFewest b reaching answer =
+    MatchOption answer
+    ((other : List Parts) → IsAllowed b other → reaching other ≡ true)
+    (λ found. IsAllowed b found × (reaching found ≡ false) ×
+    ((other : List Parts) → IsAllowed b other → length other < length found → reaching other ≡ true))
+
+abbrev pub IsLeast : Scenario → Option (List Parts) → Type 0
+IsLeast s answer = IsFewest s.setting.spec (reaches_in s) answer

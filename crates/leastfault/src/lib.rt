@@ -1,0 +1,9 @@
+//! The least faults that defeat an outcome.
+//!
+//! An engine reads a scenario's text and writes a reply: the fewest faults that defeat the scenario's outcome, or that no
+//! allowed set of faults does.
+#![tactic(auto)]
+
+mod answer;
+
+pub use answer::plain_answer;
