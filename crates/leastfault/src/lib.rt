@@ -5,5 +5,7 @@
 #![tactic(auto)]
 
 mod answer;
+mod replies;
 
 pub use answer::plain_answer;
+pub use replies::{refusal, report};

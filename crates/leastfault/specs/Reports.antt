@@ -1,0 +1,37 @@
+-- The lines of replies.
+use Rattle.std.specs.Prelude.{ℕ, List, [], ◌∷◌, ◌++◌, length, codes, Option, Some, None}
+use Rattle.std.specs.Fmt.{decimal}
+use Rattle.lf_faults.specs.declared.fault.Parts.{Parts}
+use Rattle.lf_faults.specs.Texts.{spelling}
+use Rattle.lf_scenario.specs.declared.key.Key.{Key}
+use Rattle.lf_scenario.specs.declared.error.ScenarioError.{ScenarioError}
+use Rattle.lf_scenario.specs.Keys.{key_name}
+use Rattle.lf_scenario.specs.Refusals.{number_of, key_of}
+
+-- a line feed ends each line
+abbrev pub line : List ℕ → List ℕ
+line words = words ++ codes "\n"
+
+-- the faults, one on each line
+abbrev pub fault_lines : List Parts → List ℕ
+fault_lines [] = []
+fault_lines (f ∷ fs) = line (spelling f) ++ fault_lines fs
+
+-- `none`, and the budget; or `least`, how many faults there are, and then the faults
+abbrev pub report_of : ℕ → Option (List Parts) → List ℕ
+report_of budget None = line (codes "none " ++ decimal budget)
+report_of budget (Some faults) = line (codes "least " ++ decimal (length faults)) ++ fault_lines faults
+
+-- 0 where no set defeats the outcome, and 1 where one does
+abbrev pub status_of : Option (List Parts) → ℕ
+status_of None = 0
+status_of (Some faults) = 1
+
+-- one space and the key that is refused, where there is one
+abbrev pub key_words : Option Key → List ℕ
+key_words None = []
+key_words (Some key) = codes " " ++ key_name key
+
+-- `refused`, the number of the refusal, and its key
+abbrev pub refusal_of : ScenarioError → List ℕ
+refusal_of e = codes "refused " ++ (decimal (number_of e) ++ line (key_words (key_of e)))
