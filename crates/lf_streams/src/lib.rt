@@ -4,17 +4,19 @@
 //! again. So every walk over them has an end, whatever the device.
 #![tactic(auto)]
 
-mod adapters;
 mod device;
 mod error;
+mod reader;
 mod reading;
 pub mod testing;
+mod writer;
 mod writing;
 
-pub use adapters::{FromRead, ToWrite};
 pub use device::{Sink, Source};
 pub use error::{Failed, ReadFault};
+pub use reader::FromRead;
 pub use reading::read_up_to;
+pub use writer::ToWrite;
 pub use writing::write_all;
 
 #[cfg(test)]
