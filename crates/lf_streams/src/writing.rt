@@ -1,0 +1,22 @@
+//! All bytes written to a sink.
+
+ghost use Rattle.std.specs.Prelude.{◌≡◌, ℕ, ◌<◌, false, length, take, is_err, OnOk, OnErr};
+ghost use Rattle.std.specs.Io.KnownBytes.{Appends};
+
+use crate::{Failed, Sink};
+
+/// Writes all bytes in order. Where the sink fails, it has taken a part of them from the front.
+pub fn write_all<K: Sink>(sink: &mut K, bytes: &[u8]) -> Result<(), Failed>
+    requires { K.has_failed sink.old ≡ false }
+    ensures all { OnOk result (Appends (K.written sink.old) (K.written sink.new) bytes.now) }
+    ensures part { OnErr result ((n : ℕ) × (n < length bytes.now)
+        × Appends (K.written sink.old) (K.written sink.new) (take n bytes.now)) }
+    ensures failed { K.has_failed sink.new ≡ is_err result }
+{
+    let mut rest = bytes;
+    'rest: while !rest.is_empty() {
+        let taken = sink.write(rest)?;
+        rest = &rest[taken..];
+    }
+    Ok(())
+}
