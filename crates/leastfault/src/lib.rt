@@ -5,7 +5,10 @@
 #![tactic(auto)]
 
 mod answer;
+mod engine;
 mod replies;
 
 pub use answer::plain_answer;
+pub use engine::{BytesFault, Searched, search_bytes};
+pub use lf_streams::{Failed, FromRead, Sink, Source, ToWrite};
 pub use replies::{refusal, report};

@@ -1,10 +1,12 @@
 -- What is read of a text.
-use Rattle.std.specs.Prelude.{◌≡◌, ℕ, List, [], Some, Ok, IsUtf8}
+use Rattle.std.specs.Prelude.{◌≡◌, ◌⊎◌, ℕ, ◌<◌, ◌≤◌, List, [], length, Some, Ok, Err, IsUtf8}
 use Rattle.toml.specs.Data.{Members}
 use Rattle.toml.specs.Parse.{parse_document}
 use Rattle.lf_latency.specs.Links.{IsPair, least_of, spread_of}
 use Rattle.lf_outcome.specs.Named.{formula_of}
 use Rattle.lf_scenario.specs.declared.key.Key.TheVariants.{Links}
+use Rattle.lf_scenario.specs.declared.error.ScenarioError.{ScenarioError}
+use Rattle.lf_scenario.specs.declared.error.ScenarioError.TheVariants as refusals
 use Rattle.lf_scenario.specs.declared.links.Link.{Link}
 use Rattle.lf_scenario.specs.declared.reading.Described.{Described}
 use Rattle.lf_scenario.specs.declared.scenario.Scenario.{Scenario}
@@ -48,3 +50,17 @@ pub record IsAskedBy (ms : Members) (s : Scenario) : Type 0 where
   pub asked : Asked
   pub reading : asked_in ms ≡ Ok asked
   pub scenario : IsScenario asked s
+
+-- the text is refused for this reason: it is too long, it is no document, or the reading of its members refuses it
+abbrev pub IsRefused : List ℕ → ScenarioError → Type 0
+IsRefused text e =
+    ((65536 < length text) × (e ≡ refusals.TooLong))
+    ⊎ ((length text ≤ 65536) × ((ms : Members) → IsDocument text ms → ⊥) × (e ≡ refusals.NoDocument))
+    ⊎ ((length text ≤ 65536) × (ms : Members) × IsDocument text ms × (asked_in ms ≡ Err e))
+
+-- the text is short enough and a document, and its members ask for the scenario
+pub record IsText (s : Scenario) (text : List ℕ) : Type 0 where
+  pub short : length text ≤ 65536
+  pub members : Members
+  pub document : IsDocument text members
+  pub asked : IsAskedBy members s

@@ -6,7 +6,7 @@ ghost use Rattle.toml.specs.View.{table_view};
 ghost use Rattle.lf_protocols.specs.Protocols.{nodes_of};
 ghost use Rattle.lf_scenario.specs.LinkTables.{IsLink};
 ghost use Rattle.lf_scenario.specs.Ranges.{IsInRange};
-ghost use Rattle.lf_scenario.specs.Scenarios.{IsDocument, IsScenario, IsAskedBy, asked_in};
+ghost use Rattle.lf_scenario.specs.Scenarios.{IsDocument, IsScenario, IsAskedBy, IsRefused, IsText, asked_in};
 
 use crate::links::{all_delays, read_links};
 use crate::reading::{Delays, Described, read_described};
@@ -32,6 +32,7 @@ pub fn read(alloc: Global, text: &[u8]) -> Result<Scenario, ScenarioError>
         IsErrAnd result (λ e. e ≢ ScenarioError.Memory → e ≡ ScenarioError.NoDocument) }
     ensures document { length text.now ≤ LONGEST → (ms : Members) → IsDocument text.now ms →
         MatchResult result (IsAskedBy ms) (λ e. e ≢ ScenarioError.Memory → asked_in ms ≡ Err e) }
+    ensures reading { MatchResult result (λ s. IsText s text.now) (λ e. e ≢ ScenarioError.Memory → IsRefused text.now e) }
 {
     if text.len() > LONGEST {
         return Err(ScenarioError::TooLong);

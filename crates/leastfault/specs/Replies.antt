@@ -1,0 +1,52 @@
+-- The reply to a text, and what an engine answers.
+use Rattle.std.specs.Prelude.{◌≡◌, ◌⊎◌, ℕ, ◌<◌, ◌≤◌, Bool, true, false, List, length, take, drop, Option, Some, Result, Ok, Err, IfSome}
+use Rattle.std.specs.Io.KnownBytes.{Appends}
+use Rattle.lf_faults.specs.declared.fault.Parts.{Parts}
+use Rattle.lf_scenario.specs.declared.error.ScenarioError.{ScenarioError}
+use Rattle.lf_scenario.specs.declared.scenario.Scenario.{Scenario}
+use Rattle.lf_scenario.specs.Scenarios.{IsRefused, IsText}
+use Rattle.leastfault.specs.declared.engine.BytesFault.{BytesFault}
+use Rattle.leastfault.specs.declared.engine.BytesFault.TheVariants as faults
+use Rattle.leastfault.specs.Answers.{IsAnswer}
+use Rattle.leastfault.specs.Reports.{refusal_of, report_of, status_of}
+
+-- the line of the refusal, where the text is refused, with status 2
+abbrev pub RepliesRefusal : List ℕ → List ℕ → ℕ → Type 0
+RepliesRefusal text reply status = (e : ScenarioError) × IsRefused text e × (reply ≡ refusal_of e) × (status ≡ 2)
+
+-- the report of the answer to the scenario, where it is the text of one, with the status of the answer
+abbrev pub RepliesReport : List ℕ → List ℕ → ℕ → Type 0
+RepliesReport text reply status =
+    (s : Scenario) × (answer : Option (List Parts)) × IsText s text × IsAnswer s answer
+    × (reply ≡ report_of s.setting.spec.budget answer) × (status ≡ status_of answer)
+
+abbrev pub IsReply : List ℕ → List ℕ → ℕ → Type 0
+IsReply text reply status = RepliesRefusal text reply status ⊎ RepliesReport text reply status
+
+-- the reply to what the source held was written: where it doesn't tell, the reply to some text
+abbrev pub WroteReply : Option (List ℕ) → Option (List ℕ) → Option (List ℕ) → ℕ → Type 0
+WroteReply held old new status =
+    (text : List ℕ) × (reply : List ℕ) × IfSome held (λ h. text ≡ h) × IsReply text reply status × Appends old new reply
+
+-- a part of it was written, from its front, and not the whole
+abbrev pub WrotePart : Option (List ℕ) → Option (List ℕ) → Option (List ℕ) → Type 0
+WrotePart held old new =
+    (text : List ℕ) × (reply : List ℕ) × (status : ℕ) × (n : ℕ) × IfSome held (λ h. text ≡ h) × IsReply text reply status
+    × (n < length reply) × Appends old new (take n reply)
+
+-- no more than one byte past the longest text was taken of a source
+abbrev pub TookLittle : Option (List ℕ) → Option (List ℕ) → Type 0
+TookLittle held left = IfSome held (λ h. (n : ℕ) × (n ≤ 65537) × (left ≡ Some (drop n h)))
+
+-- which answers say that the source failed, and which that the sink did
+abbrev pub tells_read : {X : Type 0} → Result X BytesFault → Bool
+tells_read (Ok _) = false
+tells_read (Err faults.Read) = true
+tells_read (Err faults.Write) = false
+tells_read (Err faults.Memory) = false
+
+abbrev pub tells_write : {X : Type 0} → Result X BytesFault → Bool
+tells_write (Ok _) = false
+tells_write (Err faults.Read) = false
+tells_write (Err faults.Write) = true
+tells_write (Err faults.Memory) = false
