@@ -12,3 +12,6 @@ pub use answer::plain_answer;
 pub use engine::{BytesFault, Searched, search_bytes};
 pub use lf_streams::{Failed, FromRead, Sink, Source, ToWrite};
 pub use replies::{refusal, report};
+
+#[cfg(test)]
+mod tests;
