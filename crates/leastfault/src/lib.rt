@@ -11,6 +11,7 @@ mod replies;
 pub use answer::plain_answer;
 pub use engine::{BytesFault, Searched, search_bytes};
 pub use lf_streams::{Failed, FromRead, Sink, Source, ToWrite};
+pub use lf_words::{Asked, Unasked, asked};
 pub use replies::{refusal, report};
 
 #[cfg(test)]

@@ -1,0 +1,33 @@
+use Rattle.std.proofs.Common.{map, inr}
+use Rattle.std.specs.String.{string_bytes}
+use Rattle.clap.specs.Words.{app_of, kind_of, subcommand_rows_of}
+use Rattle.lf_words.proofs.Reading.{asks, asks_nothing, command_is, fault_is_none, is_refusal, kinds_are}
+use Rattle.lf_words.proofs.words.asked.Goals as goal
+
+pub returns-in-Some-clause-words : goal.returns-in-Some-clause-words
+returns-in-Some-clause-words c some =
+    let words = map string_bytes c.args.words.now in
+    let app = app_of c.in_ok-program.field-0 in
+    let m = c.in-Ok.matches in
+    asks words (subcommand_rows_of m) c.in_ok-asked-in-Ok.field-0 c.in-Some.asked
+    (fault_is_none app words m c.in_ok-program.ensures c.in-Ok.ensures.kinds)
+    (command_is app words m c.in_ok-program.ensures c.in-Ok.ensures.matches)
+    c.in_ok-asked-in-Ok.ensures c.in-Some.is
+
+pub returns-in-Ok-clause-words : goal.returns-in-Ok-clause-words
+returns-in-Ok-clause-words c some =
+    let words = map string_bytes c.args.words.now in
+    let app = app_of c.in_ok-program.field-0 in
+    let m = c.in-Ok.matches in
+    inr (inr (
+      c.in_ok-unread-in-None.ensures,
+      fault_is_none app words m c.in_ok-program.ensures c.in-Ok.ensures.kinds,
+      asks_nothing words (subcommand_rows_of m) c.in_ok-asked-in-Ok.field-0
+          (command_is app words m c.in_ok-program.ensures c.in-Ok.ensures.matches) c.in_ok-asked-in-Ok.ensures c.in-None.is,
+    ))
+
+pub returns-clause-words : goal.returns-clause-words
+returns-clause-words c some =
+    let words = map string_bytes c.args.words.now in
+    is_refusal words (kind_of c.in-Err.error) c.refused.result.status c.refused.ensures
+    (kinds_are (app_of c.in_ok-program.field-0) words c.in-Err.error c.in_ok-program.ensures c.in-Err.ensures.kinds)

@@ -1,0 +1,121 @@
+//! The reading of a command line.
+
+ghost use Rattle.std.specs.Prelude.{◌≡◌, ◌≢◌, ◌↔◌, ◌⊎◌, IsTrue, IfOk, IfErr, MatchResult, [], ◌∷◌, map, option_map, codes, true};
+ghost use Rattle.std.specs.String.{string_bytes};
+ghost use Rattle.clap.specs.Words.{first_of, found_of, kind_of, rows_of, subcommand_rows_of};
+ghost use Rattle.lf_words.specs.Statuses.{is_status, status_of};
+ghost use Rattle.lf_words.specs.Words.{Asks, IsAnswer, IsAskedBy, IsAskedIn, IsPartOf, IsRefusal, texts_of};
+
+use crate::commands::program;
+use crate::{Asked, Unasked};
+use clap::error::ErrorKind;
+use clap::{ArgMatches, Error};
+use std::alloc::{AllocError, Global};
+
+/// What the words after the program's name ask for. No words ask for `search -`.
+pub fn asked(alloc: Global, words: &[String]) -> Result<Asked, Unasked>
+    ensures no_words { words.now ≡ [] → MatchResult result (λ a. texts_of a ≡ codes "search" ∷ codes "-" ∷ []) (λ u. u.status ≡ 3) }
+    ensures words { words.now ≢ [] → MatchResult result (Asks (map string_bytes words.now))
+        (λ u. IsRefusal (map string_bytes words.now) u.status) }
+    ensures status { IfErr result (λ u. is_status u.status ≡ true) }
+{
+    if words.is_empty() {
+        return Ok(Asked::Search {
+            file: String::from_str(alloc, "-")?,
+        });
+    }
+    match program(alloc)?.try_get_matches_from(words) {
+        Ok(matches) => match command(alloc, words, &matches)? {
+            Some(asked) => Ok(asked),
+            None => Err(unread(alloc)?),
+        },
+        Err(error) => Err(refused(alloc, &error)),
+    }
+}
+
+/// What `clap`'s matches ask for. None where they ask for nothing that is among the words.
+fn command(
+    alloc: Global,
+    words: &[String],
+    matches: &ArgMatches<'_>,
+) -> Result<Option<Asked>, AllocError>
+    ensures { IfOk result (IsAnswer (IsAskedIn (map string_bytes words.now)
+        (subcommand_rows_of matches.now))) }
+{
+    match matches.subcommand() {
+        Some((name, rest)) if name == "search" => search(alloc, words, rest),
+        _ => Ok(None),
+    }
+}
+
+/// What the matches of `search` ask for. None where they ask for nothing that is among the words.
+fn search(
+    alloc: Global,
+    words: &[String],
+    matches: &ArgMatches<'_>,
+) -> Result<Option<Asked>, AllocError>
+    ensures { IfOk result (IsAnswer (IsAskedBy (map string_bytes words.now) (codes "search")
+        (rows_of (found_of matches.now)))) }
+{
+    let Some(file) = value(matches, "file") else {
+        return Ok(None);
+    };
+    if !are_part_of(&["search", file], words) {
+        return Ok(None);
+    }
+    Ok(Some(Asked::Search {
+        file: String::from_str(alloc, file)?,
+    }))
+}
+
+/// The value of an argument.
+fn value<'a>(matches: &ArgMatches<'a>, argument: &str) -> Option<&'a str>
+    ensures { option_map (λ s. s.now) result
+        ≡ first_of argument.now (rows_of (found_of matches.now)) }
+{
+    matches.get_str(argument)
+}
+
+/// The refusal of words that `clap` takes and that ask for nothing.
+fn unread(alloc: Global) -> Result<Unasked, AllocError>
+    ensures { IfOk result (λ u. u.status ≡ 2) }
+{
+    Ok(Unasked {
+        status: 2,
+        text: Some(String::from_str(alloc, "error: the words ask for nothing\n")?),
+    })
+}
+
+/// Why `clap` refuses the words.
+fn refused(alloc: Global, error: &Error) -> Unasked
+    ensures { (result.status ≡ 3) ⊎ (result.status ≡ status_of (kind_of error.now)) }
+{
+    let status = match error.kind() {
+        ErrorKind::OutOfMemory => 3,
+        ErrorKind::DisplayHelp | ErrorKind::DisplayVersion => 0,
+        _ => 2,
+    };
+    match error.to_string(alloc) {
+        Ok(text) => Unasked {
+            status,
+            text: Some(text),
+        },
+        Err(_) => Unasked {
+            status: 3,
+            text: None,
+        },
+    }
+}
+
+/// Whether the texts are all among the words, in their order.
+fn are_part_of(texts: &[&str], words: &[String]) -> bool
+    ensures { IsTrue result ↔ IsPartOf (map (λ t. t.now) texts.now) (map string_bytes words.now) }
+{
+    let mut met = 0;
+    for word in words {
+        if met < texts.len() && texts[met] == word.as_str() {
+            met += 1;
+        }
+    }
+    met == texts.len()
+}
