@@ -29,7 +29,7 @@ pub fn asked(alloc: Global, words: &[String]) -> Result<Asked, Unasked>
             Some(asked) => Ok(asked),
             None => Err(unread(alloc)?),
         },
-        Err(error) => Err(refused(alloc, &error)),
+        Err(error) => Err(refused(alloc, &error)?),
     }
 }
 
@@ -44,6 +44,7 @@ fn command(
 {
     match matches.subcommand() {
         Some((name, rest)) if name == "search" => search(alloc, words, rest),
+        Some((name, rest)) if name == "run" => run(alloc, words, rest),
         _ => Ok(None),
     }
 }
@@ -68,6 +69,30 @@ fn search(
     }))
 }
 
+/// What the matches of `run` ask for. None where they ask for nothing that is among the words.
+fn run(
+    alloc: Global,
+    words: &[String],
+    matches: &ArgMatches<'_>,
+) -> Result<Option<Asked>, AllocError>
+    ensures { IfOk result (IsAnswer (IsAskedBy (map string_bytes words.now) (codes "run")
+        (rows_of (found_of matches.now)))) }
+{
+    let Some(file) = value(matches, "file") else {
+        return Ok(None);
+    };
+    let Some(faults) = value(matches, "faults") else {
+        return Ok(None);
+    };
+    if !are_part_of(&["run", file, faults], words) {
+        return Ok(None);
+    }
+    Ok(Some(Asked::Run {
+        file: String::from_str(alloc, file)?,
+        faults: String::from_str(alloc, faults)?,
+    }))
+}
+
 /// The value of an argument.
 fn value<'a>(matches: &ArgMatches<'a>, argument: &str) -> Option<&'a str>
     ensures { option_map (λ s. s.now) result
@@ -87,24 +112,18 @@ fn unread(alloc: Global) -> Result<Unasked, AllocError>
 }
 
 /// Why `clap` refuses the words.
-fn refused(alloc: Global, error: &Error) -> Unasked
-    ensures { (result.status ≡ 3) ⊎ (result.status ≡ status_of (kind_of error.now)) }
+fn refused(alloc: Global, error: &Error) -> Result<Unasked, AllocError>
+    ensures { IfOk result (λ u. u.status ≡ status_of (kind_of error.now)) }
 {
     let status = match error.kind() {
-        ErrorKind::OutOfMemory => 3,
+        ErrorKind::OutOfMemory => return Err(AllocError),
         ErrorKind::DisplayHelp | ErrorKind::DisplayVersion => 0,
         _ => 2,
     };
-    match error.to_string(alloc) {
-        Ok(text) => Unasked {
-            status,
-            text: Some(text),
-        },
-        Err(_) => Unasked {
-            status: 3,
-            text: None,
-        },
-    }
+    Ok(Unasked {
+        status,
+        text: Some(error.to_string(alloc)?),
+    })
 }
 
 /// Whether the texts are all among the words, in their order.

@@ -29,5 +29,5 @@ returns-in-Ok-clause-words c some =
 pub returns-clause-words : goal.returns-clause-words
 returns-clause-words c some =
     let words = map string_bytes c.args.words.now in
-    is_refusal words (kind_of c.in-Err.error) c.refused.result.status c.refused.ensures
+    is_refusal words (kind_of c.in-Err.error) c.in_ok-refused-in-Err.field-0.status c.in_ok-refused-in-Err.ensures
     (kinds_are (app_of c.in_ok-program.field-0) words c.in-Err.error c.in_ok-program.ensures c.in-Err.ensures.kinds)
