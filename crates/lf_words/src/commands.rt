@@ -23,8 +23,15 @@ Exit status:
   2  the scenario or the faults were refused, or the words were wrong
   3  memory was wanting, or a device failed";
 
-/// The command line of the program.
+/// The command line of the program, with the program's name in help.
 pub(crate) fn program<'a>(alloc: Global) -> Result<Command<'a>, AllocError>
+    ensures { IfOk result (λ c. app_of c ≡ program) }
+{
+    unnamed(alloc)?.bin_name("leastfault")
+}
+
+/// The command line of the program.
+fn unnamed<'a>(alloc: Global) -> Result<Command<'a>, AllocError>
     ensures { IfOk result (λ c. app_of c ≡ program) }
 {
     Command::new(alloc, "leastfault")

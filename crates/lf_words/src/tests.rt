@@ -139,7 +139,7 @@ fn help_is_no_error(rt: HostRuntime) {
             Err(unasked) => {
                 assert_eq!(rt; unasked.status(), 0, "of {words:?}");
                 assert!(rt; !unasked.is_error());
-                assert!(rt; unasked.text().contains("Usage: "));
+                assert!(rt; unasked.text().contains("Usage: leastfault "));
             }
         }
     }
