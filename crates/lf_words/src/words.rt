@@ -3,6 +3,7 @@
 ghost use Rattle.std.specs.Prelude.{◌≡◌, ◌≢◌, ◌↔◌, ◌⊎◌, IsTrue, IfOk, IfErr, MatchResult, [], ◌∷◌, map, option_map, codes, true};
 ghost use Rattle.std.specs.String.{string_bytes};
 ghost use Rattle.clap.specs.Words.{first_of, found_of, kind_of, rows_of, subcommand_rows_of};
+ghost use Rattle.lf_words.specs.Plain.{is_plain_command};
 ghost use Rattle.lf_words.specs.Statuses.{is_status, status_of};
 ghost use Rattle.lf_words.specs.Words.{Asks, IsAnswer, IsAskedBy, IsAskedIn, IsPartOf, IsRefusal, texts_of};
 
@@ -17,6 +18,8 @@ pub fn asked(alloc: Global, words: &[String]) -> Result<Asked, Unasked>
     ensures no_words { words.now ≡ [] → MatchResult result (λ a. texts_of a ≡ codes "search" ∷ codes "-" ∷ []) (λ u. u.status ≡ 3) }
     ensures words { words.now ≢ [] → MatchResult result (Asks (map string_bytes words.now))
         (λ u. IsRefusal (map string_bytes words.now) u.status) }
+    ensures plain { is_plain_command (map string_bytes words.now) ≡ true → MatchResult result
+        (λ a. texts_of a ≡ map string_bytes words.now) (λ u. u.status ≡ 3) }
     ensures status { IfErr result (λ u. is_status u.status ≡ true) }
 {
     if words.is_empty() {
