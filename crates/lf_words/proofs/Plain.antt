@@ -3,6 +3,7 @@ use Rattle.std.proofs.Common.{◌≡◌, ◌==◌, ℕ, List, [], ◌∷◌, Som
 use Rattle.std.specs.Prelude.{Bool}
 use Rattle.std.specs.Str.{bytes_eq}
 use Rattle.clap.specs.Words.{Row, Text, fault_of, first_of, subcommand_of}
+use Rattle.clap.specs.declared.error.kind.ErrorKind.TheVariants as kind
 use Rattle.clap.specs.Lexer.{long_of, short_of, strip_byte}
 use Rattle.clap.proofs.OnLiterals.{clap_on_literals}
 use Rattle.lf_words.specs.Commands.{program}
@@ -65,3 +66,16 @@ pub run_names : (file faults : Text) → IsTaken file → IsTaken faults
     ≡ Some (codes "run", Some file, Some faults)
 unfolding clap_on_literals
 run_names file faults taken taken_too = rw (taken.no_end, taken.no_long, taken.no_short, taken_too.no_end, taken_too.no_long, taken_too.no_short) refl
+
+pub help_fault : (words : List Text) → fault_of program (codes "--help" ∷ words) ≡ kind.DisplayHelp ∷ []
+unfolding clap_on_literals
+help_fault words = refl
+
+pub short_help_fault : (words : List Text) → fault_of program (codes "-h" ∷ words) ≡ kind.DisplayHelp ∷ []
+unfolding clap_on_literals
+short_help_fault words = refl
+
+pub unknown_fault : (word : Text) (words : List Text) → IsTaken word → bytes_eq (codes "search") word ≡ false → bytes_eq (codes "run") word ≡ false
+    → fault_of program (word ∷ words) ≡ kind.UnknownArgument ∷ kind.InvalidSubcommand ∷ []
+unfolding clap_on_literals
+unknown_fault word words taken no_search no_run = rw (no_search, no_run, taken.no_end, taken.no_long, taken.no_short) refl

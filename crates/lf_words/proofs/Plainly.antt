@@ -1,16 +1,18 @@
 -- Plain words ask for just what they say.
-use Rattle.std.proofs.Common.{◌≡◌, ◌<◌, ◌&&◌, ◌∙◌, ℕ, List, [], ◌∷◌, Option, Some, None, String, Global, inl, inr, refl, sym, ap, subst, true, false, codes, map, option_map, slice_index, arith}
-use Rattle.std.specs.Prelude.{Bool, unwrap_or}
+use Rattle.std.proofs.Common.{◌≡◌, ◌<◌, ◌&&◌, ◌||◌, not, ◌∙◌, ℕ, List, [], ◌∷◌, Option, Some, None, String, Global, inl, inr, refl, sym, ap, subst, true, false, codes, map, option_map, slice_index, arith}
+use Rattle.std.specs.Prelude.{Bool, unwrap_or, ◌⊎◌}
 use Rattle.std.specs.Str.{bytes_eq}
 use Rattle.std.specs.String.{string_bytes}
 use Rattle.std.proofs.lemmas.Slice.Eq.{bytes_eq-Decides}
-use Rattle.clap.specs.Words.{Kinds, Row, Text, subcommand_of}
+use Rattle.clap.specs.declared.error.kind.ErrorKind.{ErrorKind}
+use Rattle.clap.specs.declared.error.kind.ErrorKind.TheVariants as kind
+use Rattle.clap.specs.Words.{Kinds, Row, Text, fault_of, subcommand_of}
 use Rattle.lf_words.specs.Commands.{program}
-use Rattle.lf_words.specs.Plain.{is_plain, is_plain_command}
+use Rattle.lf_words.specs.Plain.{asks_help, is_plain, is_plain_command, is_unknown}
 use Rattle.lf_words.specs.Words.{Asks, HasStatus, IsAskedIn, IsRefusal, texts_of}
 use Rattle.lf_words.specs.declared.types.Asked.{Asked}
 use Rattle.lf_words.specs.declared.types.Asked.TheVariants as asked
-use Rattle.lf_words.proofs.Plain.{IsTaken, is_taken, named_both, named_file, run_fault, run_names, search_fault, search_names}
+use Rattle.lf_words.proofs.Plain.{IsTaken, is_taken, named_both, named_file, run_fault, run_names, search_fault, search_names, help_fault, short_help_fault, unknown_fault}
 
 abbrev Both : Type 0
 Both = Text × Option Text × Option Text
@@ -129,3 +131,51 @@ refused_plainly (command ∷ file ∷ faults ∷ []) n plain refusal =
     )
     (subst (λ c. IsRefusal (c ∷ string_bytes file ∷ string_bytes faults ∷ []) n) is.0 refusal)
 refused_plainly (command ∷ file ∷ faults ∷ more ∷ rest) n plain refusal = absurd (no_truth plain)
+
+either : (x y : Bool) → (x || y) ≡ true → (x ≡ true) ⊎ (y ≡ true)
+either true y h = inl refl
+either false y h = inr h
+
+not_same : (b : Bool) → not b ≡ true → b ≡ false
+not_same false h = refl
+not_same true h = sym h
+
+pub help_is : (words : List Text) → asks_help words ≡ true → fault_of program words ≡ kind.DisplayHelp ∷ []
+help_is [] help = absurd (no_truth help)
+help_is (word ∷ words) help = elim (either (bytes_eq word (codes "--help")) (bytes_eq word (codes "-h")) help) [
+  | inl long ↦ rw ((bytes_eq-Decides word (codes "--help")).0 long) (help_fault words)
+  | inr short ↦ rw ((bytes_eq-Decides word (codes "-h")).0 short) (short_help_fault words)
+]
+
+pub unknown_is : (words : List Text) → is_unknown words ≡ true → fault_of program words ≡ kind.UnknownArgument ∷ kind.InvalidSubcommand ∷ []
+unknown_is [] unknown = absurd (no_truth unknown)
+unknown_is (word ∷ words) unknown =
+    let h = both (is_plain word) (not (bytes_eq (codes "search") word) && not (bytes_eq (codes "run") word)) unknown in
+    let k = both (not (bytes_eq (codes "search") word)) (not (bytes_eq (codes "run") word)) h.1 in
+    unknown_fault word words (is_taken word h.0) (not_same _ k.0) (not_same _ k.1)
+
+abbrev kinds_count : Kinds → ℕ
+kinds_count [] = 0
+kinds_count (kind ∷ kinds) = 1
+
+pub takes_none : (k : ErrorKind) (ks : Kinds) (kinds : Kinds) → kinds ≡ k ∷ ks → kinds ≡ [] → ⊥
+takes_none k ks kinds some none = apart 0 1 (omega arith) (ap kinds_count (sym none ∙ some))
+
+pub help_status : (words : List Text) (n : ℕ) → asks_help words ≡ true → IsRefusal words n → (n ≡ 0) ⊎ (n ≡ 3)
+help_status words n help (inl three) = inr three
+help_status words n help (inr (inl kind)) = elim (subst (λ (kinds : Kinds). HasStatus kinds n) (help_is words help) kind) [
+  | inl is ↦ inl is
+  | inr none ↦ absurd none
+]
+help_status words n help (inr (inr nothing)) = absurd (takes_none _ _ _ (help_is words help) nothing.1)
+
+pub unknown_status : (words : List Text) (n : ℕ) → is_unknown words ≡ true → IsRefusal words n → (n ≡ 2) ⊎ (n ≡ 3)
+unknown_status words n unknown (inl three) = inr three
+unknown_status words n unknown (inr (inl kind)) = elim (subst (λ (kinds : Kinds). HasStatus kinds n) (unknown_is words unknown) kind) [
+  | inl is ↦ inl is
+  | inr more ↦ elim more [
+    | inl is ↦ inl is
+    | inr none ↦ absurd none
+  ]
+]
+unknown_status words n unknown (inr (inr nothing)) = absurd (takes_none _ _ _ (unknown_is words unknown) nothing.1)

@@ -45,7 +45,8 @@ abbrev pub IsAnswer : (Asked → Type 0) → Option Asked → Type 0
 IsAnswer P (Some a) = P a
 IsAnswer P None = (a : Asked) → P a → ⊥
 
--- the status of a refusal: for want of memory, as `clap` refuses the words, or of words that it takes and that ask for nothing
+-- the status of a refusal: for want of memory, as `clap` refuses the words, or of words that it takes and that ask for
+-- nothing
 abbrev pub IsRefusal : List Text → ℕ → Type 0
 IsRefusal words n = (n ≡ 3) ⊎ (HasStatus (fault_of program words) n
     ⊎ ((n ≡ 2) × (fault_of program words ≡ []) × ((a : Asked) → Asks words a → ⊥)))

@@ -1,9 +1,9 @@
 //! The reading of a command line.
 
-ghost use Rattle.std.specs.Prelude.{◌≡◌, ◌≢◌, ◌↔◌, ◌⊎◌, IsTrue, IfOk, IfErr, MatchResult, [], ◌∷◌, map, option_map, codes, true};
+ghost use Rattle.std.specs.Prelude.{◌≡◌, ◌≢◌, ◌↔◌, ◌⊎◌, IsTrue, IfOk, IfErr, IsErrAnd, MatchResult, [], ◌∷◌, map, option_map, codes, true};
 ghost use Rattle.std.specs.String.{string_bytes};
 ghost use Rattle.clap.specs.Words.{first_of, found_of, kind_of, rows_of, subcommand_rows_of};
-ghost use Rattle.lf_words.specs.Plain.{is_plain_command};
+ghost use Rattle.lf_words.specs.Plain.{asks_help, is_plain_command, is_unknown};
 ghost use Rattle.lf_words.specs.Statuses.{is_status, status_of};
 ghost use Rattle.lf_words.specs.Words.{Asks, IsAnswer, IsAskedBy, IsAskedIn, IsPartOf, IsRefusal, texts_of};
 
@@ -14,12 +14,20 @@ use clap::{ArgMatches, Error};
 use std::alloc::{AllocError, Global};
 
 /// What the words after the program's name ask for. No words ask for `search -`.
+///
+/// Plain words, which are `-` or don't begin with it, ask for just what they say. Of other words, as where an option or
+/// `--` is among them, `clap` decides. The status 3 comes only where memory has run out.
 pub fn asked(alloc: Global, words: &[String]) -> Result<Asked, Unasked>
-    ensures no_words { words.now ≡ [] → MatchResult result (λ a. texts_of a ≡ codes "search" ∷ codes "-" ∷ []) (λ u. u.status ≡ 3) }
-    ensures words { words.now ≢ [] → MatchResult result (Asks (map string_bytes words.now))
-        (λ u. IsRefusal (map string_bytes words.now) u.status) }
+    ensures no_words { words.now ≡ [] → MatchResult result
+        (λ a. texts_of a ≡ codes "search" ∷ codes "-" ∷ []) (λ u. u.status ≡ 3) }
     ensures plain { is_plain_command (map string_bytes words.now) ≡ true → MatchResult result
         (λ a. texts_of a ≡ map string_bytes words.now) (λ u. u.status ≡ 3) }
+    ensures help { asks_help (map string_bytes words.now) ≡ true → IsErrAnd result
+        (λ u. (u.status ≡ 0) ⊎ (u.status ≡ 3)) }
+    ensures unknown { is_unknown (map string_bytes words.now) ≡ true → IsErrAnd result
+        (λ u. (u.status ≡ 2) ⊎ (u.status ≡ 3)) }
+    ensures words { words.now ≢ [] → MatchResult result (Asks (map string_bytes words.now))
+        (λ u. IsRefusal (map string_bytes words.now) u.status) }
     ensures status { IfErr result (λ u. is_status u.status ≡ true) }
 {
     if words.is_empty() {

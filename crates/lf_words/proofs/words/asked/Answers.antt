@@ -1,7 +1,7 @@
 use Rattle.std.proofs.Common.{map, inr, rules}
 use Rattle.std.specs.String.{string_bytes}
 use Rattle.clap.specs.Words.{app_of, kind_of, subcommand_rows_of}
-use Rattle.lf_words.proofs.Plainly.{asks_plainly, refused_plainly}
+use Rattle.lf_words.proofs.Plainly.{asks_plainly, refused_plainly, help_is, help_status, takes_none, unknown_is, unknown_status}
 use Rattle.lf_words.proofs.Reading.{asks, asks_nothing, command_is, fault_is_none, is_refusal, kinds_are}
 use Rattle.lf_words.proofs.words.asked.Goals as goal
 
@@ -44,3 +44,23 @@ returns-in-Ok-clause-plain c plain =
 pub returns-clause-plain : goal.returns-clause-plain
 returns-clause-plain c plain =
     refused_plainly c.args.words.now c.in_ok-refused-in-Err.field-0.status plain (returns-clause-words c (search rules))
+
+pub returns-in-Some-clause-help : goal.returns-in-Some-clause-help
+returns-in-Some-clause-help c help =
+    takes_none _ _ _ (help_is (map string_bytes c.args.words.now) help) (returns-in-Some-clause-words c (search rules)).0
+
+pub returns-in-Some-clause-unknown : goal.returns-in-Some-clause-unknown
+returns-in-Some-clause-unknown c unknown =
+    takes_none _ _ _ (unknown_is (map string_bytes c.args.words.now) unknown) (returns-in-Some-clause-words c (search rules)).0
+
+pub returns-in-Ok-clause-help : goal.returns-in-Ok-clause-help
+returns-in-Ok-clause-help c help =
+    help_status (map string_bytes c.args.words.now) c.in_ok-unread-in-None.field-0.status help (returns-in-Ok-clause-words c (search rules))
+
+pub returns-clause-help : goal.returns-clause-help
+returns-clause-help c help =
+    help_status (map string_bytes c.args.words.now) c.in_ok-refused-in-Err.field-0.status help (returns-clause-words c (search rules))
+
+pub returns-clause-unknown : goal.returns-clause-unknown
+returns-clause-unknown c unknown =
+    unknown_status (map string_bytes c.args.words.now) c.in_ok-refused-in-Err.field-0.status unknown (returns-clause-words c (search rules))
