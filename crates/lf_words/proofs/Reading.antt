@@ -24,11 +24,10 @@ has_status [] k n among status = elim among [ ]
 has_status (x ∷ xs) k n (inl is) status = inl (status ∙ ap status_of is)
 has_status (x ∷ xs) k n (inr later) status = inr (has_status xs k n later status)
 
-pub is_refusal : (words : List Text) (k : ErrorKind) (n : ℕ) → (n ≡ 3) ⊎ (n ≡ status_of k)
+pub is_refusal : (words : List Text) (k : ErrorKind) (n : ℕ) → n ≡ status_of k
     → (k ≡ kind.OutOfMemory) ⊎ IsAmong k (fault_of program words) → IsRefusal words n
-is_refusal words k n (inl memory) among = inl memory
-is_refusal words k n (inr status) (inl memory) = inl (status ∙ ap status_of memory)
-is_refusal words k n (inr status) (inr among) = inr (inl (has_status (fault_of program words) k n among status))
+is_refusal words k n status (inl memory) = inl (status ∙ ap status_of memory)
+is_refusal words k n status (inr among) = inr (inl (has_status (fault_of program words) k n among status))
 
 pub fault_is_none : (app : App) (words : List Text) (m : ArgMatches) → app ≡ program
     → (is_simple_and_free app ≡ true → fault_of app words ≡ []) → fault_of program words ≡ []

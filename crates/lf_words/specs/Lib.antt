@@ -2,3 +2,4 @@ pub mod Statuses
 pub mod Texts
 pub mod Commands
 pub mod Words
+pub mod Plain

@@ -15,10 +15,13 @@ IsPartOf (text ∷ texts) (word ∷ words) = ((text ≡ word) × IsPartOf texts 
 -- the command, and what it requires
 abbrev pub texts_of : Asked → List Text
 texts_of (asked.Search file) = codes "search" ∷ file.bytes.items ∷ []
+texts_of (asked.Run file faults) = codes "run" ∷ file.bytes.items ∷ faults.bytes.items ∷ []
 
 -- the command of this name with these matches asks for this
 abbrev pub IsMatched : Text → List Row → Asked → Type 0
 IsMatched name rows (asked.Search file) = (name ≡ codes "search") × (first_of (codes "file") rows ≡ Some file.bytes.items)
+IsMatched name rows (asked.Run file faults) = (name ≡ codes "run") × (first_of (codes "file") rows ≡ Some file.bytes.items)
+    × (first_of (codes "faults") rows ≡ Some faults.bytes.items)
 
 -- it asks for this, and of words that are there
 abbrev pub IsAskedBy : List Text → Text → List Row → Asked → Type 0
@@ -42,7 +45,8 @@ abbrev pub IsAnswer : (Asked → Type 0) → Option Asked → Type 0
 IsAnswer P (Some a) = P a
 IsAnswer P None = (a : Asked) → P a → ⊥
 
--- the status of a refusal: for want of memory, as `clap` refuses the words, or of words that it takes and that ask for nothing
+-- the status of a refusal: for want of memory, as `clap` refuses the words, or of words that it takes and that ask for
+-- nothing
 abbrev pub IsRefusal : List Text → ℕ → Type 0
 IsRefusal words n = (n ≡ 3) ⊎ (HasStatus (fault_of program words) n
     ⊎ ((n ≡ 2) × (fault_of program words ≡ []) × ((a : Asked) → Asks words a → ⊥)))

@@ -25,6 +25,14 @@ fn search(alloc: Global, file: &str) -> Result<Asked, AllocError> {
     })
 }
 
+/// A run of a file under faults.
+fn run(alloc: Global, file: &str, faults: &str) -> Result<Asked, AllocError> {
+    Ok(Asked::Run {
+        file: String::from_str(alloc, file)?,
+        faults: String::from_str(alloc, faults)?,
+    })
+}
+
 #[test]
 fn no_words_search_standard_input(rt: HostRuntime) -> Result<(), Fail> {
     let alloc = rt.alloc();
@@ -55,6 +63,31 @@ fn a_search_names_its_file(rt: HostRuntime) -> Result<(), Fail> {
 }
 
 #[test]
+fn a_run_names_its_file_and_its_faults(rt: HostRuntime) -> Result<(), Fail> {
+    let alloc = rt.alloc();
+    for (words, file, faults) in [
+        (["run", "a.toml", ""].as_slice(), "a.toml", ""),
+        (
+            ["run", "-", "omit 0>1 @2,crash 2 @3"].as_slice(),
+            "-",
+            "omit 0>1 @2,crash 2 @3",
+        ),
+        (["run", "run", "run"].as_slice(), "run", "run"),
+        (["run", "", ""].as_slice(), "", ""),
+        (["run", "ü b", " é,日本 "].as_slice(), "ü b", " é,日本 "),
+        (["run", "a", "--", "-h"].as_slice(), "a", "-h"),
+        (["run", "--", "-a", "--help"].as_slice(), "-a", "--help"),
+    ] {
+        assert_eq!(rt;
+            read(alloc, words).ok(),
+            Some(run(alloc, file, faults)?),
+            "of {file}"
+        );
+    }
+    Ok(())
+}
+
+#[test]
 fn wrong_words_are_refused(rt: HostRuntime) {
     for words in [
         ["search"].as_slice(),
@@ -68,6 +101,12 @@ fn wrong_words_are_refused(rt: HostRuntime) {
         ["search", "--tree"].as_slice(),
         ["--", "search", "a"].as_slice(),
         ["Search", "a"].as_slice(),
+        ["run"].as_slice(),
+        ["run", "a"].as_slice(),
+        ["run", "a", "crash 0 @1", "crash 1 @1"].as_slice(),
+        ["run", "a", "-x"].as_slice(),
+        ["search", "--file", "a"].as_slice(),
+        ["search", "a", "--workers", "2"].as_slice(),
         ["--version"].as_slice(),
         ["-V"].as_slice(),
         ["search", "--version"].as_slice(),
@@ -92,13 +131,15 @@ fn help_is_no_error(rt: HostRuntime) {
         ["search", "--help"].as_slice(),
         ["search", "-h"].as_slice(),
         ["search", "a", "--help"].as_slice(),
+        ["run", "--help"].as_slice(),
+        ["--help", "run"].as_slice(),
     ] {
         match read(rt.alloc(), words) {
             Ok(asked) => assert!(rt; false, "{words:?} ask for {asked:?}"),
             Err(unasked) => {
                 assert_eq!(rt; unasked.status(), 0, "of {words:?}");
                 assert!(rt; !unasked.is_error());
-                assert!(rt; unasked.text().contains("Usage: "));
+                assert!(rt; unasked.text().contains("Usage: leastfault "));
             }
         }
     }

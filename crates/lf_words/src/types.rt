@@ -8,4 +8,11 @@ pub enum Asked {
         /// The file of the scenario.
         file: String,
     },
+    /// To run a scenario once, under faults that are given.
+    Run {
+        /// The file of the scenario.
+        file: String,
+        /// The faults, as they were written.
+        faults: String,
+    },
 }

@@ -1,6 +1,6 @@
 //! Why a command line asks for nothing.
 
-ghost use Rattle.std.specs.Prelude.{◌≡◌, ◌≢◌, ◌↔◌, IsTrue, true};
+ghost use Rattle.std.specs.Prelude.{◌≡◌, ◌≢◌, ◌==◌, ◌↔◌, IsTrue, is_some, not, true};
 ghost use Rattle.lf_words.specs.Statuses.{is_status};
 
 use std::alloc::AllocError;
@@ -11,6 +11,7 @@ pub struct Unasked {
     pub(crate) status: u8,
     pub(crate) text: Option<String>,
     ghost known: { is_status status ≡ true },
+    ghost told: { is_some text ≡ not (status == 3) },
 }
 
 impl Unasked {
