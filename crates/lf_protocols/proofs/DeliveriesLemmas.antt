@@ -33,15 +33,17 @@ brings-cons x xs (suc k, y, within, is, e) = inr (k, y, omega arith, is, e)
 -- retry: one that has the data keeps it
 retry_note-Has : (note : Note) → retry_note holdings.Has note ≡ holdings.Has
 retry_note-Has Payload = refl
+retry_note-Has note = refl
 
 retry_after-Has : (xs : List (Letter Note)) → retry_after holdings.Has xs ≡ holdings.Has
 retry_after-Has xs = fold_stays (λ before (letter : Letter Note). retry_note before letter.note) holdings.Has (λ letter. retry_note-Has letter.note) xs
 
 retry_note-Payload : (before : Holding) (note : Note) → note ≡ Payload → retry_note before note ≡ holdings.Has
-retry_note-Payload before Payload e = refl
+retry_note-Payload before note e = ap (retry_note before) e
 
 retry_note-from : (before : Holding) (note : Note) → retry_note before note ≡ holdings.Has → (before ≡ holdings.Has) ⊎ (note ≡ Payload)
 retry_note-from before Payload e = inr refl
+retry_note-from before note e = inl e
 
 retry_after-from : (before : Holding) (xs : List (Letter Note)) → retry_after before xs ≡ holdings.Has → (before ≡ holdings.Has) ⊎ BringsData xs
 retry_after-from before [] e = inl e
@@ -68,17 +70,18 @@ retry_after-has before xs = (retry_after-from before xs, λ h. elim h [ inl had 
 
 -- redundant: letters change nothing at a node that has the data, and the first that brings it to another counts
 redundant_note-Has : (sent : ℕ) (note : Note) → redundant_note (relays.Has sent) note ≡ relays.Has sent
-redundant_note-Has sent Payload = refl
+redundant_note-Has sent note = refl
 
 pub redundant_after-Has : (sent : ℕ) (xs : List (Letter Note)) → redundant_after (relays.Has sent) xs ≡ relays.Has sent
 redundant_after-Has sent xs = fold_stays (λ before (letter : Letter Note). redundant_note before letter.note) (relays.Has sent) (λ letter. redundant_note-Has sent letter.note) xs
 
 redundant_note-Payload : (note : Note) → note ≡ Payload → redundant_note relays.Lacks note ≡ relays.Has 0
-redundant_note-Payload Payload e = refl
+redundant_note-Payload note e = ap (redundant_note relays.Lacks) e
 
 -- what a letter does at a node that lacks the data
 redundant_note-cases : (note : Note) → (note ≡ Payload) ⊎ (redundant_note relays.Lacks note ≡ relays.Lacks)
 redundant_note-cases Payload = inl refl
+redundant_note-cases note = inr refl
 
 pub redundant_after-brings : (xs : List (Letter Note)) → BringsData xs → redundant_after relays.Lacks xs ≡ relays.Has 0
 redundant_after-brings [] b = absurd (brings-none b)
@@ -154,7 +157,7 @@ IsCounted-sends nodes tries node (relays.Has sent) h = elim (cases_lt sent tries
 
 IsCounted-note : (tries : ℕ) (before : Relay) (note : Note) → IsCounted tries before → IsCounted tries (redundant_note before note)
 IsCounted-note tries relays.Lacks Payload h = omega arith
-IsCounted-note tries (relays.Has sent) Payload h = h
+IsCounted-note tries own note h = h
 
 IsCounted-after : (tries : ℕ) (before : Relay) (xs : List (Letter Note)) → IsCounted tries before → IsCounted tries (redundant_after before xs)
 IsCounted-after tries before [] h = h

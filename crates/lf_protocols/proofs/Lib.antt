@@ -1,1 +1,3 @@
 pub mod DeliveriesLemmas
+pub mod NodesLemmas
+pub mod WordsLemmas

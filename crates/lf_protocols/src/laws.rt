@@ -49,7 +49,14 @@ pub fn redundant_delivers()
         IsCounted tries before → IsCounted tries (redundant_step nodes tries node before inbox).state }
 {}
 
-/// Each state shows one of `has` and `lacks`.
+/// Each state shows one of two opposites.
 pub fn facts_are_opposites()
-    ensures { (state : State) → is_shown state Fact.Lacks ≡ not (is_shown state Fact.Has) }
+    ensures data { (state : State) → is_shown state Fact.Lacks ≡ not (is_shown state Fact.Has) }
+    ensures commit { (state : State) → is_shown state Fact.NotCommitted ≡ not (is_shown state Fact.Committed) }
+    ensures abort { (state : State) → is_shown state Fact.NotAborted ≡ not (is_shown state Fact.Aborted) }
+    ensures block { (state : State) → is_shown state Fact.Free ≡ not (is_shown state Fact.Blocked) }
+    ensures write { (state : State) → is_shown state Fact.Empty ≡ not (is_shown state Fact.Holds) }
+    ensures answer { (state : State) → is_shown state Fact.NotDone ≡ not (is_shown state Fact.Done) }
+    ensures leads { (state : State) → is_shown state Fact.Backup ≡ not (is_shown state Fact.Primary) }
+    ensures claim { (state : State) → is_shown state Fact.Unclaimed ≡ not (is_shown state Fact.Claimed) }
 {}
