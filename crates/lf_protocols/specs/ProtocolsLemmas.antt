@@ -1,11 +1,11 @@
 -- No node of a protocol sends to itself, or past the nodes. The machine cites this where it shows its law `silent`.
 use Rattle.std.proofs.Common.{◌≡◌, ℕ, ◌+◌, ◌<◌, ◌≤◌, Bool, true, false, not, ◌||◌, cond, nat_eq, List, [], ◌∷◌, refl, sym, ◌∙◌, subst, arith, inl, inr, eq-eqb}
 use Rattle.std.specs.Prelude.{◌⊎◌, ◌≢◌, ◌&&◌, nat_le, nat_lt, Option, None, fold, slice_index_or}
-use Rattle.std.proofs.lemmas.Bool.{cases_lt, eqb-true, leb-true, ne_eqb}
+use Rattle.std.proofs.lemmas.Bool.{cases_lt, eqb-true, leb-true}
 use Rattle.lf_sim.specs.declared.letter.Letter.{Letter}
 use Rattle.lf_sim.specs.declared.out.Out.{Out}
 use Rattle.lf_sim.specs.declared.out.Stepped.{Stepped}
-use Rattle.lf_sim.specs.Outs.{note_to, notes_by, nothing, note_to_other, to_others, with_note}
+use Rattle.lf_sim.specs.Outs.{note_to, nothing, note_to_other, to_others}
 use Rattle.lf_sim.specs.OutsLemmas.{note_to-nothing, note_to-far, note_to-notes_by, to_others-silent, with_note-others}
 use Rattle.lf_protocols.specs.declared.protocol.Kind.{Kind}
 use Rattle.lf_protocols.specs.declared.protocol.Kind.TheVariants as kinds

@@ -1,5 +1,5 @@
 -- The table of two_phase, rule by rule. The rules that it shares with three_phase stand in CommitTable.
-use Rattle.std.specs.Prelude.{ℕ, Bool, false, true, ◌==◌, if◌then◌else◌, List, fold, slice_index_or}
+use Rattle.std.specs.Prelude.{ℕ, Bool, true, ◌==◌, if◌then◌else◌, List, fold, slice_index_or}
 use Rattle.lf_sim.specs.declared.letter.Letter.{Letter}
 use Rattle.lf_protocols.specs.declared.note.Note.{Note}
 use Rattle.lf_protocols.specs.declared.note.Note.TheVariants as notes
