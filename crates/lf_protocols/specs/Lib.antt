@@ -9,6 +9,7 @@ pub mod CommitTable
 pub mod TwoPhaseTable
 pub mod ThreePhaseTable
 pub mod PrimaryBackupTable
+pub mod Letters
 pub mod Deliveries
 pub mod Protocols
 pub mod ProtocolsLemmas

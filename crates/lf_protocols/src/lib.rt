@@ -21,7 +21,9 @@ mod turns;
 mod two_phase;
 
 pub use fact::Fact;
-pub use laws::{facts_are_opposites, redundant_delivers, retry_delivers};
+pub use laws::{
+    claims_are_heard, facts_are_opposites, prepared_waits, redundant_delivers, retry_delivers,
+};
 pub use nodes::Nodes;
 pub use note::Note;
 pub use protocol::{Kind, Protocol};

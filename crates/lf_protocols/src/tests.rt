@@ -7,7 +7,7 @@ mod replicas;
 
 use crate::{
     Fact, Holding, Kind, Nodes, Note, Phase, Progress, Protocol, Relay, Replica, State,
-    facts_are_opposites, redundant_delivers, retry_delivers,
+    claims_are_heard, facts_are_opposites, prepared_waits, redundant_delivers, retry_delivers,
 };
 use lf_sim::{Letter, Machine, Stepped};
 use std::process::Abort;
@@ -245,6 +245,8 @@ fn words(rt: HostRuntime) -> Result<(), Fail> {
     facts_are_opposites();
     retry_delivers();
     redundant_delivers();
+    prepared_waits();
+    claims_are_heard();
     Ok(())
 }
 
