@@ -39,7 +39,7 @@ impl Nodes {
     }
 
     /// Whether each of the nodes 1 to `nodes` - 1 is one of them.
-    pub fn has_participants(&self, nodes: u32) -> bool
+    pub(crate) fn has_participants(&self, nodes: u32) -> bool
         ensures { result ≡ has_participants nodes self.now }
     {
         for node in 1..nodes {
