@@ -12,6 +12,7 @@ mod reader;
 mod reading;
 mod scenario;
 mod value;
+mod votes;
 
 pub use error::ScenarioError;
 pub use key::Key;
