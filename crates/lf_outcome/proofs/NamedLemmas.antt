@@ -182,8 +182,8 @@ module _ {State Note : Type 0} (w : World State Note Fact) (faults : List Parts)
       ≡ (not (is_up w faults 2 t) || ((is_up w faults 2 t && w.rules.shows 2 (view w faults 2 t) NotDone)
       || ((is_up w faults 0 t && w.rules.shows 0 (view w faults 0 t) Holds) || ((is_up w faults 1 t && w.rules.shows 1 (view w faults 1 t) Holds) || false))))
   durable_of =
-      let R = reaches w faults in
-      let up = λ n. is_up w faults n t in
+      let R : Formula Fact → Bool = reaches w faults in
+      let up : ℕ → Bool = λ n. is_up w faults n t in
       let told = up 2 && w.rules.shows 2 (view w faults 2 t) NotDone in
       let zero_holds = up 0 && w.rules.shows 0 (view w faults 0 t) Holds in
       truth-Any (is_down w faults) (is_shown w faults) (kind.Down 2 t ∷ kind.Shows 2 t NotDone ∷ kind.Shows 0 t Holds ∷ kind.Shows 1 t Holds ∷ [])

@@ -4,7 +4,7 @@ ghost use Rattle.std.specs.Prelude.{◌≡◌, ◌⊎◌, ◌↔◌, ℕ, true, 
 ghost use Rattle.lf_faults.specs.declared.fault.Parts.{Parts};
 ghost use Rattle.lf_protocols.specs.declared.fact.Fact.{Fact};
 ghost use Rattle.lf_sim.specs.Runs.{World, is_up, view};
-ghost use Rattle.lf_outcome.specs.Named.{AllUpShow, UpShows, each_shows, formula_of};
+ghost use Rattle.lf_outcome.specs.Named.{AllUpShow, UpShows, each_shows, one_primary_at, durable_at, formula_of};
 ghost use Rattle.lf_outcome.specs.Truth.{reaches};
 
 use crate::Formula;
@@ -56,7 +56,7 @@ pub fn named(
 
 /// The formula of `OnePrimary`.
 fn one_primary(alloc: Global, step: u32) -> Result<Formula<Fact>, AllocError>
-    ensures { IfOk result (λ formula. (nodes : ℕ) → formula ≡ formula_of Outcome.OnePrimary nodes step) }
+    ensures { IfOk result (λ formula. formula ≡ one_primary_at step) }
 {
     let fact = Fact::Backup;
     let parts = Vec::from_array(
@@ -76,7 +76,7 @@ fn one_primary(alloc: Global, step: u32) -> Result<Formula<Fact>, AllocError>
 
 /// The formula of `Durable`.
 fn durable(alloc: Global, step: u32) -> Result<Formula<Fact>, AllocError>
-    ensures { IfOk result (λ formula. (nodes : ℕ) → formula ≡ formula_of Outcome.Durable nodes step) }
+    ensures { IfOk result (λ formula. formula ≡ durable_at step) }
 {
     let fact = Fact::Holds;
     let parts = Vec::from_array(

@@ -1,18 +1,20 @@
 -- What an inbox without a decision does to a participant that has voted, and what an inbox with a claim does to a replica.
-use Rattle.std.proofs.Common.{◌≡◌, ℕ, ◌≤◌, Bool, true, false, cond, nat_eq, List, [], ◌∷◌, refl, sym, ap, ◌∙◌, inl, inr, arith}
+use Rattle.std.proofs.Common.{◌≡◌, ℕ, ◌≤◌, ◌<◌, ◌+◌, ◌-◌, Bool, true, false, cond, nat_eq, List, [], ◌∷◌, refl, sym, ap, ◌∙◌, inl, inr, arith}
 use Rattle.std.specs.Prelude.{◌⊎◌, ◌≢◌, ◌↔◌, ◌&&◌, fold, slice_index_or}
-use Rattle.std.proofs.lemmas.Bool.{ne_eqb}
+use Rattle.std.proofs.lemmas.Bool.{leb-false, ne_eqb}
 use Rattle.lf_sim.specs.declared.letter.Letter.{Letter}
 use Rattle.lf_sim.specs.declared.out.Stepped.{Stepped}
 use Rattle.lf_protocols.specs.declared.note.Note.{Note}
 use Rattle.lf_protocols.specs.declared.note.Note.TheVariants as notes
 use Rattle.lf_protocols.specs.declared.state.Progress.{Progress}
+use Rattle.lf_protocols.specs.declared.state.Phase.{Phase}
 use Rattle.lf_protocols.specs.declared.state.Phase.TheVariants as phases
 use Rattle.lf_protocols.specs.declared.state.Replica.{Replica}
 use Rattle.lf_protocols.specs.Letters.{Brings}
-use Rattle.lf_protocols.specs.Turns.{idle, becomes, tells}
-use Rattle.lf_protocols.specs.CommitTable.{participates}
+use Rattle.lf_protocols.specs.Turns.{idle, becomes, tells, is_time_out}
+use Rattle.lf_protocols.specs.CommitTable.{moves, participates}
 use Rattle.lf_protocols.specs.TwoPhaseTable.{two_phase_follows, two_phase_step}
+use Rattle.lf_protocols.specs.ThreePhaseTable.{three_phase_joins, three_phase_waits, three_phase_step}
 use Rattle.lf_protocols.specs.PrimaryBackupTable.{client_begins, client_hears, primary_backup_step}
 use Rattle.lf_protocols.proofs.LettersLemmas.{brings-here, brings-there, brings-none, brings-cons}
 
@@ -39,6 +41,31 @@ pub prepared-waits : (nodes patience node t since : ℕ) (votes : List Bool) (xs
     two_phase_step nodes patience votes node t (record { phase = phases.Prepared; since = since }) xs ≡ idle (record { phase = phases.Prepared; since = since })
 prepared-waits nodes patience node t since votes xs other commits aborts =
     rw (ne_eqb node 0 other) (follows-keeps t since (slice_index_or votes node true) xs commits aborts)
+
+-- a participant of three_phase that is prepared after its step has not waited for `patience` steps
+module _ (patience t : ℕ) (turn : Stepped Progress Note) where
+  late-Prepared : (b : Bool) → is_time_out patience t turn.state.since ≡ b → (cond b (moves phases.Aborted turn) turn).state.phase ≡ phases.Prepared →
+      t < (cond b (moves phases.Aborted turn) turn).state.since + patience
+  late-Prepared true late is = absurd cc
+  late-Prepared false early is = let within = leb-false patience (t - turn.state.since) early in omega (arith, within)
+
+  late-Precommitted : (b : Bool) → turn.state.phase ≡ phases.Precommitted → (cond b (moves phases.Committed turn) turn).state.phase ≡ phases.Prepared → ⊥
+  late-Precommitted true before is = cc
+  late-Precommitted false before is = cc
+
+  waits-within : (phase : Phase) → turn.state.phase ≡ phase → (three_phase_waits patience t phase turn).state.phase ≡ phases.Prepared →
+      t < (three_phase_waits patience t phase turn).state.since + patience
+  waits-within phases.Prepared before is = late-Prepared (is_time_out patience t turn.state.since) refl is
+  waits-within phases.Precommitted before is = absurd (late-Precommitted (is_time_out patience t turn.state.since) before is)
+  waits-within phase before is = absurd cc
+
+pub gives-up : (nodes patience node t : ℕ) (votes : List Bool) (before : Progress) (xs : List (Letter Note)) → node ≢ 0 →
+    (three_phase_step nodes patience votes node t before xs).state.phase ≡ phases.Prepared →
+    t < (three_phase_step nodes patience votes node t before xs).state.since + patience
+gives-up nodes patience node t votes before xs other =
+    let vote = slice_index_or votes node true in
+    let heard = fold (λ turn (letter : Letter Note). three_phase_joins t turn.state.phase letter.note vote turn) (idle before) xs in
+    rw (ne_eqb node 0 other) (waits-within patience t heard heard.state.phase refl)
 
 -- a replica from 2 on
 choice-claimed : (b : Bool) (x y : Stepped Replica Note) → x.state.claimed ≡ y.state.claimed → (cond b x y).state.claimed ≡ y.state.claimed

@@ -14,6 +14,8 @@ ghost use Rattle.lf_protocols.specs.RedundantTable.{redundant_step};
 ghost use Rattle.lf_protocols.specs.declared.state.Phase.{Phase};
 ghost use Rattle.lf_protocols.specs.declared.state.Replica.{Replica};
 ghost use Rattle.lf_protocols.specs.TwoPhaseTable.{two_phase_step};
+ghost use Rattle.lf_protocols.specs.declared.state.Progress.{Progress};
+ghost use Rattle.lf_protocols.specs.ThreePhaseTable.{three_phase_step};
 ghost use Rattle.lf_protocols.specs.PrimaryBackupTable.{primary_backup_step};
 ghost use Rattle.lf_protocols.specs.Letters.{Brings};
 ghost use Rattle.lf_protocols.specs.Deliveries.{BringsData, IsCounted};
@@ -61,6 +63,14 @@ pub fn prepared_waits()
         ¬ Brings Note.Commit inbox → ¬ Brings Note.Abort inbox →
         two_phase_step nodes patience votes node t (record { phase = Phase.Prepared; since = since }) inbox
         ≡ record { state = record { phase = Phase.Prepared; since = since }; out = nothing } }
+{}
+
+/// Why three_phase doesn't: a participant is prepared after a step only where it has waited for fewer than `patience`
+/// steps.
+pub fn prepared_gives_up()
+    ensures { (nodes patience node t : ℕ) (votes : List Bool) (before : Progress) (inbox : List (Letter Note)) → node ≢ 0 →
+        (three_phase_step nodes patience votes node t before inbox).state.phase ≡ Phase.Prepared →
+        t < (three_phase_step nodes patience votes node t before inbox).state.since + patience }
 {}
 
 /// Which nodes of primary_backup know of a claim: of those from 2 on, the ones to which a letter has brought it.

@@ -22,7 +22,8 @@ mod two_phase;
 
 pub use fact::Fact;
 pub use laws::{
-    claims_are_heard, facts_are_opposites, prepared_waits, redundant_delivers, retry_delivers,
+    claims_are_heard, facts_are_opposites, prepared_gives_up, prepared_waits, redundant_delivers,
+    retry_delivers,
 };
 pub use nodes::Nodes;
 pub use note::Note;

@@ -7,7 +7,8 @@ mod replicas;
 
 use crate::{
     Fact, Holding, Kind, Nodes, Note, Phase, Progress, Protocol, Relay, Replica, State,
-    claims_are_heard, facts_are_opposites, prepared_waits, redundant_delivers, retry_delivers,
+    claims_are_heard, facts_are_opposites, prepared_gives_up, prepared_waits, redundant_delivers,
+    retry_delivers,
 };
 use lf_sim::{Letter, Machine, Stepped};
 use std::process::Abort;
@@ -246,6 +247,7 @@ fn words(rt: HostRuntime) -> Result<(), Fail> {
     retry_delivers();
     redundant_delivers();
     prepared_waits();
+    prepared_gives_up();
     claims_are_heard();
     Ok(())
 }
