@@ -152,6 +152,13 @@ impl Protocol {
         self.kind
     }
 
+    /// Whether two protocols are the same, with the same settings.
+    pub fn same(&self, other: &Protocol) -> bool
+        ensures { IsTrue result ↔ (self.now ≡ other.now) }
+    {
+        same_kind(self.kind, other.kind)
+    }
+
     /// The fact of this protocol that has the word. None where it has none.
     pub fn fact(&self, word: &str) -> Option<Fact>
         ensures value { result ≡ fact_named self.now word.now }
@@ -160,6 +167,57 @@ impl Protocol {
     {
         named(facts(self.kind), word)
     }
+}
+
+/// Whether two protocols and their settings are the same.
+fn same_kind(one: Kind, other: Kind) -> bool
+    ensures { IsTrue result ↔ (one ≡ other) }
+{
+    match (one, other) {
+        (Kind::Retry { nodes, tries }, Kind::Retry { nodes: n, tries: t }) => nodes == n
+            && tries == t,
+        (Kind::Redundant { nodes, tries }, Kind::Redundant { nodes: n, tries: t }) => nodes == n
+            && tries == t,
+        (
+            Kind::TwoPhase {
+                nodes,
+                patience,
+                votes,
+            },
+            Kind::TwoPhase {
+                nodes: n,
+                patience: p,
+                votes: v,
+            },
+        ) => { nodes == n && patience == p && same_votes(&votes, &v) }
+        (
+            Kind::ThreePhase {
+                nodes,
+                patience,
+                votes,
+            },
+            Kind::ThreePhase {
+                nodes: n,
+                patience: p,
+                votes: v,
+            },
+        ) => { nodes == n && patience == p && same_votes(&votes, &v) }
+        (
+            Kind::PrimaryBackup { nodes, patience },
+            Kind::PrimaryBackup {
+                nodes: n,
+                patience: p,
+            },
+        ) => { nodes == n && patience == p }
+        _ => false,
+    }
+}
+
+/// Whether the votes are the same at each place.
+fn same_votes(one: &[bool; 8], other: &[bool; 8]) -> bool
+    ensures { IsTrue result ↔ (one.now ≡ other.now) }
+{
+    one == other
 }
 
 /// The facts of a protocol.

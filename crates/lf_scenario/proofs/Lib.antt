@@ -1,2 +1,3 @@
 pub mod LinkSteps
 pub mod NamedRanges
+pub mod VotesLemmas

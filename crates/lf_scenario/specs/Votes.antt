@@ -17,11 +17,15 @@ abbrev pub count_items : Items → ℕ
 count_items no_items = 0
 count_items (item d ds) = count_items ds + 1
 
+-- a truth value, and true in place of anything else
+abbrev pub vote_in : Data → Bool
+vote_in (boolean b) = b
+vote_in _ = true
+
 -- the vote at a place among the items, from 0, and true where there is none
 abbrev pub item_vote : Items → ℕ → Bool
 item_vote no_items k = true
-item_vote (item (boolean b) ds) zero = b
-item_vote (item _ ds) zero = true
+item_vote (item d ds) zero = vote_in d
 item_vote (item d ds) (suc k) = item_vote ds k
 
 -- node n's vote: node 0 has none, and a node that isn't there neither

@@ -159,16 +159,11 @@ fn has_votes(name: ProtocolName) -> bool
 }
 
 /// The protocol with its settings.
-fn made(
-    name: ProtocolName,
-    nodes: u32,
-    tries: u32,
-    patience: u32,
-    votes: [bool; 8],
-) -> Protocol
+fn made(name: ProtocolName, nodes: u32, tries: u32, patience: u32, votes: [bool; 8]) -> Protocol
     requires { IsWithinLimits (kind_of name nodes tries patience votes) }
     ensures value { result ≡ kind_of name nodes tries patience votes }
     ensures nodes { nodes_of result ≡ nodes }
+    ensures within { IsWithinLimits result }
 {
     match name {
         ProtocolName::Retry => Protocol::retry(nodes, tries).unwrap(),
@@ -185,6 +180,7 @@ fn read_protocol(table: &Table, nodes: u32) -> Result<Protocol, ScenarioError>
     requires { (2 ≤ nodes) × (nodes ≤ 8) }
     ensures value { result ≡ kind_in nodes (table_view table.now) }
     ensures nodes { IfOk result (λ protocol. nodes_of protocol ≡ nodes) }
+    ensures within { IfOk result IsWithinLimits }
 {
     let name = required_protocol(table, nodes)?;
     let tries = owned_whole(table, Key::Tries, has_tries(name), 1, 48)?;

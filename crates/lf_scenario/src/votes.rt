@@ -4,7 +4,7 @@ ghost use Rattle.std.specs.Prelude.{◌≡◌, ◌≤◌, true, IfOk};
 ghost use Rattle.toml.specs.View.{view, table_view, array_view};
 ghost use Rattle.lf_scenario.specs.Ranges.{AreVotes};
 ghost use Rattle.lf_scenario.specs.Values.{chosen};
-ghost use Rattle.lf_scenario.specs.Votes.{all_agree, all_booleans, item_vote, votes_in, votes_of};
+ghost use Rattle.lf_scenario.specs.Votes.{all_agree, all_booleans, item_vote, vote_in, votes_in, votes_of};
 
 use crate::value::at;
 use crate::{Key, ScenarioError};
@@ -24,13 +24,23 @@ fn all_booleans(items: &Array) -> bool
     true
 }
 
+/// A truth value, and true in place of anything else.
+fn vote(value: &Value) -> bool
+    ensures { result ≡ vote_in (view value.now) }
+{
+    match value {
+        Value::Boolean(vote) => *vote,
+        _ => true,
+    }
+}
+
 /// The vote at a place among the items, and true where there is none.
 fn item_vote(items: &Array, place: usize) -> bool
     ensures { result ≡ item_vote (array_view items.now) place }
 {
     match items.get(place) {
-        Some(Value::Boolean(vote)) => *vote,
-        _ => true,
+        Some(value) => vote(value),
+        None => true,
     }
 }
 
@@ -58,7 +68,7 @@ fn votes_in(value: &Value, key: Key, nodes: u32) -> Result<[bool; 8], ScenarioEr
 {
     match value {
         Value::Array(items) if all_booleans(items) => {
-            if items.len() + 1 == nodes as usize {
+            if items.as_slice().len() + 1 == nodes as usize {
                 Ok(votes_of(items))
             } else {
                 Err(ScenarioError::OutOfRange(key))
@@ -70,11 +80,7 @@ fn votes_in(value: &Value, key: Key, nodes: u32) -> Result<[bool; 8], ScenarioEr
 
 /// The votes of the table, where the protocol has votes, and else none that says no.
 #[tactic(auto, unfolding(crate::specs::Values::foreign, crate::specs::Values::optional))]
-pub(crate) fn chosen_votes(
-    table: &Table,
-    has: bool,
-    nodes: u32,
-) -> Result<[bool; 8], ScenarioError>
+pub(crate) fn chosen_votes(table: &Table, has: bool, nodes: u32) -> Result<[bool; 8], ScenarioError>
     requires { (2 ≤ nodes) × (nodes ≤ 8) }
     ensures value { result ≡ chosen has (table_view table.now) Key.Votes (votes_in nodes) all_agree }
     ensures votes { IfOk result (AreVotes nodes) }
