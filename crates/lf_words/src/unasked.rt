@@ -1,6 +1,6 @@
 //! Why a command line asks for nothing.
 
-ghost use Rattle.std.specs.Prelude.{◌≡◌, ◌≢◌, ◌==◌, ◌↔◌, IsTrue, is_some, not, true};
+ghost use Rattle.std.specs.Prelude.{◌≡◌, ◌≢◌, ◌==◌, ◌↔◌, IsTrue, is_some, not, [], true};
 ghost use Rattle.lf_words.specs.Statuses.{is_status};
 
 use std::alloc::AllocError;
@@ -27,7 +27,8 @@ impl Unasked {
 
     /// What to tell the user, with its last line feed. Empty for want of memory.
     pub fn text(&self) -> &str
-        ensures { result.now ≡ text_of self.now }
+        ensures value { result.now ≡ text_of self.now }
+        ensures memory { self.now.status ≡ 3 → result.now ≡ [] }
     {
         match &self.text {
             Some(text) => text.as_str(),
