@@ -2,11 +2,14 @@
 
 mod traces;
 
-use crate::{Formula, Formulas, Outcome, atoms, depth, holds, named, same};
+use crate::{
+    Formula, Formulas, Outcome, agreement_by_nodes, atoms, delivered_by_nodes, depth,
+    durable_by_nodes, holds, named, one_primary_by_nodes, same, unblocked_by_nodes,
+};
 use lf_faults::{FaultSet, FaultSpec, read_fault};
 use lf_latency::{Links, Network};
 use lf_list::Listed;
-use lf_protocols::{Fact, Protocol};
+use lf_protocols::{Fact, Note, Protocol, State};
 use lf_sim::{Run, Setting, run};
 use std::alloc::{AllocError, Global};
 use std::process::Abort;
@@ -261,6 +264,9 @@ fn outcomes_of_all_nodes_are_formulas(rt: HostRuntime) -> Result<(), Fail> {
     let agreement = either_by_hand(alloc, Fact::NotCommitted, Fact::NotAborted)?;
     let unblocked = each_by_hand(alloc, Fact::Free)?;
     assert!(rt; !same(&delivered, &agreement));
+    delivered_by_nodes::<State, Note>();
+    agreement_by_nodes::<State, Note>();
+    unblocked_by_nodes::<State, Note>();
     let rows = [
         (Outcome::Delivered, &delivered, 4, 8),
         (Outcome::Agreement, &agreement, 4, 8),
@@ -291,6 +297,8 @@ fn outcomes_of_replicas_are_formulas(rt: HostRuntime) -> Result<(), Fail> {
         step: HORIZON,
         fact,
     };
+    one_primary_by_nodes::<State, Note>();
+    durable_by_nodes::<State, Note>();
     let one_primary = Vec::from_array(alloc, [down(0), down(1), shows(1, Fact::Backup)])?;
     let durable = Vec::from_array(
         alloc,
