@@ -1,13 +1,15 @@
-//! The program `leastfault`: it reads a scenario and prints the fewest faults that defeat its outcome.
+//! The program `leastfault`: it reads a scenario and prints the fewest faults that defeat its outcome, or one run.
 //!
 //!     leastfault_cli search FILE
+//!     leastfault_cli run FILE FAULTS
 //!
-//! FILE is a scenario, and `-` is standard input. With no words it is `search -`. The status is 0 where no allowed set of
-//! faults defeats the outcome and after help, 1 where one does, 2 where the scenario or the words are refused, and 3 where
-//! memory ran out or a device failed; standard error then has the line `memory`, `read` or `write`.
+//! FILE is a scenario, and `-` is standard input. FAULTS are faults joined by single commas, and the empty word is none.
+//! With no words it is `search -`. The status is 0 where no allowed set of faults defeats the outcome, where the run
+//! reaches it, and after help; 1 where a set defeats it or the run misses it; 2 where the scenario, the faults or the words
+//! are refused; and 3 where memory ran out or a device failed: standard error then has the line `memory`, `read` or `write`.
 #![tactic(auto)]
 
-use leastfault::{Asked, BytesFault, FromRead, ToWrite, Unasked, asked, search_bytes};
+use leastfault::{Asked, BytesFault, FromRead, ToWrite, Unasked, asked, run_bytes, search_bytes};
 use std::env;
 use std::fs::File;
 use std::io::{ErrorKind, Read};
@@ -47,7 +49,7 @@ fn status(rt: &HostRuntime) -> Result<u8, BytesFault> {
         return Err(BytesFault::Memory);
     };
     match asked(rt.alloc(), words.as_slice()) {
-        Ok(Asked::Search { file }) => search(rt, file.as_str()),
+        Ok(asked) => done(rt, &asked),
         Err(unasked) => told(rt, &unasked),
     }
 }
@@ -68,24 +70,36 @@ fn told(rt: &HostRuntime, unasked: &Unasked) -> Result<u8, BytesFault> {
     }
 }
 
-/// Searches the scenario of a file, or of standard input where it is `-`.
-fn search(rt: &HostRuntime, file: &str) -> Result<u8, BytesFault> {
+/// Does what is asked with the scenario of a file, or of standard input where it is `-`.
+fn done(rt: &HostRuntime, asked: &Asked) -> Result<u8, BytesFault> {
+    let file = match asked {
+        Asked::Search { file } | Asked::Run { file, .. } => file.as_str(),
+    };
     if file == "-" {
-        return search_in(rt, rt.stdin());
+        return replied(rt, asked, rt.stdin());
     }
     match File::open(rt, file) {
-        Ok(reader) => search_in(rt, reader),
+        Ok(reader) => replied(rt, asked, reader),
         Err(error) if error.kind() == ErrorKind::OutOfMemory => Err(BytesFault::Memory),
         Err(_) => Err(BytesFault::Read),
     }
 }
 
-/// Searches the scenario that a reader has, and writes the reply to standard output.
-fn search_in<R: Read + Drop>(rt: &HostRuntime, reader: R) -> Result<u8, BytesFault> {
+/// Does what is asked with the scenario that a reader has, and writes the reply to standard output.
+fn replied<R: Read + Drop>(
+    rt: &HostRuntime,
+    asked: &Asked,
+    reader: R,
+) -> Result<u8, BytesFault> {
     let mut source = FromRead::new(reader);
     let mut sink = ToWrite::new(rt.stdout());
-    match search_bytes(rt.alloc(), &mut source, &mut sink) {
-        Ok(searched) => Ok(searched.status),
-        Err(fault) => Err(fault),
+    match asked {
+        Asked::Search { .. } => {
+            let searched = search_bytes(rt.alloc(), &mut source, &mut sink)?;
+            Ok(searched.status)
+        }
+        Asked::Run { faults, .. } => {
+            run_bytes(rt.alloc(), &mut source, faults.as_str(), &mut sink)
+        }
     }
 }
