@@ -1,8 +1,7 @@
-use Rattle.std.proofs.Common.{◌≡◌, ◌++◌, codes, string_bytes}
-use Rattle.std.specs.Fmt.{decimal}
+use Rattle.std.proofs.Common.{◌≡◌, ◌++◌, string_bytes}
 use Rattle.lf_sim.specs.Runs.{each_below}
 use Rattle.lf_sim.specs.Settings.{set_of, world_of}
-use Rattle.lf_trace.specs.Traces.{line, node_line}
+use Rattle.lf_trace.specs.Traces.{node_line}
 use Rattle.lf_trace.proofs.telling.push_step.Given as goal
 
 -- the step's own line, and those of the nodes so far
