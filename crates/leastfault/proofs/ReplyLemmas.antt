@@ -1,24 +1,70 @@
 -- The reply to a text, and to the bytes at its front.
-use Rattle.std.proofs.Common.{◌≡◌, ℕ, ◌<◌, ◌≤◌, List, length, take, refl, ap, ◌∙◌, subst, inl, inr, arith}
-use Rattle.std.specs.Prelude.{Option, None, Some, IfSome}
+use Rattle.std.proofs.Common.{◌≡◌, ℕ, ◌<◌, ◌≤◌, List, length, take, refl, sym, ap, ◌∙◌, subst, inl, inr, arith}
+use Rattle.std.specs.Prelude.{Option, None, Some, IfSome, Result, Ok, Err, IfErr}
 use Rattle.std.specs.Io.KnownBytes.{Appends}
 use Rattle.std.proofs.lemmas.Bool.{cases_lt}
 use Rattle.std.proofs.lemmas.List.{take_all, length-take}
 use Rattle.lf_faults.specs.declared.fault.Parts.{Parts}
+use Rattle.lf_faults.specs.Allowed.{Bounds, IsAllowed}
 use Rattle.lf_scenario.specs.declared.error.ScenarioError.{ScenarioError}
 use Rattle.lf_scenario.specs.declared.scenario.Scenario.{Scenario}
 use Rattle.lf_scenario.specs.Scenarios.{IsRefused, IsText}
-use Rattle.leastfault.specs.Answers.{IsAnswer}
-use Rattle.leastfault.specs.Reports.{refusal_of, report_of, status_of}
-use Rattle.leastfault.specs.Replies.{IsReply, WrotePart, WroteReply}
+use Rattle.lf_sim.specs.Settings.{world_of}
+use Rattle.lf_trace.specs.Namings.{Names}
+use Rattle.lf_trace.specs.Traces.{trace_of}
+use Rattle.leastfault.specs.Answers.{IsAnswer, reaches_in}
+use Rattle.leastfault.specs.Reports.{no_set_line, report_of, run_status, status_of}
+use Rattle.leastfault.specs.Replies.{IsRunReply, IsSearchReply, RepliesRefusal, WrotePart, WroteReply}
 
-pub from_refusal : (text reply : List ℕ) (status : ℕ) (e : ScenarioError) → IsRefused text e → reply ≡ refusal_of e → status ≡ 2 → IsReply text reply status
-from_refusal text reply status e refused is ends = inl (e, refused, is, ends)
-
-pub from_report : (text reply : List ℕ) (status budget : ℕ) (s : Scenario) (answer : Option (List Parts)) → IsText s text → IsAnswer s answer
-    → budget ≡ s.setting.spec.budget → reply ≡ report_of budget answer → status ≡ status_of answer → IsReply text reply status
-from_report text reply status budget s answer reads answers within is ends =
+pub search_from_report : (text reply : List ℕ) (status budget : ℕ) (s : Scenario) (answer : Option (List Parts)) → IsText s text → IsAnswer s answer
+    → budget ≡ s.setting.spec.budget → reply ≡ report_of budget answer → status ≡ status_of answer → IsSearchReply text reply status
+search_from_report text reply status budget s answer reads answers within is ends =
     inr (s, answer, reads, answers, is ∙ ap (λ b. report_of b answer) within, ends)
+
+-- the allowed set that the words name, from the set that they name
+abbrev IsChoice : List ℕ → Bounds → Option (List Parts) → Type 0
+IsChoice words b answer =
+    (set : List Parts) → (answer ≡ Some set → Names words set × IsAllowed b set) × (Names words set × IsAllowed b set → answer ≡ Some set)
+
+module _ (words : List ℕ) (b : Bounds) (read : Option (List Parts)) (reads : (set : List Parts) → (read ≡ Some set → Names words set) × (Names words set → read ≡ Some set)) where
+  same_set : (one set : List Parts) → read ≡ Some one → Names words set → one ≡ set
+  same_set one set is names = let both : Some one ≡ Some set = sym is ∙ (reads set).1 names in cc
+
+  pub unnamed : (answer : Option (List Parts)) → read ≡ None → answer ≡ None → IsChoice words b answer
+  unnamed answer none is set = (
+    (λ some. let never : None ≡ Some set = sym is ∙ some in cc),
+    (λ both. let never : None ≡ Some set = sym none ∙ (reads set).1 both.0 in cc),
+  )
+
+  pub allowed : (one : List Parts) → read ≡ Some one → IsAllowed b one → IsChoice words b (Some one)
+  allowed one is fits set = (
+    (λ some. let same : one ≡ set = cc in subst (λ s. Names words s × IsAllowed b s) same ((reads one).0 is, fits)),
+    (λ both. ap Some (same_set one set is both.0)),
+  )
+
+  pub not_allowed : (one : List Parts) → read ≡ Some one → ¬ (IsAllowed b one) → IsChoice words b None
+  not_allowed one is unfit set = (
+    (λ some. cc),
+    (λ both. absurd (unfit (subst (IsAllowed b) (sym (same_set one set is both.0)) both.1))),
+  )
+
+-- the reply of a run, by the allowed set that the words name
+pub run_without_set : (words text reply : List ℕ) (status : ℕ) (s : Scenario) (chosen : Option (List Parts)) → IsText s text
+    → IsChoice words s.setting.spec chosen → chosen ≡ None → reply ≡ no_set_line → status ≡ 2 → IsRunReply words text reply status
+run_without_set words text reply status s chosen reads choice none is ends =
+    inr (
+      s,
+      reads,
+      inl (
+        (λ set names allowed. let never : None ≡ Some set = sym none ∙ (choice set).1 (names, allowed) in cc),
+        is,
+        ends,
+      ),
+    )
+
+pub run_of_set : (words text reply : List ℕ) (status : ℕ) (s : Scenario) (set : List Parts) → IsText s text → Names words set × IsAllowed s.setting.spec set
+    → reply ≡ trace_of (world_of s.setting) set s.formula → status ≡ run_status (reaches_in s set) → IsRunReply words text reply status
+run_of_set words text reply status s set reads chosen is ends = inr (s, reads, inr (set, chosen.0, chosen.1, is, ends))
 
 -- past the longest text, the bytes at the front say all
 module _ (held reply : List ℕ) (status : ℕ) where
@@ -30,40 +76,54 @@ module _ (held reply : List ℕ) (status : ℕ) where
   refused e more (inr (inl why)) = absurd (front more why.0)
   refused e more (inr (inr why)) = absurd (front more why.0)
 
-  long : 65536 < length held → IsReply (take 65537 held) reply status → IsReply held reply status
-  long more (inl refusal) = inl (refusal.0, refused refusal.0 more refusal.1, refusal.2, refusal.3)
-  long more (inr found) = absurd (front more found.2.short)
+  refused_reply : 65536 < length held → RepliesRefusal (take 65537 held) reply status → RepliesRefusal held reply status
+  refused_reply more refusal = (refusal.0, refused refusal.0 more refusal.1, refusal.2, refusal.3)
 
-  pub from_front : IsReply (take 65537 held) reply status → IsReply held reply status
-  from_front is = elim (cases_lt 65536 (length held)) [
-    | inl more ↦ long more is
+  search_long : 65536 < length held → IsSearchReply (take 65537 held) reply status → IsSearchReply held reply status
+  search_long more (inl refusal) = inl (refused_reply more refusal)
+  search_long more (inr found) = absurd (front more found.2.short)
+
+  run_long : (words : List ℕ) → 65536 < length held → IsRunReply words (take 65537 held) reply status → IsRunReply words held reply status
+  run_long words more (inl refusal) = inl (refused_reply more refusal)
+  run_long words more (inr found) = absurd (front more found.1.short)
+
+-- of an engine: a text that is too long has the replies of its front
+abbrev pub GoesByFront : (List ℕ → List ℕ → ℕ → Type 0) → Type 0
+GoesByFront IsReply = (held reply : List ℕ) (status : ℕ) → 65536 < length held → IsReply (take 65537 held) reply status → IsReply held reply status
+
+pub search_by_front : GoesByFront IsSearchReply
+search_by_front held reply status = search_long held reply status
+
+pub run_by_front : (words : List ℕ) → GoesByFront (IsRunReply words)
+run_by_front words held reply status = run_long held reply status words
+
+-- the reply to the bytes that were read is the reply to what the source held, where it tells
+module _ (IsReply : List ℕ → List ℕ → ℕ → Type 0) (by_front : GoesByFront IsReply) where
+  from_front : (held reply : List ℕ) (status : ℕ) → IsReply (take 65537 held) reply status → IsReply held reply status
+  from_front held reply status is = elim (cases_lt 65536 (length held)) [
+    | inl more ↦ by_front held reply status more is
     | inr few ↦ subst (λ text. IsReply text reply status) (take_all 65537 held (omega (arith, few))) is
   ]
 
--- what the source held, where it tells, and else the bytes that were read
-abbrev Whole : Option (List ℕ) → List ℕ → ℕ → Type 0
-Whole held reply status = (whole : List ℕ) × IfSome held (λ h. whole ≡ h) × IsReply whole reply status
+  abbrev Whole : Option (List ℕ) → List ℕ → ℕ → Type 0
+  Whole held reply status = (whole : List ℕ) × IfSome held (λ h. whole ≡ h) × IsReply whole reply status
 
-whole_text : (held : Option (List ℕ)) (text reply : List ℕ) (status : ℕ) → IfSome held (λ h. text ≡ take 65537 h) → IsReply text reply status
-    → Whole held reply status
-whole_text None text reply status tells is = (text, tt, is)
-whole_text (Some h) text reply status tells is = (h, refl, from_front h reply status (subst (λ t. IsReply t reply status) tells is))
+  whole_text : (held : Option (List ℕ)) (text reply : List ℕ) (status : ℕ) → IfSome held (λ h. text ≡ take 65537 h) → IsReply text reply status → Whole held reply status
+  whole_text None text reply status tells is = (text, tt, is)
+  whole_text (Some h) text reply status tells is = (h, refl, from_front h reply status (subst (λ t. IsReply t reply status) tells is))
 
-pub told_front : (held : Option (List ℕ)) (text : List ℕ) (More : List ℕ → Type 0) → IfSome held (λ h. (text ≡ take 65537 h) × More h)
-    → IfSome held (λ h. text ≡ take 65537 h)
-told_front None text More is = tt
-told_front (Some h) text More is = is.0
+  module _ (held old new : Option (List ℕ)) (items text reply : List ℕ) (status : ℕ)
+      (tells : IfSome held (λ h. items ≡ take 65537 h)) (same : text ≡ items) (is : IsReply text reply status) where
+    whole : Whole held reply status
+    whole = whole_text held items reply status tells (subst (λ t. IsReply t reply status) same is)
 
--- the reply to the bytes that were read, written whole or in part
-module _ (held old new : Option (List ℕ)) (items text bytes reply : List ℕ) (status : ℕ)
-    (tells : IfSome held (λ h. items ≡ take 65537 h)) (same : text ≡ items) (is : IsReply text reply status) (words : bytes ≡ reply) where
-  whole : Whole held reply status
-  whole = whole_text held items reply status tells (subst (λ t. IsReply t reply status) same is)
+    pub wrote_reply : (answered : ℕ) → answered ≡ status → Appends old new reply → WroteReply IsReply held old new answered
+    wrote_reply answered ends grown = (whole.0, reply, whole.1, subst (IsReply whole.0 reply) (sym ends) whole.2, grown)
 
-  pub wrote_reply : Appends old new bytes → WroteReply held old new status
-  wrote_reply grown = (whole.0, reply, whole.1, whole.2, subst (Appends old new) words grown)
+    pub wrote_part : ((n : ℕ) × (n < length reply) × Appends old new (take n reply)) → WrotePart IsReply held old new
+    wrote_part some = (whole.0, reply, status, some.0, whole.1, whole.2, some.1, some.2)
 
-  pub wrote_part : ((n : ℕ) × (n < length bytes) × Appends old new (take n bytes)) → WrotePart held old new
-  wrote_part some =
-      let less : some.0 < length reply = subst (λ b. some.0 < length b) words some.1 in
-      (whole.0, reply, status, some.0, whole.1, whole.2, less, subst (λ b. Appends old new (take some.0 b)) words some.2)
+-- what is known of an error, where one is answered
+pub known_of : {X E : Type 0} (result : Result X E) (e : E) (P : Type 0) → IfErr result (λ _. P) → result ≡ Err e → P
+known_of (Ok x) e P told is = absurd (let never : Ok x ≡ Err e = is in cc)
+known_of (Err f) e P told is = told

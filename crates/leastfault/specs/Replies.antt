@@ -2,13 +2,17 @@
 use Rattle.std.specs.Prelude.{◌≡◌, ◌⊎◌, ℕ, ◌<◌, ◌≤◌, Bool, true, false, List, length, take, drop, Option, Some, Result, Ok, Err, IfSome}
 use Rattle.std.specs.Io.KnownBytes.{Appends}
 use Rattle.lf_faults.specs.declared.fault.Parts.{Parts}
+use Rattle.lf_faults.specs.Allowed.{IsAllowed}
+use Rattle.lf_sim.specs.Settings.{world_of}
 use Rattle.lf_scenario.specs.declared.error.ScenarioError.{ScenarioError}
 use Rattle.lf_scenario.specs.declared.scenario.Scenario.{Scenario}
 use Rattle.lf_scenario.specs.Scenarios.{IsRefused, IsText}
+use Rattle.lf_trace.specs.Namings.{Names}
+use Rattle.lf_trace.specs.Traces.{trace_of}
 use Rattle.leastfault.specs.declared.engine.BytesFault.{BytesFault}
 use Rattle.leastfault.specs.declared.engine.BytesFault.TheVariants as faults
-use Rattle.leastfault.specs.Answers.{IsAnswer}
-use Rattle.leastfault.specs.Reports.{refusal_of, report_of, status_of}
+use Rattle.leastfault.specs.Answers.{IsAnswer, reaches_in}
+use Rattle.leastfault.specs.Reports.{no_set_line, refusal_of, report_of, run_status, status_of}
 
 -- the line of the refusal, where the text is refused, with status 2
 abbrev pub RepliesRefusal : List ℕ → List ℕ → ℕ → Type 0
@@ -20,19 +24,39 @@ RepliesReport text reply status =
     (s : Scenario) × (answer : Option (List Parts)) × IsText s text × IsAnswer s answer
     × (reply ≡ report_of s.setting.spec.budget answer) × (status ≡ status_of answer)
 
-abbrev pub IsReply : List ℕ → List ℕ → ℕ → Type 0
-IsReply text reply status = RepliesRefusal text reply status ⊎ RepliesReport text reply status
+-- the reply of a search
+abbrev pub IsSearchReply : List ℕ → List ℕ → ℕ → Type 0
+IsSearchReply text reply status = RepliesRefusal text reply status ⊎ RepliesReport text reply status
 
--- the reply to what the source held was written: where it doesn't tell, the reply to some text
-abbrev pub WroteReply : Option (List ℕ) → Option (List ℕ) → Option (List ℕ) → ℕ → Type 0
-WroteReply held old new status =
-    (text : List ℕ) × (reply : List ℕ) × IfSome held (λ h. text ≡ h) × IsReply text reply status × Appends old new reply
+-- the line that no allowed set has this name, where the words name none, or none that the scenario allows, with status 2
+abbrev pub RepliesNoSet : List ℕ → Scenario → List ℕ → ℕ → Type 0
+RepliesNoSet words s reply status =
+    ((set : List Parts) → Names words set → ¬ (IsAllowed s.setting.spec set)) × (reply ≡ no_set_line) × (status ≡ 2)
 
--- a part of it was written, from its front, and not the whole
-abbrev pub WrotePart : Option (List ℕ) → Option (List ℕ) → Option (List ℕ) → Type 0
-WrotePart held old new =
-    (text : List ℕ) × (reply : List ℕ) × (status : ℕ) × (n : ℕ) × IfSome held (λ h. text ≡ h) × IsReply text reply status
-    × (n < length reply) × Appends old new (take n reply)
+-- the trace of the run of the set that the words name, where it is allowed, with the status of the run
+abbrev pub RepliesTrace : List ℕ → Scenario → List ℕ → ℕ → Type 0
+RepliesTrace words s reply status =
+    (set : List Parts) × Names words set × IsAllowed s.setting.spec set
+    × (reply ≡ trace_of (world_of s.setting) set s.formula) × (status ≡ run_status (reaches_in s set))
+
+-- the reply of a run of the set that the words name: the scenario's refusal comes before the words
+abbrev pub IsRunReply : List ℕ → List ℕ → List ℕ → ℕ → Type 0
+IsRunReply words text reply status =
+    RepliesRefusal text reply status
+    ⊎ ((s : Scenario) × IsText s text × (RepliesNoSet words s reply status ⊎ RepliesTrace words s reply status))
+
+-- of an engine, by which replies with which statuses a text has there
+module _ (IsReply : List ℕ → List ℕ → ℕ → Type 0) where
+  -- the reply to what the source held was written: where it doesn't tell, the reply to some text
+  abbrev pub WroteReply : Option (List ℕ) → Option (List ℕ) → Option (List ℕ) → ℕ → Type 0
+  WroteReply held old new status =
+      (text : List ℕ) × (reply : List ℕ) × IfSome held (λ h. text ≡ h) × IsReply text reply status × Appends old new reply
+
+  -- a part of it was written, from its front, and not the whole
+  abbrev pub WrotePart : Option (List ℕ) → Option (List ℕ) → Option (List ℕ) → Type 0
+  WrotePart held old new =
+      (text : List ℕ) × (reply : List ℕ) × (status : ℕ) × (n : ℕ) × IfSome held (λ h. text ≡ h) × IsReply text reply status
+      × (n < length reply) × Appends old new (take n reply)
 
 -- no more than one byte past the longest text was taken of a source
 abbrev pub TookLittle : Option (List ℕ) → Option (List ℕ) → Type 0

@@ -1,5 +1,5 @@
 -- The lines of replies.
-use Rattle.std.specs.Prelude.{ℕ, List, [], ◌∷◌, ◌++◌, length, codes, Option, Some, None}
+use Rattle.std.specs.Prelude.{ℕ, Bool, true, false, List, [], ◌∷◌, ◌++◌, length, codes, Option, Some, None}
 use Rattle.std.specs.Fmt.{decimal}
 use Rattle.lf_faults.specs.declared.fault.Parts.{Parts}
 use Rattle.lf_faults.specs.Texts.{spelling}
@@ -26,6 +26,15 @@ report_of budget (Some faults) = line (codes "least " ++ decimal (length faults)
 abbrev pub status_of : Option (List Parts) → ℕ
 status_of None = 0
 status_of (Some faults) = 1
+
+-- 0 where the run reaches the outcome, and 1 where it misses
+abbrev pub run_status : Bool → ℕ
+run_status true = 0
+run_status false = 1
+
+-- `refused faults`
+abbrev pub no_set_line : List ℕ
+no_set_line = line (codes "refused faults")
 
 -- one space and the key that is refused, where there is one
 abbrev pub key_words : Option Key → List ℕ

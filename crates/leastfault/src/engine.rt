@@ -1,14 +1,13 @@
 //! Engines: bytes in, bytes out.
 
-ghost use Rattle.std.specs.Prelude.{◌≡◌, ◌≢◌, Err, false, string_bytes, IfOk, IfErr};
-ghost use Rattle.leastfault.specs.Replies.{IsReply, TookLittle, WrotePart, WroteReply, tells_read, tells_write};
-ghost use Rattle.leastfault.specs.Reports.{refusal_of, status_of};
+ghost use Rattle.std.specs.Prelude.{◌≡◌, ◌≢◌, ℕ, ◌<◌, length, take, Err, false, string_bytes, IfOk, IfErr, IfSome};
+ghost use Rattle.std.specs.Io.KnownBytes.{Appends};
+ghost use Rattle.leastfault.specs.Replies.{IsRunReply, IsSearchReply, TookLittle, WrotePart, WroteReply, tells_read, tells_write};
 
-use crate::{plain_answer, refusal, report};
-use lf_faults::FaultSet;
-use lf_scenario::{LONGEST, ScenarioError, read};
+use crate::answering::{Reply, run_reply, search_reply};
+use lf_scenario::LONGEST;
 use lf_streams::{ReadFault, Sink, Source, read_up_to, write_all};
-use std::alloc::{AllocError, Global};
+use std::alloc::Global;
 use thiserror::Error;
 
 /// Why an engine gave no whole reply.
@@ -32,13 +31,6 @@ pub struct Searched {
     pub status: u8,
 }
 
-/// A reply, before it is written.
-#[derive(Debug, Drop)]
-struct Reply {
-    text: String,
-    status: u8,
-}
-
 /// Reads a scenario, searches it, and writes the report of its answer, or the line of its refusal.
 ///
 /// Of the source it takes at most `LONGEST + 1` bytes. It writes once the whole reply is there: after `Read` and `Memory`
@@ -53,10 +45,10 @@ pub fn search_bytes<R: Source, W: Sink>(
     requires writer { W.has_failed writer.old ≡ false }
     // The reply to what the source held was written, and the status is that of the reply.
     ensures reply { IfOk result (λ searched.
-        WroteReply (R.left reader.old) (W.written writer.old) (W.written writer.new) searched.status) }
+        WroteReply IsSearchReply (R.left reader.old) (W.written writer.old) (W.written writer.new) searched.status) }
     // `Write` leaves a part of the reply, and any other fault nothing.
     ensures part { result ≡ Err BytesFault.Write →
-        WrotePart (R.left reader.old) (W.written writer.old) (W.written writer.new) }
+        WrotePart IsSearchReply (R.left reader.old) (W.written writer.old) (W.written writer.new) }
     ensures unwritten { IfErr result (λ e. e ≢ BytesFault.Write → writer.new ≡ writer.old) }
     // `Read` says that the source failed, and `Write` that the sink did.
     ensures source { R.has_failed reader.new ≡ tells_read result }
@@ -64,57 +56,79 @@ pub fn search_bytes<R: Source, W: Sink>(
     // No more than one byte past the longest text is taken.
     ensures taken { TookLittle (R.left reader.old) (R.left reader.new) }
 {
-    let text = match read_up_to(alloc, reader, LONGEST) {
-        Ok(text) => text,
-        Err(ReadFault::Failed) => return Err(BytesFault::Read),
-        Err(ReadFault::Memory) => return Err(BytesFault::Memory),
-    };
-    let Ok(reply) = reply_to(alloc, text.as_slice()) else {
+    let text = read_text(alloc, reader)?;
+    let Ok(reply) = search_reply(alloc, text.as_slice()) else {
         return Err(BytesFault::Memory);
     };
-    match write_all(writer, reply.text.as_bytes()) {
-        Ok(()) => Ok(Searched {
-            status: reply.status,
-        }),
-        Err(_) => Err(BytesFault::Write),
-    }
+    let status = send(writer, &reply)?;
+    Ok(Searched { status })
 }
 
-/// The reply to a text.
-fn reply_to(alloc: Global, text: &[u8]) -> Result<Reply, AllocError>
-    ensures { IfOk result (λ reply. IsReply text.now (string_bytes reply.text) reply.status) }
+/// Reads a scenario, runs it under the set of faults that `faults` names, and writes the trace of that run. It answers the
+/// status: 0 where the run reaches the outcome, 1 where it misses, 2 where the scenario or the faults are refused.
+///
+/// `faults` holds the texts of faults in any order, with one comma between each two; the empty text names no fault. A text
+/// that is no scenario has the line of its refusal as the reply, whatever the faults; words that name no set of faults, or
+/// one that the scenario doesn't allow, have `refused faults`.
+///
+/// It takes and writes as `search_bytes` does: at most `LONGEST + 1` bytes of the source, and nothing before the whole
+/// reply is there.
+pub fn run_bytes<R: Source, W: Sink>(
+    alloc: Global,
+    reader: &mut R,
+    faults: &str,
+    writer: &mut W,
+) -> Result<u8, BytesFault>
+    requires reader { R.has_failed reader.old ≡ false }
+    requires writer { W.has_failed writer.old ≡ false }
+    // The reply to what the source held was written, and the status is that of the reply.
+    ensures reply { IfOk result (λ status.
+        WroteReply (IsRunReply faults.now) (R.left reader.old) (W.written writer.old) (W.written writer.new) status) }
+    // `Write` leaves a part of the reply, and any other fault nothing.
+    ensures part { result ≡ Err BytesFault.Write →
+        WrotePart (IsRunReply faults.now) (R.left reader.old) (W.written writer.old) (W.written writer.new) }
+    ensures unwritten { IfErr result (λ e. e ≢ BytesFault.Write → writer.new ≡ writer.old) }
+    // `Read` says that the source failed, and `Write` that the sink did.
+    ensures source { R.has_failed reader.new ≡ tells_read result }
+    ensures sink { W.has_failed writer.new ≡ tells_write result }
+    // No more than one byte past the longest text is taken.
+    ensures taken { TookLittle (R.left reader.old) (R.left reader.new) }
 {
-    let scenario = match read(alloc, text) {
-        Ok(scenario) => scenario,
-        Err(error) => return refused(alloc, error),
+    let text = read_text(alloc, reader)?;
+    let Ok(reply) = run_reply(alloc, text.as_slice(), faults) else {
+        return Err(BytesFault::Memory);
     };
-    let answer = plain_answer(alloc, &scenario)?;
-    Ok(Reply {
-        text: report(alloc, scenario.setting().spec.budget(), &answer)?,
-        status: status(&answer),
-    })
+    send(writer, &reply)
 }
 
-/// The reply to a text that is refused. The error is that memory has run out, here or in the reading.
-fn refused(alloc: Global, error: ScenarioError) -> Result<Reply, AllocError>
-    ensures { IfOk result (λ reply. (error ≢ ScenarioError.Memory)
-        × (string_bytes reply.text ≡ refusal_of error) × (reply.status ≡ 2)) }
+/// What the source holds, or as much of it as tells that it is too long.
+fn read_text<R: Source>(alloc: Global, reader: &mut R) -> Result<Vec<u8>, BytesFault>
+    requires { R.has_failed reader.old ≡ false }
+    ensures text { IfOk result (λ text.
+        IfSome (R.left reader.old) (λ held. text.items ≡ take 65537 held)) }
+    ensures fault { IfErr result (λ e. e ≢ BytesFault.Write) }
+    ensures source { R.has_failed reader.new ≡ tells_read result }
+    ensures taken { TookLittle (R.left reader.old) (R.left reader.new) }
 {
-    if error == ScenarioError::Memory {
-        return Err(AllocError);
+    match read_up_to(alloc, reader, LONGEST) {
+        Ok(text) => Ok(text),
+        Err(ReadFault::Failed) => Err(BytesFault::Read),
+        Err(ReadFault::Memory) => Err(BytesFault::Memory),
     }
-    Ok(Reply {
-        text: refusal(alloc, error)?,
-        status: 2,
-    })
 }
 
-/// The status of an answer: 0 where there is no set that defeats the outcome, 1 where there is one.
-fn status(answer: &Option<FaultSet>) -> u8
-    ensures { result ≡ status_of answer.now }
+/// Writes a reply, and answers its status.
+fn send<W: Sink>(writer: &mut W, reply: &Reply) -> Result<u8, BytesFault>
+    requires { W.has_failed writer.old ≡ false }
+    ensures whole { IfOk result (λ status. (status ≡ reply.now.status)
+        × Appends (W.written writer.old) (W.written writer.new) (string_bytes reply.now.text)) }
+    ensures part { IfErr result (λ _. (n : ℕ) × (n < length (string_bytes reply.now.text))
+        × Appends (W.written writer.old) (W.written writer.new) (take n (string_bytes reply.now.text))) }
+    ensures fault { IfErr result (λ e. e ≡ BytesFault.Write) }
+    ensures sink { W.has_failed writer.new ≡ tells_write result }
 {
-    match answer {
-        None => 0,
-        Some(_) => 1,
+    match write_all(writer, reply.text.as_bytes()) {
+        Ok(()) => Ok(reply.status),
+        Err(_) => Err(BytesFault::Write),
     }
 }

@@ -1,18 +1,21 @@
 //! The least faults that defeat an outcome.
 //!
 //! An engine reads a scenario's text and writes a reply: the fewest faults that defeat the scenario's outcome, or that no
-//! allowed set of faults does.
+//! allowed set of faults does; or the trace of one run.
 #![tactic(auto)]
 
 mod answer;
+mod answering;
 mod engine;
 mod replies;
 
 pub use answer::plain_answer;
-pub use engine::{BytesFault, Searched, search_bytes};
+pub use engine::{BytesFault, Searched, run_bytes, search_bytes};
 pub use lf_streams::{Failed, FromRead, Sink, Source, ToWrite};
 pub use lf_words::{Asked, Unasked, asked};
 pub use replies::{refusal, report};
 
+#[cfg(test)]
+mod run_tests;
 #[cfg(test)]
 mod tests;

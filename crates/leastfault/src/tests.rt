@@ -15,15 +15,15 @@ const ONCE: &str =
 
 /// A scenario that promises delivery.
 #[derive(Clone, Copy)]
-struct Delivery {
-    nodes: u32,
-    horizon: u32,
-    last_omission: u32,
-    crashes: u32,
-    budget: u32,
-    protocol: &'static str,
-    tries: u32,
-    more: &'static str,
+pub(crate) struct Delivery {
+    pub(crate) nodes: u32,
+    pub(crate) horizon: u32,
+    pub(crate) last_omission: u32,
+    pub(crate) crashes: u32,
+    pub(crate) budget: u32,
+    pub(crate) protocol: &'static str,
+    pub(crate) tries: u32,
+    pub(crate) more: &'static str,
 }
 
 /// Node 0 sends three times, and the last time lies past the last omission.
@@ -52,7 +52,7 @@ const A_PAUSE: Delivery = Delivery {
 
 impl Delivery {
     /// The scenario's text.
-    fn text(&self, alloc: Global) -> Result<String, AllocError> {
+    pub(crate) fn text(&self, alloc: Global) -> Result<String, AllocError> {
         let bounds = format!(in alloc;
             "nodes = {}\nhorizon = {}\nlast_omission = {}\ncrashes = {}\nbudget = {}\n",
             self.nodes, self.horizon, self.last_omission, self.crashes, self.budget

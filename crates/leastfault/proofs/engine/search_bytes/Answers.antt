@@ -1,17 +1,16 @@
 use Rattle.std.proofs.Common.{string_bytes}
-use Rattle.leastfault.proofs.ReplyLemmas.{told_front, wrote_part, wrote_reply}
+use Rattle.leastfault.specs.Replies.{IsSearchReply}
+use Rattle.leastfault.proofs.ReplyLemmas.{search_by_front, wrote_part, wrote_reply}
 use Rattle.leastfault.proofs.engine.search_bytes.Goals as goal
 
-pub returns-in-Ok-write_all-clause-reply : goal.returns-in-Ok-write_all-clause-reply
-returns-in-Ok-write_all-clause-reply g c =
-    wrote_reply (g.R.Source.left c.args.reader.now) (g.W.Sink.written c.args.writer.now) (g.W.Sink.written c.write_all.new.sink)
-    c.in-Ok.text.items c.as_slice.result.now c.as_bytes.result.now (string_bytes c.in-Ok-reply_to.reply.text) c.in-Ok-reply_to.reply.status
-    (told_front (g.R.Source.left c.args.reader.now) c.in-Ok.text.items _ c.in-Ok.ensures.bytes) c.as_slice.ensures.value c.in-Ok-reply_to.ensures
-    c.as_bytes.ensures.value c.in-Ok-write_all.ensures.all
+pub returns-in_err-status-clause-part : goal.returns-in_err-status-clause-part
+returns-in_err-status-clause-part g c fault =
+    wrote_part IsSearchReply search_by_front (g.R.Source.left c.args.reader.now) (g.W.Sink.written c.args.writer.now) (g.W.Sink.written c.send.new.writer)
+    c.in_ok-text.text.items c.as_slice.result.now (string_bytes c.in-Ok.reply.text) c.in-Ok.reply.status
+    c.in_ok-text.ensures.text c.as_slice.ensures.value c.in-Ok.ensures c.in_err-status.ensures.part
 
-pub returns-clause-part : goal.returns-clause-part
-returns-clause-part g c fault =
-    wrote_part (g.R.Source.left c.args.reader.now) (g.W.Sink.written c.args.writer.now) (g.W.Sink.written c.write_all.new.sink)
-    c.in-Ok.text.items c.as_slice.result.now c.as_bytes.result.now (string_bytes c.in-Ok-reply_to.reply.text) c.in-Ok-reply_to.reply.status
-    (told_front (g.R.Source.left c.args.reader.now) c.in-Ok.text.items _ c.in-Ok.ensures.bytes) c.as_slice.ensures.value c.in-Ok-reply_to.ensures
-    c.as_bytes.ensures.value c.in-Err.ensures.part
+pub returns-clause-reply : goal.returns-clause-reply
+returns-clause-reply g c =
+    wrote_reply IsSearchReply search_by_front (g.R.Source.left c.args.reader.now) (g.W.Sink.written c.args.writer.now) (g.W.Sink.written c.send.new.writer)
+    c.in_ok-text.text.items c.as_slice.result.now (string_bytes c.in-Ok.reply.text) c.in-Ok.reply.status
+    c.in_ok-text.ensures.text c.as_slice.ensures.value c.in-Ok.ensures c.in_ok-status.status c.in_ok-status.ensures.whole.0 c.in_ok-status.ensures.whole.1

@@ -1,0 +1,120 @@
+//! The replies of the engines, before they are written.
+
+ghost use Rattle.std.specs.Prelude.{◌≡◌, ◌≢◌, ◌↔◌, List, Some, string_bytes, IfOk};
+ghost use Rattle.lf_faults.specs.declared.fault.Parts.{Parts};
+ghost use Rattle.lf_faults.specs.Allowed.{IsAllowed};
+ghost use Rattle.lf_sim.specs.Settings.{world_of};
+ghost use Rattle.lf_trace.specs.Namings.{Names};
+ghost use Rattle.lf_trace.specs.Traces.{trace_of};
+ghost use Rattle.leastfault.specs.Answers.{reaches_in};
+ghost use Rattle.leastfault.specs.Replies.{IsRunReply, IsSearchReply};
+ghost use Rattle.leastfault.specs.Reports.{no_set_line, refusal_of, run_status, status_of};
+
+use crate::{plain_answer, refusal, report};
+use lf_faults::{FaultSet, admits};
+use lf_outcome::holds;
+use lf_scenario::{Scenario, ScenarioError, read};
+use lf_sim::run;
+use lf_trace::{read_faults, trace};
+use std::alloc::{AllocError, Global};
+
+/// A reply, before it is written.
+#[derive(Debug, Drop)]
+pub(crate) struct Reply {
+    pub(crate) text: String,
+    pub(crate) status: u8,
+}
+
+/// The reply of a search to a scenario's text.
+pub(crate) fn search_reply(alloc: Global, text: &[u8]) -> Result<Reply, AllocError>
+    ensures { IfOk result (λ reply. IsSearchReply text.now (string_bytes reply.text) reply.status) }
+{
+    let scenario = match read(alloc, text) {
+        Ok(scenario) => scenario,
+        Err(error) => return refused(alloc, error),
+    };
+    let answer = plain_answer(alloc, &scenario)?;
+    Ok(Reply {
+        text: report(alloc, scenario.setting().spec.budget(), &answer)?,
+        status: status(&answer),
+    })
+}
+
+/// The reply of a run to a scenario's text and the words that name a set of faults.
+pub(crate) fn run_reply(alloc: Global, text: &[u8], faults: &str) -> Result<Reply, AllocError>
+    ensures { IfOk result (λ reply. IsRunReply faults.now text.now (string_bytes reply.text) reply.status) }
+{
+    let scenario = match read(alloc, text) {
+        Ok(scenario) => scenario,
+        Err(error) => return refused(alloc, error),
+    };
+    match allowed_set(&scenario, faults) {
+        Some(set) => traced(alloc, &scenario, &set),
+        None => no_set(alloc),
+    }
+}
+
+/// The set that the words name. None where they name none, or the scenario doesn't allow it.
+fn allowed_set(scenario: &Scenario, faults: &str) -> Option<FaultSet>
+    ensures { (set : List Parts) → ((result ≡ Some set)
+        ↔ (Names faults.now set × IsAllowed scenario.now.setting.spec set)) }
+{
+    let set = read_faults(faults)?;
+    if admits(&scenario.setting().spec, &set) {
+        Some(set)
+    } else {
+        None
+    }
+}
+
+/// The reply that tells the run of a set of faults.
+fn traced(alloc: Global, scenario: &Scenario, set: &FaultSet) -> Result<Reply, AllocError>
+    ensures { IfOk result (λ reply.
+        (string_bytes reply.text ≡ trace_of (world_of scenario.now.setting) set.now scenario.now.formula)
+        × (reply.status ≡ run_status (reaches_in scenario.now set.now))) }
+{
+    let setting = scenario.setting();
+    let formula = scenario.formula();
+    let played = run(alloc, setting, set)?;
+    Ok(Reply {
+        text: trace(alloc, setting, formula, &played)?,
+        status: if holds(setting, formula, &played) {
+            0
+        } else {
+            1
+        },
+    })
+}
+
+/// The reply to words that name no allowed set.
+fn no_set(alloc: Global) -> Result<Reply, AllocError>
+    ensures { IfOk result (λ reply. (string_bytes reply.text ≡ no_set_line) × (reply.status ≡ 2)) }
+{
+    let mut text = String::new(alloc);
+    text.push_str("refused faults\n")?;
+    Ok(Reply { text, status: 2 })
+}
+
+/// The reply to a text that is refused. The error is that memory has run out, here or in the reading.
+fn refused(alloc: Global, error: ScenarioError) -> Result<Reply, AllocError>
+    ensures { IfOk result (λ reply. (error ≢ ScenarioError.Memory)
+        × (string_bytes reply.text ≡ refusal_of error) × (reply.status ≡ 2)) }
+{
+    if error == ScenarioError::Memory {
+        return Err(AllocError);
+    }
+    Ok(Reply {
+        text: refusal(alloc, error)?,
+        status: 2,
+    })
+}
+
+/// The status of an answer: 0 where there is no set that defeats the outcome, 1 where there is one.
+fn status(answer: &Option<FaultSet>) -> u8
+    ensures { result ≡ status_of answer.now }
+{
+    match answer {
+        None => 0,
+        Some(_) => 1,
+    }
+}

@@ -1,0 +1,27 @@
+-- Lines put together.
+use Rattle.std.proofs.Common.{◌≡◌, ℕ, ◌+◌, List, ◌++◌, sym, ap, ◌∙◌, codes, append_assoc}
+use Rattle.std.specs.Fmt.{decimal}
+use Rattle.lf_sim.specs.Runs.{each_below}
+use Rattle.lf_sim.proofs.ListsLemmas.{each_below-add-one}
+
+-- one line more
+pub more_lines : (old text new : List ℕ) (f : ℕ → List ℕ) (n : ℕ) → text ≡ old ++ each_below f n → new ≡ text ++ f n → new ≡ old ++ each_below f (n + 1)
+more_lines old text new f n so next =
+    next ∙ ap (λ t. t ++ f n) so ∙ append_assoc old (each_below f n) (f n) ∙ ap (λ lines. old ++ lines) (sym (each_below-add-one f n))
+
+-- the three parts of a step
+pub step_told : (old first second new head nodes notes : List ℕ) → first ≡ old ++ head → second ≡ first ++ nodes → new ≡ second ++ notes → new ≡ old ++ (head ++ nodes ++ notes)
+step_told old first second new head nodes notes a b c =
+    c ∙ ap (λ t. t ++ notes) (b ∙ ap (λ t. t ++ nodes) a ∙ append_assoc old head nodes) ∙ append_assoc old (head ++ nodes) notes
+
+-- a note's line, in two pieces
+pub note_told : (n m : ℕ) (old text new word said tail : List ℕ)
+    → text ≡ old ++ (decimal n ++ (codes ">" ++ (decimal m ++ (codes " " ++ (word ++ codes " "))))) → word ≡ said → new ≡ text ++ tail
+    → new ≡ old ++ (decimal n ++ (codes ">" ++ (decimal m ++ (codes " " ++ (said ++ (codes " " ++ tail))))))
+note_told n m old text new word said tail first is second =
+    second ∙ ap (λ bs. bs ++ tail) first
+    ∙ append_assoc old (decimal n ++ (codes ">" ++ (decimal m ++ (codes " " ++ (word ++ codes " "))))) tail
+    ∙ ap (λ bs. old ++ bs) (append_assoc (decimal n) (codes ">" ++ (decimal m ++ (codes " " ++ (word ++ codes " ")))) tail
+    ∙ ap (λ bs. decimal n ++ (codes ">" ++ bs)) (append_assoc (decimal m) (codes " " ++ (word ++ codes " ")) tail
+    ∙ ap (λ bs. decimal m ++ (codes " " ++ bs)) (append_assoc word (codes " ") tail)))
+    ∙ ap (λ bs. old ++ (decimal n ++ (codes ">" ++ (decimal m ++ (codes " " ++ (bs ++ (codes " " ++ tail))))))) is

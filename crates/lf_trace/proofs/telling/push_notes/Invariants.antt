@@ -1,0 +1,12 @@
+use Rattle.std.proofs.Common.{◌≡◌, ◌++◌, string_bytes}
+use Rattle.lf_sim.specs.Runs.{each_below}
+use Rattle.lf_sim.specs.Settings.{set_of, world_of}
+use Rattle.lf_trace.specs.Traces.{slot_line}
+use Rattle.lf_trace.proofs.telling.push_notes.Given as goal
+
+-- the lines of the senders so far
+abbrev pub invariant-senders : goal.invariant-senders
+invariant-senders l =
+    string_bytes l.text
+    ≡ string_bytes l.initial.text
+    ++ each_below (λ from. each_below (slot_line (world_of l.setting) (set_of l.run) l.step from) (world_of l.setting).rules.nodes) l.from

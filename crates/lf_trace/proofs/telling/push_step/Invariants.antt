@@ -1,0 +1,11 @@
+use Rattle.std.proofs.Common.{◌≡◌, ◌++◌, string_bytes}
+use Rattle.lf_sim.specs.Runs.{each_below}
+use Rattle.lf_sim.specs.Settings.{set_of, world_of}
+use Rattle.lf_trace.specs.Traces.{node_line}
+use Rattle.lf_trace.proofs.telling.push_step.Given as goal
+
+-- the step's own line, and those of the nodes so far
+abbrev pub invariant-nodes : goal.invariant-nodes
+invariant-nodes l =
+    string_bytes l.text
+    ≡ string_bytes l.initial.text ++ each_below (node_line (world_of l.setting) (set_of l.run) l.step) l.node

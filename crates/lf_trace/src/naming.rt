@@ -1,0 +1,24 @@
+//! The words that name a set of faults.
+
+ghost use Rattle.std.specs.Prelude.{◌≡◌, ◌↔◌, List, Some};
+ghost use Rattle.lf_faults.specs.declared.fault.Parts.{Parts};
+ghost use Rattle.lf_trace.specs.Namings.{Names};
+
+use lf_faults::{FaultSet, read_fault};
+
+/// The set of faults that the words name: the texts of its faults, as `fault_text` writes them, in any order, with one
+/// comma between each two. The empty text names the set without faults.
+///
+/// None where the words name no set: a piece is no fault's text, a fault is there twice, or there are more than six.
+pub fn read_faults(words: &str) -> Option<FaultSet>
+    ensures { (set : List Parts) → ((result ≡ Some set) ↔ Names words.now set) }
+{
+    let mut set = FaultSet::empty();
+    if words.is_empty() {
+        return Some(set);
+    }
+    'pieces: for piece in words.split(',') {
+        set = set.insert(read_fault(piece)?)?;
+    }
+    Some(set)
+}
