@@ -16,6 +16,8 @@ pub use lf_words::{Asked, Unasked, asked};
 pub use replies::{refusal, report};
 
 #[cfg(test)]
+mod protocol_tests;
+#[cfg(test)]
 mod run_tests;
 #[cfg(test)]
 mod tests;
