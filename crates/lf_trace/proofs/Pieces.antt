@@ -1,5 +1,5 @@
 -- A set of faults, read piece by piece.
-use Rattle.std.proofs.Common.{◌≡◌, ◌≢◌, ℕ, ◌+◌, ◌<◌, ◌≤◌, true, false, eqb, ne_eqb, List, [], ◌∷◌, length, map, Option, Some, None, IsSome, is_some, length-append, refl, sym, ap, subst, ◌∙◌, inl, inr, arith}
+use Rattle.std.proofs.Common.{◌≡◌, ◌≢◌, ℕ, ◌+◌, ◌<◌, ◌≤◌, true, false, eqb, ne_eqb, List, [], ◌∷◌, length, map, Option, Some, None, IsSome, IfSome, length-append, refl, sym, ap, subst, ◌∙◌, inl, inr, arith}
 use Rattle.std.specs.Prelude.{◌⊎◌}
 use Rattle.std.specs.List.{All, AllByRecursion, Contains, join_with_byte, slice_split}
 use Rattle.std.specs.Iterator.{AlwaysYields}
@@ -14,10 +14,10 @@ use Rattle.lf_faults.proofs.Counts.{in-inserted, length-inserted, still-in}
 use Rattle.lf_faults.proofs.Members.{Contains-first, Contains-more, cases_in, each-from, each-in, none-in}
 use Rattle.lf_faults.proofs.Orders.{each-inserted, first-before, inserted-ascending, not_both, not_itself}
 use Rattle.lf_faults.proofs.TextsBytes.{spelling_bytes}
-use Rattle.lf_trace.specs.Namings.{AreDistinct, Names}
+use Rattle.lf_trace.specs.Namings.{Adds, AreDistinct, Names}
 
 -- the set, read so far, becomes the target by the faults that the pieces still to come spell
-pub record Adds (pieces : List (List ℕ)) (set target : List Parts) : Type 0 where
+pub record Completes (pieces : List (List ℕ)) (set target : List Parts) : Type 0 where
   pub more : List Parts
   pub faults : AllByRecursion IsFault more
   pub distinct : AreDistinct more
@@ -29,7 +29,7 @@ pub record Adds (pieces : List (List ℕ)) (set target : List Parts) : Type 0 wh
 
 -- what the words name is what the pieces still to come add to the set
 pub record IsReading (words : List ℕ) (pieces : List (List ℕ)) (set : List Parts) : Type 0 where
-  pub adds : (target : List Parts) → (Names words target → Adds pieces set target) × (Adds pieces set target → Names words target)
+  pub rest : (target : List Parts) → (Names words target → Completes pieces set target) × (Completes pieces set target → Names words target)
   pub ascending : IsAscending set
   pub few : length set ≤ 6
 
@@ -81,7 +81,7 @@ split_named words (f ∷ fs) some h joined = ap (slice_split (λ b. eqb b 44)) j
 -- at first all pieces are still to come
 pub at_first : (words : List ℕ) → 0 < length words → IsReading words (slice_split (λ b. eqb b 44) words) []
 at_first words some = record {
-  adds = λ target. (
+  rest = λ target. (
     (λ names. record {
       more = names.named;
       faults = names.list.faults;
@@ -92,12 +92,12 @@ at_first words some = record {
       ascending = names.ascending;
       same = λ f. ((λ h. inl ((names.same f).0 h)), (λ h. elim h [ inl there ↦ (names.same f).1 there | inr here ↦ absurd (none-in f here) ]));
     }),
-    (λ adds. record {
-      named = adds.more;
-      list = record { faults = adds.faults; distinct = adds.distinct; few = omega (arith, adds.few) };
-      joined = sym (join_with_byte-slice_split 44 words) ∙ ap (join_with_byte 44) adds.spelled;
-      ascending = adds.ascending;
-      same = λ f. ((λ h. elim ((adds.same f).0 h) [ inl there ↦ there | inr here ↦ absurd (none-in f here) ]), (λ h. (adds.same f).1 (inl h)));
+    (λ rest. record {
+      named = rest.more;
+      list = record { faults = rest.faults; distinct = rest.distinct; few = omega (arith, rest.few) };
+      joined = sym (join_with_byte-slice_split 44 words) ∙ ap (join_with_byte 44) rest.spelled;
+      ascending = rest.ascending;
+      same = λ f. ((λ h. elim ((rest.same f).0 h) [ inl there ↦ there | inr here ↦ absurd (none-in f here) ]), (λ h. (rest.same f).1 (inl h)));
     }),
   );
   ascending = tt;
@@ -117,18 +117,18 @@ pub record IsNew (piece : List ℕ) (pieces : List (List ℕ)) (set target : Lis
   pub spelled : piece ≡ spelling fault
   pub new : ¬ (Contains set fault)
   pub few : length set < 6
-  pub after : Adds pieces (inserted fault set) target
+  pub after : Completes pieces (inserted fault set) target
 
 module _ (piece : List ℕ) (pieces : List (List ℕ)) (set target : List Parts) where
-  taken : (adds : Adds (piece ∷ pieces) set target) (more : List Parts) → adds.more ≡ more → IsNew piece pieces set target
-  taken adds [] is =
-      let none : piece ∷ pieces ≡ [] = adds.spelled ∙ ap (map spelling) is in absurd (omega (arith, ap length none))
-  taken adds (f ∷ fs) is =
-      let spelled : piece ∷ pieces ≡ map spelling (f ∷ fs) = adds.spelled ∙ ap (map spelling) is in
-      let faults : AllByRecursion IsFault (f ∷ fs) = subst (AllByRecursion IsFault) is adds.faults in
-      let distinct : AreDistinct (f ∷ fs) = subst AreDistinct is adds.distinct in
-      let new : (x : Parts) → Contains (f ∷ fs) x → ¬ (Contains set x) = λ x h. adds.new x (subst (λ m. Contains m x) (sym is) h) in
-      let few : length (f ∷ fs) + length set ≤ 6 = subst (λ m. length m + length set ≤ 6) is adds.few in
+  taken : (rest : Completes (piece ∷ pieces) set target) (more : List Parts) → rest.more ≡ more → IsNew piece pieces set target
+  taken rest [] is =
+      let none : piece ∷ pieces ≡ [] = rest.spelled ∙ ap (map spelling) is in absurd (omega (arith, ap length none))
+  taken rest (f ∷ fs) is =
+      let spelled : piece ∷ pieces ≡ map spelling (f ∷ fs) = rest.spelled ∙ ap (map spelling) is in
+      let faults : AllByRecursion IsFault (f ∷ fs) = subst (AllByRecursion IsFault) is rest.faults in
+      let distinct : AreDistinct (f ∷ fs) = subst AreDistinct is rest.distinct in
+      let new : (x : Parts) → Contains (f ∷ fs) x → ¬ (Contains set x) = λ x h. rest.new x (subst (λ m. Contains m x) (sym is) h) in
+      let few : length (f ∷ fs) + length set ≤ 6 = subst (λ m. length m + length set ≤ 6) is rest.few in
       record {
         fault = f;
         in_range = faults.0;
@@ -145,9 +145,9 @@ module _ (piece : List ℕ) (pieces : List (List ℕ)) (set target : List Parts)
           ];
           few = omega (arith, few, length-inserted f set);
           spelled = tails piece (spelling f) pieces (map spelling fs) spelled;
-          ascending = adds.ascending;
+          ascending = rest.ascending;
           same = λ x. (
-            (λ h. elim ((adds.same x).0 h) [
+            (λ h. elim ((rest.same x).0 h) [
               | inl there ↦ elim (cases_in f fs x (subst (λ m. Contains m x) is there)) [
                 | inl same ↦ inr (subst (Contains (inserted f set)) same (in-inserted f set))
                 | inr later ↦ inl later
@@ -155,89 +155,124 @@ module _ (piece : List ℕ) (pieces : List (List ℕ)) (set target : List Parts)
               | inr here ↦ inr (still-in f set x here)
             ]),
             (λ h. elim h [
-              | inl later ↦ (adds.same x).1 (inl (subst (λ m. Contains m x) (sym is) (Contains-more f fs x later)))
+              | inl later ↦ (rest.same x).1 (inl (subst (λ m. Contains m x) (sym is) (Contains-more f fs x later)))
               | inr here ↦ elim (from_inserted f set x here) [
-                | inl same ↦ (adds.same x).1 (inl (subst (λ m. Contains m x) (sym is) (subst (Contains (f ∷ fs)) same (Contains-first f fs))))
-                | inr before ↦ (adds.same x).1 (inr before)
+                | inl same ↦ (rest.same x).1 (inl (subst (λ m. Contains m x) (sym is) (subst (Contains (f ∷ fs)) same (Contains-first f fs))))
+                | inr before ↦ (rest.same x).1 (inr before)
               ]
             ]),
           );
         };
       }
 
-  pub take_one : Adds (piece ∷ pieces) set target → IsNew piece pieces set target
-  take_one adds = taken adds adds.more refl
+  pub take_one : Completes (piece ∷ pieces) set target → IsNew piece pieces set target
+  take_one rest = taken rest rest.more refl
 
-  pub put_back : IsNew piece pieces set target → Adds (piece ∷ pieces) set target
-  put_back new = let adds = new.after in let f = new.fault in record {
-    more = f ∷ adds.more;
-    faults = (new.in_range, adds.faults);
-    distinct = ((λ there. adds.new f there (in-inserted f set)), adds.distinct);
-    new = λ x there here. elim (cases_in f adds.more x there) [
+  pub put_back : IsNew piece pieces set target → Completes (piece ∷ pieces) set target
+  put_back new = let rest = new.after in let f = new.fault in record {
+    more = f ∷ rest.more;
+    faults = (new.in_range, rest.faults);
+    distinct = ((λ there. rest.new f there (in-inserted f set)), rest.distinct);
+    new = λ x there here. elim (cases_in f rest.more x there) [
       | inl same ↦ new.new (subst (Contains set) (sym same) here)
-      | inr later ↦ adds.new x later (still-in f set x here)
+      | inr later ↦ rest.new x later (still-in f set x here)
     ];
-    few = omega (arith, adds.few, length-inserted f set);
-    spelled = ap (λ p. p ∷ pieces) new.spelled ∙ ap (λ ps. spelling f ∷ ps) adds.spelled;
-    ascending = adds.ascending;
+    few = omega (arith, rest.few, length-inserted f set);
+    spelled = ap (λ p. p ∷ pieces) new.spelled ∙ ap (λ ps. spelling f ∷ ps) rest.spelled;
+    ascending = rest.ascending;
     same = λ x. (
-      (λ h. elim ((adds.same x).0 h) [
-        | inl later ↦ inl (Contains-more f adds.more x later)
+      (λ h. elim ((rest.same x).0 h) [
+        | inl later ↦ inl (Contains-more f rest.more x later)
         | inr here ↦ elim (from_inserted f set x here) [
-          | inl same ↦ inl (subst (Contains (f ∷ adds.more)) same (Contains-first f adds.more))
+          | inl same ↦ inl (subst (Contains (f ∷ rest.more)) same (Contains-first f rest.more))
           | inr before ↦ inr before
         ]
       ]),
       (λ h. elim h [
-        | inl there ↦ elim (cases_in f adds.more x there) [
-          | inl same ↦ (adds.same x).1 (inr (subst (Contains (inserted f set)) same (in-inserted f set)))
-          | inr later ↦ (adds.same x).1 (inl later)
+        | inl there ↦ elim (cases_in f rest.more x there) [
+          | inl same ↦ (rest.same x).1 (inr (subst (Contains (inserted f set)) same (in-inserted f set)))
+          | inr later ↦ (rest.same x).1 (inl later)
         ]
-        | inr here ↦ (adds.same x).1 (inr (still-in f set x here))
+        | inr here ↦ (rest.same x).1 (inr (still-in f set x here))
       ]),
     );
   }
 
--- one piece further
+-- one piece further, by the set with the fault that it spells
 module _ (words piece : List ℕ) (pieces : List (List ℕ)) (set : List Parts) (reading : IsReading words (piece ∷ pieces) set)
-    (read : Option Parts) (reads : (f : Parts) → IsFault f → (read ≡ Some f → piece ≡ spelling f) × (piece ≡ spelling f → read ≡ Some f)) where
-  one_fault : (f g : Parts) → read ≡ Some f → read ≡ Some g → f ≡ g
-  one_fault f g a b = let both : Some f ≡ Some g = sym a ∙ b in cc
+    (larger : Option (List Parts)) (adds : (s : List Parts) → (larger ≡ Some s → Adds piece set s) × (Adds piece set s → larger ≡ Some s)) where
+  first_of : (target : List Parts) → Names words target → IsNew piece pieces set target
+  first_of target names = take_one piece pieces set target ((reading.rest target).0 names)
 
-  pub unread : read ≡ None → (target : List Parts) → ¬ (Names words target)
-  unread none target names =
-      let first = take_one piece pieces set target ((reading.adds target).0 names) in
-      let some : None ≡ Some first.fault = sym none ∙ (reads first.fault first.in_range).1 first.spelled in
+  found : (target : List Parts) (first : IsNew piece pieces set target) → larger ≡ Some (inserted first.fault set)
+  found target first = (adds (inserted first.fault set)).1 (record {
+    fault = first.fault;
+    in_range = first.in_range;
+    spelled = first.spelled;
+    new = first.new;
+    few = first.few;
+    is = refl;
+  })
+
+  pub stops : larger ≡ None → (target : List Parts) → ¬ (Names words target)
+  stops none target names =
+      let first = first_of target names in
+      let never : None ≡ Some (inserted first.fault set) = sym none ∙ found target first in
       cc
 
-  pub refused : (f : Parts) → read ≡ Some f → (inserted_is : Option (List Parts)) → inserted_is ≡ None
-      → ((¬ (Contains set f)) × (length set < 6) → IsSome inserted_is) → (target : List Parts) → ¬ (Names words target)
-  refused f is into none fits target names =
-      let first = take_one piece pieces set target ((reading.adds target).0 names) in
-      let same : first.fault ≡ f = one_fault first.fault f ((reads first.fault first.in_range).1 first.spelled) is in
-      let some : IsSome into = fits (subst (λ g. ¬ (Contains set g)) same first.new, first.few) in
-      let never : false ≡ true = sym (ap (λ o. is_some o) none) ∙ some in
-      cc
-
-  pub further : (f : Parts) → IsFault f → read ≡ Some f → ¬ (Contains set f) → length set < 6 → IsReading words pieces (inserted f set)
-  further f fault is new few = record {
-    adds = λ target. (
+  pub further : (s : List Parts) → larger ≡ Some s → IsReading words pieces s
+  further s is = let one = (adds s).0 is in record {
+    rest = λ target. (
       (λ names.
-          let first = take_one piece pieces set target ((reading.adds target).0 names) in
-          let same : first.fault ≡ f = one_fault first.fault f ((reads first.fault first.in_range).1 first.spelled) is in
-          subst (λ g. Adds pieces (inserted g set) target) same first.after),
-      (λ adds. (reading.adds target).1 (put_back piece pieces set target (record {
-        fault = f;
-        in_range = fault;
-        spelled = (reads f fault).0 is;
-        new = new;
-        few = few;
-        after = adds;
+          let first = first_of target names in
+          let both : Some (inserted first.fault set) ≡ Some s = sym (found target first) ∙ is in
+          let same : inserted first.fault set ≡ s = cc in
+          subst (λ t. Completes pieces t target) same first.after),
+      (λ rest. (reading.rest target).1 (put_back piece pieces set target (record {
+        fault = one.fault;
+        in_range = one.in_range;
+        spelled = one.spelled;
+        new = one.new;
+        few = one.few;
+        after = subst (λ t. Completes pieces t target) one.is rest;
       }))),
     );
-    ascending = inserted-ascending f set new reading.ascending;
-    few = omega (arith, few, length-inserted f set);
+    ascending = subst IsAscending (sym one.is) (inserted-ascending one.fault set one.new reading.ascending);
+    few = omega (arith, one.few, length-inserted one.fault set, ap length one.is);
   }
+
+-- the set with the fault that a piece spells
+module _ (piece : List ℕ) (set : List Parts) (read : Option Parts)
+    (reads : (f : Parts) → IsFault f → (read ≡ Some f → piece ≡ spelling f) × (piece ≡ spelling f → read ≡ Some f)) where
+  same_fault : (f : Parts) → read ≡ Some f → (larger : List Parts) (a : Adds piece set larger) → a.fault ≡ f
+  same_fault f is larger a = let both : Some a.fault ≡ Some f = sym ((reads a.fault a.in_range).1 a.spelled) ∙ is in cc
+
+  pub adds_none : read ≡ None → (answer : Option (List Parts)) → answer ≡ None → (larger : List Parts)
+      → (answer ≡ Some larger → Adds piece set larger) × (Adds piece set larger → answer ≡ Some larger)
+  adds_none none answer is larger = (
+    (λ some. let never : None ≡ Some larger = sym is ∙ some in cc),
+    (λ a. let never : None ≡ Some a.fault = sym none ∙ (reads a.fault a.in_range).1 a.spelled in cc),
+  )
+
+  pub adds_one : (f : Parts) → IsFault f → read ≡ Some f → (made : Option (List Parts))
+      → (IsSome made → (¬ (Contains set f)) × (length set < 6)) × ((¬ (Contains set f)) × (length set < 6) → IsSome made)
+      → IfSome made (λ s. s ≡ inserted f set) → (larger : List Parts)
+      → (made ≡ Some larger → Adds piece set larger) × (Adds piece set larger → made ≡ Some larger)
+  adds_one f fault is None some value larger = (
+    (λ e. cc),
+    (λ a. let never : false ≡ true = some.1 (subst (λ g. ¬ (Contains set g)) (same_fault f is larger a) a.new, a.few) in cc),
+  )
+  adds_one f fault is (Some made) some value larger = (
+    (λ e. let same : made ≡ larger = cc in record {
+      fault = f;
+      in_range = fault;
+      spelled = (reads f fault).0 is;
+      new = (some.0 refl).0;
+      few = (some.0 refl).1;
+      is = sym same ∙ value;
+    }),
+    (λ a. ap Some (value ∙ ap (λ g. inserted g set) (sym (same_fault f is larger a)) ∙ sym a.is)),
+  )
 
 -- at the end the set is what the words name
 module _ (words : List ℕ) (set : List Parts) (reading : IsReading words [] set) (target : List Parts) where
@@ -247,13 +282,13 @@ module _ (words : List ℕ) (set : List Parts) (reading : IsReading words [] set
 
   pub at_end : Names words target → set ≡ target
   at_end names =
-      let adds = (reading.adds target).0 names in
-      let bare : adds.more ≡ [] = none_more adds.more adds.spelled in
-      same_members set target reading.ascending adds.ascending (λ f here. (adds.same f).1 (inr here))
-      (λ f h. elim ((adds.same f).0 h) [ inl there ↦ absurd (none-in f (subst (λ m. Contains m f) bare there)) | inr here ↦ here ])
+      let rest = (reading.rest target).0 names in
+      let bare : rest.more ≡ [] = none_more rest.more rest.spelled in
+      same_members set target reading.ascending rest.ascending (λ f here. (rest.same f).1 (inr here))
+      (λ f h. elim ((rest.same f).0 h) [ inl there ↦ absurd (none-in f (subst (λ m. Contains m f) bare there)) | inr here ↦ here ])
 
   pub named : set ≡ target → Names words target
-  named is = subst (Names words) is ((reading.adds set).1 (record {
+  named is = subst (Names words) is ((reading.rest set).1 (record {
     more = [];
     faults = tt;
     distinct = tt;

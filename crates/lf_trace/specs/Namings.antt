@@ -1,8 +1,8 @@
 -- How a set of faults is named.
-use Rattle.std.specs.Prelude.{◌≡◌, ◌↔◌, ℕ, ◌≤◌, List, [], ◌∷◌, length, map}
+use Rattle.std.specs.Prelude.{◌≡◌, ◌↔◌, ℕ, ◌<◌, ◌≤◌, List, [], ◌∷◌, length, map}
 use Rattle.std.specs.List.{AllByRecursion, Contains, join_with_byte}
 use Rattle.lf_faults.specs.declared.fault.Parts.{Parts}
-use Rattle.lf_faults.specs.Faults.{IsAscending, IsFault}
+use Rattle.lf_faults.specs.Faults.{IsAscending, IsFault, inserted}
 use Rattle.lf_faults.specs.Texts.{spelling}
 
 -- none is there twice
@@ -23,3 +23,12 @@ pub record Names (words : List ℕ) (set : List Parts) : Type 0 where
   pub joined : words ≡ join_with_byte 44 (map spelling named)
   pub ascending : IsAscending set
   pub same : (f : Parts) → (Contains set f ↔ Contains named f)
+
+-- the larger set has one fault more, which the words spell
+pub record Adds (words : List ℕ) (set larger : List Parts) : Type 0 where
+  pub fault : Parts
+  pub in_range : IsFault fault
+  pub spelled : words ≡ spelling fault
+  pub new : ¬ (Contains set fault)
+  pub few : length set < 6
+  pub is : larger ≡ inserted fault set

@@ -2,7 +2,7 @@
 
 ghost use Rattle.std.specs.Prelude.{◌≡◌, ◌↔◌, List, Some};
 ghost use Rattle.lf_faults.specs.declared.fault.Parts.{Parts};
-ghost use Rattle.lf_trace.specs.Namings.{Names};
+ghost use Rattle.lf_trace.specs.Namings.{Adds, Names};
 
 use lf_faults::{FaultSet, read_fault};
 
@@ -18,7 +18,14 @@ pub fn read_faults(words: &str) -> Option<FaultSet>
         return Some(set);
     }
     'pieces: for piece in words.split(',') {
-        set = set.insert(read_fault(piece)?)?;
+        set = added(&set, piece)?;
     }
     Some(set)
+}
+
+/// The set with the fault that the piece spells. None where it spells none, or the fault is there, or six are.
+fn added(set: &FaultSet, piece: &str) -> Option<FaultSet>
+    ensures { (larger : List Parts) → ((result ≡ Some larger) ↔ Adds piece.now set.now larger) }
+{
+    set.insert(read_fault(piece)?)
 }

@@ -1,8 +1,11 @@
 //! The lines of a trace.
 
 ghost use Rattle.std.specs.Prelude.{◌≡◌, ◌≢◌, ◌++◌, ◌<◌, ◌≤◌, IfOk, Some, string_bytes};
-ghost use Rattle.lf_sim.specs.Runs.{each_below, sent};
-ghost use Rattle.lf_sim.specs.Settings.{IsRun, set_of, world_of};
+ghost use Rattle.lf_protocols.specs.declared.fact.Fact.{Fact};
+ghost use Rattle.lf_protocols.specs.declared.note.Note.{Note};
+ghost use Rattle.lf_protocols.specs.declared.state.State.{State};
+ghost use Rattle.lf_sim.specs.Runs.{World, each_below};
+ghost use Rattle.lf_sim.specs.Settings.{IsRun, horizon_of, nodes_of, set_of, world_of};
 ghost use Rattle.lf_trace.specs.Traces.{end_word, fate, line, node_line, note_line, slot_line, standing, step_lines, trace_of};
 
 use lf_outcome::{Formula, holds};
@@ -66,34 +69,27 @@ fn push_step(
 {
     writeln!(text, "step {step}")?;
     'nodes: for node in 0..run.nodes() {
-        push_node(setting, run, node, step, text)?;
+        push_node(run, node, step, text)?;
     }
     push_notes(setting, run, step, text)
 }
 
 /// Adds a node's line.
-fn push_node(
-    setting: &Setting<Protocol>,
-    run: &Run<Protocol>,
-    node: u32,
-    step: u32,
-    text: &mut String,
-) -> Result<(), AllocError>
-    requires run { IsRun (world_of setting.now) run.now }
-    requires node { node < (world_of setting.now).rules.nodes }
-    requires last { step ≤ (world_of setting.now).horizon }
-    ensures { IfOk result (λ _. string_bytes text.new
-        ≡ string_bytes text.old ++ node_line (world_of setting.now) (set_of run.now) step node) }
+fn push_node(run: &Run<Protocol>, node: u32, step: u32, text: &mut String) -> Result<(), AllocError>
+    requires node { node < nodes_of run.now }
+    requires step { step ≤ horizon_of run.now }
+    ensures { (w : World State Note Fact) → IsRun w run.now → IfOk result (λ _.
+        string_bytes text.new ≡ string_bytes text.old ++ node_line w (set_of run.now) step node) }
 {
-    writeln!(text, "{node} {}", standing(setting, run, node, step))
+    writeln!(text, "{node} {}", standing(run, node, step))
 }
 
 /// A node's words: its state after the step, or that it is down.
-fn standing(setting: &Setting<Protocol>, run: &Run<Protocol>, node: u32, step: u32) -> &'static str
-    requires run { IsRun (world_of setting.now) run.now }
-    requires node { node < (world_of setting.now).rules.nodes }
-    requires last { step ≤ (world_of setting.now).horizon }
-    ensures { result.now ≡ standing (world_of setting.now) (set_of run.now) step node }
+fn standing(run: &Run<Protocol>, node: u32, step: u32) -> &'static str
+    requires node { node < nodes_of run.now }
+    requires step { step ≤ horizon_of run.now }
+    ensures { (w : World State Note Fact) → IsRun w run.now →
+        result.now ≡ standing w (set_of run.now) step node }
 {
     if run.up(node, step) {
         run.state(node, step).text()

@@ -1,11 +1,11 @@
-use Rattle.std.proofs.Common.{◌≡◌, ◌<◌, ◌==◌, ℕ, length, Bool, true, false, refl, subst, sym, ◌∙◌, eqb, lit<, arith}
+use Rattle.std.proofs.Common.{◌≡◌, ◌<◌, ◌==◌, ℕ, length, Bool, true, false, subst, sym, ◌∙◌, eqb, lit<, arith}
 use Rattle.std.specs.Iterator.{AlwaysYields}
 use Rattle.std.specs.List.{slice_split}
 use Rattle.std.specs.Str.Iter.{split_steps}
 use Rattle.std.specs.Str.Pattern.{FindsChar}
 use Rattle.std.proofs.lemmas.Bool.Decides.{nat_tests}
 use Rattle.std.proofs.lemmas.Iterator.Splits.{YieldsList-from_str_split}
-use Rattle.lf_trace.proofs.Pieces.{IsReading, at_end, at_first, empty_named, further, named, named_empty, none_named, one_named, refused, unread, yields_none, yields_some}
+use Rattle.lf_trace.proofs.Pieces.{IsReading, at_end, at_first, empty_named, further, named, named_empty, none_named, one_named, stops, yields_none, yields_some}
 use Rattle.lf_trace.proofs.naming.read_faults.Goals as goal
 
 empty_from : (n : ℕ) (empty : Bool) → empty ≡ (n == 0) → empty ≡ true → n ≡ 0
@@ -32,20 +32,12 @@ pieces-init c = (
       (at_first c.args.words.now (some_from (length c.args.words.now) c.is_empty.result c.is_empty.ensures c.if-is_empty.false)),
 )
 
-pub returns-in_err-read_fault : goal.returns-in_err-read_fault
-returns-in_err-read_fault c =
-    let taken = yields_some (split_steps FindsChar (λ a b. b ≡ a)) (λ x. x.now) c.pieces.piece-iterator c.next.new.self c.in-Some.piece c.pieces.invariant.0 c.pieces.invariant.1 c.in-Some.ensures.steps in
-    let reading = subst (λ ps. IsReading c.args.words.now ps c.pieces.set) taken.1 c.pieces.invariant.2 in
-    none_named c.args.words.now c.from_residual.result c.from_residual.ensures
-    (unread c.args.words.now c.in-Some.piece.now taken.0 c.pieces.set reading c.read_fault.result c.read_fault.ensures.fault c.in_err-read_fault.was)
-
 pub returns-in_err-set : goal.returns-in_err-set
 returns-in_err-set c =
     let taken = yields_some (split_steps FindsChar (λ a b. b ≡ a)) (λ x. x.now) c.pieces.piece-iterator c.next.new.self c.in-Some.piece c.pieces.invariant.0 c.pieces.invariant.1 c.in-Some.ensures.steps in
     let reading = subst (λ ps. IsReading c.args.words.now ps c.pieces.set) taken.1 c.pieces.invariant.2 in
-    none_named c.args.words.now c.from_residual-in_err-set.result c.from_residual-in_err-set.ensures
-    (refused c.args.words.now c.in-Some.piece.now taken.0 c.pieces.set reading c.read_fault.result c.read_fault.ensures.fault
-    c.in_ok-read_fault.field-0 c.in_ok-read_fault.was c.insert.result c.in_err-set.was c.insert.ensures.some.1)
+    none_named c.args.words.now c.from_residual.result c.from_residual.ensures
+    (stops c.args.words.now c.in-Some.piece.now taken.0 c.pieces.set reading c.added.result c.added.ensures c.in_err-set.was)
 
 pub pieces-preserved : goal.pieces-preserved
 pieces-preserved c =
@@ -53,9 +45,7 @@ pieces-preserved c =
     let reading = subst (λ ps. IsReading c.args.words.now ps c.pieces.set) taken.1 c.pieces.invariant.2 in (
       taken.0,
       taken.2,
-      subst (IsReading c.args.words.now taken.0) (sym c.in_ok-set.ensures.value)
-          (further c.args.words.now c.in-Some.piece.now taken.0 c.pieces.set reading c.read_fault.result c.read_fault.ensures.fault
-          c.in_ok-read_fault.field-0 c.in_ok-read_fault.ensures.in_range c.in_ok-read_fault.was (c.in_ok-set.ensures.some.0 refl).0 (c.in_ok-set.ensures.some.0 refl).1),
+      further c.args.words.now c.in-Some.piece.now taken.0 c.pieces.set reading c.added.result c.added.ensures c.in_ok-set.set c.in_ok-set.was,
     )
 
 pub returns : goal.returns

@@ -10,7 +10,7 @@ use Rattle.lf_trace.proofs.telling.push_step.Goals as goal
 pub nodes-preserved : goal.nodes-preserved
 nodes-preserved c =
     more_lines (string_bytes c.writeln.new.self) (string_bytes c.nodes.text) (string_bytes c.push_node.new.text)
-    (node_line (world_of c.args.setting.now) (set_of c.args.run.now) c.args.step) c.nodes.node c.nodes.invariant c.in_ok-push_node.ensures
+    (node_line (world_of c.args.setting.now) (set_of c.args.run.now) c.args.step) c.nodes.node c.nodes.invariant (c.in_ok-push_node.ensures (world_of c.args.setting.now) c.requires.run)
 
 pub returns : goal.returns
 returns c =
