@@ -6,6 +6,7 @@
 
 mod error;
 mod key;
+mod laws;
 mod links;
 mod names;
 mod reader;
@@ -16,6 +17,7 @@ mod votes;
 
 pub use error::ScenarioError;
 pub use key::Key;
+pub use laws::refusals_are_one;
 pub use links::Link;
 pub use names::ProtocolName;
 pub use reader::{LONGEST, read};
