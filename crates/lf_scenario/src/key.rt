@@ -69,7 +69,7 @@ impl Key {
     }
 
     /// What the key takes, in words.
-    pub fn takes(&self) -> &'static str {
+    pub(crate) fn takes(&self) -> &'static str {
         match self {
             Key::Nodes => "a whole number from 2 to 8",
             Key::Horizon => "a whole number from 1 to 48",
