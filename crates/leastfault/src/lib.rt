@@ -7,13 +7,18 @@
 mod answer;
 mod answering;
 mod engine;
+mod laws;
 mod replies;
 
 pub use answer::plain_answer;
 pub use engine::{BytesFault, Searched, run_bytes, search_bytes};
+pub use laws::answers_are_one;
 pub use lf_streams::{Failed, FromRead, Sink, Source, ToWrite};
+pub use lf_words::{Asked, Unasked, asked};
 pub use replies::{refusal, report};
 
+#[cfg(test)]
+mod protocol_tests;
 #[cfg(test)]
 mod run_tests;
 #[cfg(test)]

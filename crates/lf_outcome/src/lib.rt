@@ -11,7 +11,10 @@ mod truth;
 pub use equal::same;
 pub use formula::{Formula, Formulas};
 pub use measure::{atoms, depth};
-pub use outcome::{Outcome, delivered_by_nodes, named};
+pub use outcome::{
+    Outcome, agreement_by_nodes, delivered_by_nodes, durable_by_nodes, named, one_primary_by_nodes,
+    unblocked_by_nodes,
+};
 pub use point::Point;
 pub use truth::{by_cases, holds};
 

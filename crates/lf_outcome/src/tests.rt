@@ -1,10 +1,15 @@
 //! Runs walked by hand, and small formulas.
 
-use crate::{Formula, Formulas, Outcome, atoms, depth, holds, named, same};
+mod traces;
+
+use crate::{
+    Formula, Formulas, Outcome, agreement_by_nodes, atoms, delivered_by_nodes, depth,
+    durable_by_nodes, holds, named, one_primary_by_nodes, same, unblocked_by_nodes,
+};
 use lf_faults::{FaultSet, FaultSpec, read_fault};
 use lf_latency::{Links, Network};
 use lf_list::Listed;
-use lf_protocols::{Fact, Protocol};
+use lf_protocols::{Fact, Note, Protocol, State};
 use lf_sim::{Run, Setting, run};
 use std::alloc::{AllocError, Global};
 use std::process::Abort;
@@ -245,21 +250,81 @@ fn each_by_hand(alloc: Global, fact: Fact) -> Result<Formula<Fact>, AllocError> 
     Ok(Formula::All(parts(alloc, [Formula::Any(zero), Formula::Any(one)])?))
 }
 
+/// Either of two facts, each of all of two nodes that are up at the last step.
+fn either_by_hand(alloc: Global, one: Fact, other: Fact) -> Result<Formula<Fact>, AllocError> {
+    let first = each_by_hand(alloc, one)?;
+    let second = each_by_hand(alloc, other)?;
+    Ok(Formula::Any(parts(alloc, [first, second])?))
+}
+
 #[test]
-fn delivered_is_a_formula(rt: HostRuntime) -> Result<(), Fail> {
+fn outcomes_of_all_nodes_are_formulas(rt: HostRuntime) -> Result<(), Fail> {
     let alloc = rt.alloc();
-    let delivered = named(alloc, Outcome::Delivered, 2, HORIZON)?;
-    let has = each_by_hand(alloc, Fact::Has)?;
-    let lacks = each_by_hand(alloc, Fact::Lacks)?;
-    assert!(rt; !same(&has, &lacks));
-    let by_hand = Formula::Any(parts(alloc, [has, lacks])?);
-    assert!(rt; same(&delivered, &by_hand));
-    for (nodes, horizon) in [(1, HORIZON), (3, HORIZON), (2, 2)] {
-        let other = named(alloc, Outcome::Delivered, nodes, horizon)?;
-        assert!(rt; !same(&delivered, &other), "at {nodes} {horizon}");
+    let delivered = either_by_hand(alloc, Fact::Has, Fact::Lacks)?;
+    let agreement = either_by_hand(alloc, Fact::NotCommitted, Fact::NotAborted)?;
+    let unblocked = each_by_hand(alloc, Fact::Free)?;
+    assert!(rt; !same(&delivered, &agreement));
+    delivered_by_nodes::<State, Note>();
+    agreement_by_nodes::<State, Note>();
+    unblocked_by_nodes::<State, Note>();
+    let rows = [
+        (Outcome::Delivered, &delivered, 4, 8),
+        (Outcome::Agreement, &agreement, 4, 8),
+        (Outcome::Unblocked, &unblocked, 3, 4),
+    ];
+    for (outcome, by_hand, deep, many) in rows {
+        let formula = named(alloc, outcome, 2, HORIZON)?;
+        assert!(rt; same(&formula, by_hand));
+        assert_eq!(rt; depth(&formula), deep);
+        assert_eq!(rt; atoms(&formula), many);
+        for (nodes, horizon) in [(1, HORIZON), (3, HORIZON), (2, 2)] {
+            let other = named(alloc, outcome, nodes, horizon)?;
+            assert!(rt; !same(&formula, &other), "at {nodes} {horizon}");
+        }
     }
-    assert_eq!(rt; depth(&delivered), 4);
-    assert_eq!(rt; atoms(&delivered), 8);
+    Ok(())
+}
+
+#[test]
+fn outcomes_of_replicas_are_formulas(rt: HostRuntime) -> Result<(), Fail> {
+    let alloc = rt.alloc();
+    let down = |node| Formula::Down {
+        node,
+        step: HORIZON,
+    };
+    let shows = |node, fact| Formula::Shows {
+        node,
+        step: HORIZON,
+        fact,
+    };
+    one_primary_by_nodes::<State, Note>();
+    durable_by_nodes::<State, Note>();
+    let one_primary = Vec::from_array(alloc, [down(0), down(1), shows(1, Fact::Backup)])?;
+    let durable = Vec::from_array(
+        alloc,
+        [
+            down(2),
+            shows(2, Fact::NotDone),
+            shows(0, Fact::Holds),
+            shows(1, Fact::Holds),
+        ],
+    )?;
+    let rows = [
+        (
+            Outcome::OnePrimary,
+            Formula::Any(Listed::from_vec(one_primary)),
+            3,
+        ),
+        (Outcome::Durable, Formula::Any(Listed::from_vec(durable)), 4),
+    ];
+    for (outcome, by_hand, many) in &rows {
+        let formula = named(alloc, *outcome, 5, HORIZON)?;
+        assert!(rt; same(&formula, by_hand));
+        assert_eq!(rt; depth(&formula), 2);
+        assert_eq!(rt; atoms(&formula), *many);
+        let other = named(alloc, *outcome, 5, 2)?;
+        assert!(rt; !same(&formula, &other));
+    }
     Ok(())
 }
 

@@ -1,5 +1,5 @@
 -- What an inbox does to a node of retry and of redundant.
-use Rattle.std.proofs.Common.{◌≡◌, ℕ, zero, suc, ◌+◌, ◌<◌, ◌≤◌, Bool, true, false, cond, List, [], ◌∷◌, refl, ◌∙◌, ap, arith, inl, inr, nat_eq, eq-eqb}
+use Rattle.std.proofs.Common.{◌≡◌, ℕ, ◌+◌, ◌<◌, ◌≤◌, Bool, true, false, cond, List, [], ◌∷◌, refl, ◌∙◌, ap, arith, inl, inr, nat_eq, eq-eqb}
 use Rattle.std.specs.Prelude.{◌⊎◌, ◌≢◌, ◌↔◌, ◌&&◌, nat_le, Some}
 use Rattle.std.proofs.lemmas.List.Folds.{fold_stays}
 use Rattle.std.proofs.lemmas.Bool.{cases_lt, ne_eqb, lt-ltb, le-ltb, le-leb, leb-true, eqb-true}
@@ -15,47 +15,36 @@ use Rattle.lf_protocols.specs.declared.state.Relay.TheVariants as relays
 use Rattle.lf_protocols.specs.RetryTable.{retry_note, retry_after, retry_out}
 use Rattle.lf_protocols.specs.RedundantTable.{redundant_note, redundant_after, redundant_sends, redundant_step}
 use Rattle.lf_protocols.specs.Deliveries.{BringsData, IsCounted}
-
--- the first letter brings it, or a later one
-brings-here : (x : Letter Note) (xs : List (Letter Note)) → x.note ≡ Payload → BringsData (x ∷ xs)
-brings-here x xs e = (0, x, omega arith, refl, e)
-
-brings-there : (x : Letter Note) (xs : List (Letter Note)) → BringsData xs → BringsData (x ∷ xs)
-brings-there x xs (k, y, within, is, e) = (suc k, y, omega arith, is, e)
-
-brings-none : BringsData [] → ⊥
-brings-none (k, y, within, is, e) = omega arith
-
-brings-cons : (x : Letter Note) (xs : List (Letter Note)) → BringsData (x ∷ xs) → (x.note ≡ Payload) ⊎ BringsData xs
-brings-cons x xs (zero, y, within, is, e) = inl (ap (λ (z : Letter Note). z.note) is ∙ e)
-brings-cons x xs (suc k, y, within, is, e) = inr (k, y, omega arith, is, e)
+use Rattle.lf_protocols.proofs.LettersLemmas.{brings-here, brings-there, brings-none, brings-cons}
 
 -- retry: one that has the data keeps it
 retry_note-Has : (note : Note) → retry_note holdings.Has note ≡ holdings.Has
 retry_note-Has Payload = refl
+retry_note-Has note = refl
 
 retry_after-Has : (xs : List (Letter Note)) → retry_after holdings.Has xs ≡ holdings.Has
 retry_after-Has xs = fold_stays (λ before (letter : Letter Note). retry_note before letter.note) holdings.Has (λ letter. retry_note-Has letter.note) xs
 
 retry_note-Payload : (before : Holding) (note : Note) → note ≡ Payload → retry_note before note ≡ holdings.Has
-retry_note-Payload before Payload e = refl
+retry_note-Payload before note e = ap (retry_note before) e
 
 retry_note-from : (before : Holding) (note : Note) → retry_note before note ≡ holdings.Has → (before ≡ holdings.Has) ⊎ (note ≡ Payload)
 retry_note-from before Payload e = inr refl
+retry_note-from before note e = inl e
 
 retry_after-from : (before : Holding) (xs : List (Letter Note)) → retry_after before xs ≡ holdings.Has → (before ≡ holdings.Has) ⊎ BringsData xs
 retry_after-from before [] e = inl e
 retry_after-from before (x ∷ xs) e = elim (retry_after-from (retry_note before x.note) xs e) [
   | inl first ↦ elim (retry_note-from before x.note first) [
     | inl had ↦ inl had
-    | inr is ↦ inr (brings-here x xs is)
+    | inr is ↦ inr (brings-here Payload x xs is)
   ]
-  | inr later ↦ inr (brings-there x xs later)
+  | inr later ↦ inr (brings-there Payload x xs later)
 ]
 
 retry_after-brings : (before : Holding) (xs : List (Letter Note)) → BringsData xs → retry_after before xs ≡ holdings.Has
-retry_after-brings before [] b = absurd (brings-none b)
-retry_after-brings before (x ∷ xs) b = elim (brings-cons x xs b) [
+retry_after-brings before [] b = absurd (brings-none Payload b)
+retry_after-brings before (x ∷ xs) b = elim (brings-cons Payload x xs b) [
   | inl first ↦ ap (λ state. retry_after state xs) (retry_note-Payload before x.note first) ∙ retry_after-Has xs
   | inr later ↦ retry_after-brings (retry_note before x.note) xs later
 ]
@@ -68,23 +57,24 @@ retry_after-has before xs = (retry_after-from before xs, λ h. elim h [ inl had 
 
 -- redundant: letters change nothing at a node that has the data, and the first that brings it to another counts
 redundant_note-Has : (sent : ℕ) (note : Note) → redundant_note (relays.Has sent) note ≡ relays.Has sent
-redundant_note-Has sent Payload = refl
+redundant_note-Has sent note = refl
 
 pub redundant_after-Has : (sent : ℕ) (xs : List (Letter Note)) → redundant_after (relays.Has sent) xs ≡ relays.Has sent
 redundant_after-Has sent xs = fold_stays (λ before (letter : Letter Note). redundant_note before letter.note) (relays.Has sent) (λ letter. redundant_note-Has sent letter.note) xs
 
 redundant_note-Payload : (note : Note) → note ≡ Payload → redundant_note relays.Lacks note ≡ relays.Has 0
-redundant_note-Payload Payload e = refl
+redundant_note-Payload note e = ap (redundant_note relays.Lacks) e
 
 -- what a letter does at a node that lacks the data
 redundant_note-cases : (note : Note) → (note ≡ Payload) ⊎ (redundant_note relays.Lacks note ≡ relays.Lacks)
 redundant_note-cases Payload = inl refl
+redundant_note-cases note = inr refl
 
 pub redundant_after-brings : (xs : List (Letter Note)) → BringsData xs → redundant_after relays.Lacks xs ≡ relays.Has 0
-redundant_after-brings [] b = absurd (brings-none b)
+redundant_after-brings [] b = absurd (brings-none Payload b)
 redundant_after-brings (x ∷ xs) b = elim (redundant_note-cases x.note) [
   | inl is ↦ ap (λ state. redundant_after state xs) (redundant_note-Payload x.note is) ∙ redundant_after-Has 0 xs
-  | inr lacks ↦ elim (brings-cons x xs b) [
+  | inr lacks ↦ elim (brings-cons Payload x xs b) [
     | inl is ↦ ap (λ state. redundant_after state xs) (redundant_note-Payload x.note is) ∙ redundant_after-Has 0 xs
     | inr later ↦ ap (λ state. redundant_after state xs) lacks ∙ redundant_after-brings xs later
   ]
@@ -93,8 +83,8 @@ redundant_after-brings (x ∷ xs) b = elim (redundant_note-cases x.note) [
 pub redundant_after-waits : (xs : List (Letter Note)) → (BringsData xs → ⊥) → redundant_after relays.Lacks xs ≡ relays.Lacks
 redundant_after-waits [] never = refl
 redundant_after-waits (x ∷ xs) never = elim (redundant_note-cases x.note) [
-  | inl is ↦ absurd (never (brings-here x xs is))
-  | inr lacks ↦ ap (λ state. redundant_after state xs) lacks ∙ redundant_after-waits xs (λ later. never (brings-there x xs later))
+  | inl is ↦ absurd (never (brings-here Payload x xs is))
+  | inr lacks ↦ ap (λ state. redundant_after state xs) lacks ∙ redundant_after-waits xs (λ later. never (brings-there Payload x xs later))
 ]
 
 -- retry: who sends
@@ -154,7 +144,7 @@ IsCounted-sends nodes tries node (relays.Has sent) h = elim (cases_lt sent tries
 
 IsCounted-note : (tries : ℕ) (before : Relay) (note : Note) → IsCounted tries before → IsCounted tries (redundant_note before note)
 IsCounted-note tries relays.Lacks Payload h = omega arith
-IsCounted-note tries (relays.Has sent) Payload h = h
+IsCounted-note tries own note h = h
 
 IsCounted-after : (tries : ℕ) (before : Relay) (xs : List (Letter Note)) → IsCounted tries before → IsCounted tries (redundant_after before xs)
 IsCounted-after tries before [] h = h

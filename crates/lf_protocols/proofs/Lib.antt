@@ -1,1 +1,5 @@
+pub mod LettersLemmas
 pub mod DeliveriesLemmas
+pub mod BlocksLemmas
+pub mod NodesLemmas
+pub mod WordsLemmas

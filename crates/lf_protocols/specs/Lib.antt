@@ -1,7 +1,15 @@
 pub mod Limits
 pub mod Words
+pub mod Facts
+pub mod NodeSets
+pub mod Turns
 pub mod RetryTable
 pub mod RedundantTable
+pub mod CommitTable
+pub mod TwoPhaseTable
+pub mod ThreePhaseTable
+pub mod PrimaryBackupTable
+pub mod Letters
 pub mod Deliveries
 pub mod Protocols
 pub mod ProtocolsLemmas

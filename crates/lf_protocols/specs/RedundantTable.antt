@@ -7,6 +7,7 @@ use Rattle.lf_protocols.specs.declared.note.Note.{Note}
 use Rattle.lf_protocols.specs.declared.note.Note.TheVariants.{Payload}
 use Rattle.lf_protocols.specs.declared.fact.Fact.{Fact}
 use Rattle.lf_protocols.specs.declared.fact.Fact.TheVariants as facts
+use Rattle.lf_protocols.specs.Facts.{is_denial}
 use Rattle.lf_protocols.specs.declared.state.Relay.{Relay}
 use Rattle.lf_protocols.specs.declared.state.Relay.TheVariants.{Has, Lacks}
 
@@ -18,7 +19,7 @@ redundant_start node = if node == 0 then Has 0 else Lacks
 -- ignores the note
 abbrev pub redundant_note : Relay → Note → Relay
 redundant_note Lacks Payload = Has 0
-redundant_note (Has sent) Payload = Has sent
+redundant_note state note = state
 
 -- the letters are handled in inbox order
 abbrev pub redundant_after : Relay → List (Letter Note) → Relay
@@ -43,3 +44,4 @@ redundant_shows (Has sent) facts.Has = true
 redundant_shows (Has sent) facts.Lacks = false
 redundant_shows Lacks facts.Has = false
 redundant_shows Lacks facts.Lacks = true
+redundant_shows state fact = is_denial fact

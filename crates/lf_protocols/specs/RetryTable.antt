@@ -8,6 +8,7 @@ use Rattle.lf_protocols.specs.declared.note.Note.{Note}
 use Rattle.lf_protocols.specs.declared.note.Note.TheVariants.{Payload}
 use Rattle.lf_protocols.specs.declared.fact.Fact.{Fact}
 use Rattle.lf_protocols.specs.declared.fact.Fact.TheVariants as facts
+use Rattle.lf_protocols.specs.Facts.{is_denial}
 use Rattle.lf_protocols.specs.declared.state.Holding.{Holding}
 use Rattle.lf_protocols.specs.declared.state.Holding.TheVariants.{Has, Lacks}
 
@@ -18,6 +19,7 @@ retry_start node = if node == 0 then Has else Lacks
 -- the note with the data: the receiver has it
 abbrev pub retry_note : Holding → Note → Holding
 retry_note state Payload = Has
+retry_note state note = state
 
 -- the letters are handled in inbox order
 abbrev pub retry_after : Holding → List (Letter Note) → Holding
@@ -37,3 +39,4 @@ retry_shows Has facts.Has = true
 retry_shows Has facts.Lacks = false
 retry_shows Lacks facts.Has = false
 retry_shows Lacks facts.Lacks = true
+retry_shows state fact = is_denial fact

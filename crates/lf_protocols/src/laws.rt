@@ -1,7 +1,7 @@
-//! What the tables of retry and redundant say, with no walk through an inbox: calls that compute nothing, whose
+//! What the tables say, with no walk through an inbox: calls that compute nothing, whose
 //! contracts are the laws.
 
-ghost use Rattle.std.specs.Prelude.{◌≡◌, ◌≢◌, ◌⊎◌, ◌↔◌, ℕ, ◌+◌, ◌<◌, ◌≤◌, not, List, Some};
+ghost use Rattle.std.specs.Prelude.{◌≡◌, ◌≢◌, ◌⊎◌, ◌↔◌, ℕ, ◌+◌, ◌<◌, ◌≤◌, not, Bool, true, List, Some};
 ghost use Rattle.lf_sim.specs.declared.letter.Letter.{Letter};
 ghost use Rattle.lf_sim.specs.Outs.{note_to, nothing, to_others};
 ghost use Rattle.lf_protocols.specs.declared.state.State.{State};
@@ -11,6 +11,13 @@ ghost use Rattle.lf_protocols.specs.declared.note.Note.{Note};
 ghost use Rattle.lf_protocols.specs.declared.fact.Fact.{Fact};
 ghost use Rattle.lf_protocols.specs.RetryTable.{retry_step};
 ghost use Rattle.lf_protocols.specs.RedundantTable.{redundant_step};
+ghost use Rattle.lf_protocols.specs.declared.state.Phase.{Phase};
+ghost use Rattle.lf_protocols.specs.declared.state.Replica.{Replica};
+ghost use Rattle.lf_protocols.specs.TwoPhaseTable.{two_phase_step};
+ghost use Rattle.lf_protocols.specs.declared.state.Progress.{Progress};
+ghost use Rattle.lf_protocols.specs.ThreePhaseTable.{three_phase_step};
+ghost use Rattle.lf_protocols.specs.PrimaryBackupTable.{primary_backup_step};
+ghost use Rattle.lf_protocols.specs.Letters.{Brings};
 ghost use Rattle.lf_protocols.specs.Deliveries.{BringsData, IsCounted};
 ghost use Rattle.lf_protocols.specs.Protocols.{is_shown};
 
@@ -49,7 +56,38 @@ pub fn redundant_delivers()
         IsCounted tries before → IsCounted tries (redundant_step nodes tries node before inbox).state }
 {}
 
-/// Each state shows one of `has` and `lacks`.
+/// Why two_phase blocks: a participant that has voted yes keeps its state and sends nothing, however late it is, until
+/// a letter tells it of a decision.
+pub fn prepared_waits()
+    ensures { (nodes patience node t since : ℕ) (votes : List Bool) (inbox : List (Letter Note)) → node ≢ 0 →
+        ¬ Brings Note.Commit inbox → ¬ Brings Note.Abort inbox →
+        two_phase_step nodes patience votes node t (record { phase = Phase.Prepared; since = since }) inbox
+        ≡ record { state = record { phase = Phase.Prepared; since = since }; out = nothing } }
+{}
+
+/// Why three_phase doesn't: a participant is prepared after a step only where it has waited for fewer than `patience`
+/// steps.
+pub fn prepared_gives_up()
+    ensures { (nodes patience node t : ℕ) (votes : List Bool) (before : Progress) (inbox : List (Letter Note)) → node ≢ 0 →
+        (three_phase_step nodes patience votes node t before inbox).state.phase ≡ Phase.Prepared →
+        t < (three_phase_step nodes patience votes node t before inbox).state.since + patience }
+{}
+
+/// Which nodes of primary_backup know of a claim: of those from 2 on, the ones to which a letter has brought it.
+pub fn claims_are_heard()
+    ensures { (nodes patience node t : ℕ) (before : Replica) (inbox : List (Letter Note)) → 2 ≤ node →
+        ((primary_backup_step nodes patience node t before inbox).state.claimed ≡ true)
+        ↔ ((before.claimed ≡ true) ⊎ Brings Note.Claim inbox) }
+{}
+
+/// Each state shows one of two opposites.
 pub fn facts_are_opposites()
-    ensures { (state : State) → is_shown state Fact.Lacks ≡ not (is_shown state Fact.Has) }
+    ensures data { (state : State) → is_shown state Fact.Lacks ≡ not (is_shown state Fact.Has) }
+    ensures commit { (state : State) → is_shown state Fact.NotCommitted ≡ not (is_shown state Fact.Committed) }
+    ensures abort { (state : State) → is_shown state Fact.NotAborted ≡ not (is_shown state Fact.Aborted) }
+    ensures block { (state : State) → is_shown state Fact.Free ≡ not (is_shown state Fact.Blocked) }
+    ensures write { (state : State) → is_shown state Fact.Empty ≡ not (is_shown state Fact.Holds) }
+    ensures answer { (state : State) → is_shown state Fact.NotDone ≡ not (is_shown state Fact.Done) }
+    ensures leads { (state : State) → is_shown state Fact.Backup ≡ not (is_shown state Fact.Primary) }
+    ensures claim { (state : State) → is_shown state Fact.Unclaimed ≡ not (is_shown state Fact.Claimed) }
 {}

@@ -5,20 +5,30 @@
 //! in `specs/`, one file for each protocol.
 #![tactic(auto)]
 
+mod commit;
 mod fact;
 mod laws;
 mod machine;
+mod nodes;
 mod note;
+mod primary_backup;
 mod protocol;
 mod redundant;
 mod retry;
 mod state;
+mod three_phase;
+mod turns;
+mod two_phase;
 
 pub use fact::Fact;
-pub use laws::{facts_are_opposites, redundant_delivers, retry_delivers};
+pub use laws::{
+    claims_are_heard, facts_are_opposites, prepared_gives_up, prepared_waits, redundant_delivers,
+    retry_delivers,
+};
+pub use nodes::Nodes;
 pub use note::Note;
 pub use protocol::{Kind, Protocol};
-pub use state::{Holding, Relay, State};
+pub use state::{Holding, Phase, Progress, Relay, Replica, State};
 
 #[cfg(test)]
 mod tests;

@@ -1,7 +1,8 @@
 //! Which protocol it is, with its settings.
 
-ghost use Rattle.std.specs.Prelude.{◌≡◌, ◌≢◌, ◌↔◌, IsTrue, IsSome, IfSome, IfNone, All, Contains};
-ghost use Rattle.lf_protocols.specs.Limits.{IsDelivery, IsWithinLimits};
+ghost use Rattle.std.specs.Prelude.{◌≡◌, ◌≢◌, ◌↔◌, IsTrue, IsSome, IfSome, IfNone, All, Contains, find};
+ghost use Rattle.std.specs.Str.{bytes_eq};
+ghost use Rattle.lf_protocols.specs.Limits.{IsDelivery, IsCommit, IsBackup, IsWithinLimits};
 ghost use Rattle.lf_protocols.specs.Words.{fact_word, facts_of, fact_named};
 
 use crate::Fact;
@@ -11,9 +12,35 @@ use std::marker::Model;
 #[derive(Clone, Copy, Debug, PartialEq, Eq)]
 pub enum Kind {
     /// Node 0 sends the data to all at the steps 1..=`tries`. `tries` is in 1..=48.
-    Retry { nodes: u32, tries: u32 },
+    Retry {
+        nodes: u32,
+        tries: u32,
+    },
     /// Each node that has the data sends it to all, at its first `tries` steps with it. `tries` is in 1..=48.
-    Redundant { nodes: u32, tries: u32 },
+    Redundant {
+        nodes: u32,
+        tries: u32,
+    },
+    /// Node 0 asks the others to vote, and commits where all say yes in time. `patience` is how many steps it waits, in
+    /// 1..=48. At its place in `votes` stands each other node's vote, and true at every place of no such node.
+    TwoPhase {
+        nodes: u32,
+        patience: u32,
+        votes: [bool; 8],
+    },
+    /// As `TwoPhase`, but node 0 tells that all have said yes before it commits, and the others too wait for no more
+    /// than `patience` steps.
+    ThreePhase {
+        nodes: u32,
+        patience: u32,
+        votes: [bool; 8],
+    },
+    /// Node 0 has what node 2 writes copied at node 1, and node 1 takes its place where it hears nothing for `patience`
+    /// steps, in 1..=48. `nodes` is in 3..=8.
+    PrimaryBackup {
+        nodes: u32,
+        patience: u32,
+    },
 }
 
 /// A protocol whose settings are within their limits.
@@ -65,6 +92,58 @@ impl Protocol {
         }
     }
 
+    /// Two-phase commit among 2..=8 nodes, with a patience of 1..=48 steps. At place n of `votes` stands node n's vote,
+    /// and true at 0 and from `nodes` on. None outside these limits.
+    pub fn two_phase(nodes: u32, patience: u32, votes: [bool; 8]) -> Option<Protocol>
+        ensures some { IsSome result ↔ IsWithinLimits (Kind.TwoPhase nodes patience votes) }
+        ensures value { IfSome result (λ p. p ≡ Kind.TwoPhase nodes patience votes) }
+    {
+        if commits(nodes, patience, &votes) {
+            Some(Protocol {
+                kind: Kind::TwoPhase {
+                    nodes,
+                    patience,
+                    votes,
+                },
+            })
+        } else {
+            None
+        }
+    }
+
+    /// Three-phase commit among 2..=8 nodes, with a patience of 1..=48 steps. At place n of `votes` stands node n's
+    /// vote, and true at 0 and from `nodes` on. None outside these limits.
+    pub fn three_phase(nodes: u32, patience: u32, votes: [bool; 8]) -> Option<Protocol>
+        ensures some { IsSome result ↔ IsWithinLimits (Kind.ThreePhase nodes patience votes) }
+        ensures value { IfSome result (λ p. p ≡ Kind.ThreePhase nodes patience votes) }
+    {
+        if commits(nodes, patience, &votes) {
+            Some(Protocol {
+                kind: Kind::ThreePhase {
+                    nodes,
+                    patience,
+                    votes,
+                },
+            })
+        } else {
+            None
+        }
+    }
+
+    /// Primary and backup among 3..=8 nodes, with a patience of 1..=48 steps. None outside these limits.
+    pub fn primary_backup(nodes: u32, patience: u32) -> Option<Protocol>
+        ensures some { IsSome result ↔ IsWithinLimits (Kind.PrimaryBackup nodes patience) }
+        ensures value { IfSome result (λ p. p ≡ Kind.PrimaryBackup nodes patience) }
+    {
+        if backs_up(nodes, patience) {
+            Some(Protocol {
+                kind: Kind::PrimaryBackup { nodes, patience },
+            })
+        } else {
+            None
+        }
+    }
+
     /// Which protocol it is, and its settings.
     pub fn kind(&self) -> Kind
         ensures value { result ≡ self.now }
@@ -73,24 +152,106 @@ impl Protocol {
         self.kind
     }
 
+    /// Whether two protocols are the same, with the same settings.
+    pub fn same(&self, other: &Protocol) -> bool
+        ensures { IsTrue result ↔ (self.now ≡ other.now) }
+    {
+        same_kind(self.kind, other.kind)
+    }
+
     /// The fact of this protocol that has the word. None where it has none.
     pub fn fact(&self, word: &str) -> Option<Fact>
         ensures value { result ≡ fact_named self.now word.now }
         ensures some { IfSome result (λ fact. Contains (facts_of self.now) fact × (fact_word fact ≡ word.now)) }
         ensures none { IfNone result (All (λ fact. fact_word fact ≢ word.now) (facts_of self.now)) }
     {
-        match self.kind {
-            Kind::Retry { .. } | Kind::Redundant { .. } => {
-                if word == "has" {
-                    Some(Fact::Has)
-                } else if word == "lacks" {
-                    Some(Fact::Lacks)
-                } else {
-                    None
-                }
-            }
-        }
+        named(facts(self.kind), word)
     }
+}
+
+/// Whether two protocols and their settings are the same.
+fn same_kind(one: Kind, other: Kind) -> bool
+    ensures { IsTrue result ↔ (one ≡ other) }
+{
+    match (one, other) {
+        (Kind::Retry { nodes, tries }, Kind::Retry { nodes: n, tries: t }) => nodes == n
+            && tries == t,
+        (Kind::Redundant { nodes, tries }, Kind::Redundant { nodes: n, tries: t }) => nodes == n
+            && tries == t,
+        (
+            Kind::TwoPhase {
+                nodes,
+                patience,
+                votes,
+            },
+            Kind::TwoPhase {
+                nodes: n,
+                patience: p,
+                votes: v,
+            },
+        ) => { nodes == n && patience == p && same_votes(&votes, &v) }
+        (
+            Kind::ThreePhase {
+                nodes,
+                patience,
+                votes,
+            },
+            Kind::ThreePhase {
+                nodes: n,
+                patience: p,
+                votes: v,
+            },
+        ) => { nodes == n && patience == p && same_votes(&votes, &v) }
+        (
+            Kind::PrimaryBackup { nodes, patience },
+            Kind::PrimaryBackup {
+                nodes: n,
+                patience: p,
+            },
+        ) => { nodes == n && patience == p }
+        _ => false,
+    }
+}
+
+/// Whether the votes are the same at each place.
+fn same_votes(one: &[bool; 8], other: &[bool; 8]) -> bool
+    ensures { IsTrue result ↔ (one.now ≡ other.now) }
+{
+    one == other
+}
+
+/// The facts of a protocol.
+fn facts(kind: Kind) -> &'static [Fact]
+    ensures { result.now ≡ facts_of kind }
+{
+    match kind {
+        Kind::Retry { .. } | Kind::Redundant { .. } => &[Fact::Has, Fact::Lacks],
+        Kind::TwoPhase { .. } | Kind::ThreePhase { .. } => &[
+            Fact::Committed,
+            Fact::NotCommitted,
+            Fact::Aborted,
+            Fact::NotAborted,
+            Fact::Blocked,
+            Fact::Free,
+        ],
+        Kind::PrimaryBackup { .. } => &[
+            Fact::Holds,
+            Fact::Empty,
+            Fact::Done,
+            Fact::NotDone,
+            Fact::Primary,
+            Fact::Backup,
+            Fact::Claimed,
+            Fact::Unclaimed,
+        ],
+    }
+}
+
+/// The first of the facts that has the word.
+fn named(facts: &[Fact], word: &str) -> Option<Fact>
+    ensures { result ≡ find (λ fact. bytes_eq word.now (fact_word fact)) facts.now }
+{
+    facts.iter().copied().find(|fact| word == fact.word())
 }
 
 /// Whether the settings of a protocol that delivers data are within the limits.
@@ -98,4 +259,23 @@ fn delivers(nodes: u32, tries: u32) -> bool
     ensures { IsTrue result ↔ IsDelivery nodes tries }
 {
     2 <= nodes && nodes <= 8 && 1 <= tries && tries <= 48
+}
+
+/// Whether the settings of a protocol that commits are within the limits.
+fn commits(nodes: u32, patience: u32, votes: &[bool; 8]) -> bool
+    ensures { IsTrue result ↔ IsCommit nodes patience votes.now }
+{
+    2 <= nodes
+        && nodes <= 8
+        && 1 <= patience
+        && patience <= 48
+        && votes[0]
+        && votes[nodes as usize..].iter().all(|vote| *vote)
+}
+
+/// Whether the settings of a primary and a backup are within the limits.
+fn backs_up(nodes: u32, patience: u32) -> bool
+    ensures { IsTrue result ↔ IsBackup nodes patience }
+{
+    3 <= nodes && nodes <= 8 && 1 <= patience && patience <= 48
 }

@@ -25,7 +25,7 @@ fn after_inbox(state: Relay, inbox: &[Letter<Note>]) -> Relay
         .iter()
         .fold(state, |relay, letter| match (relay, letter.note) {
             (Relay::Lacks, Note::Payload) => Relay::Has { sent: 0 },
-            (Relay::Has { .. }, Note::Payload) => relay,
+            _ => relay,
         })
 }
 
@@ -65,5 +65,6 @@ pub fn shows(state: Relay, fact: Fact) -> bool
     match (state, fact) {
         (Relay::Has { .. }, Fact::Has) | (Relay::Lacks, Fact::Lacks) => true,
         (Relay::Has { .. }, Fact::Lacks) | (Relay::Lacks, Fact::Has) => false,
+        (_, other) => other.is_denial(),
     }
 }

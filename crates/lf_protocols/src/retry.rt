@@ -21,9 +21,12 @@ pub fn start(node: u32) -> Holding
 fn after_inbox(state: Holding, inbox: &[Letter<Note>]) -> Holding
     ensures { result ≡ retry_after state inbox.now }
 {
-    inbox.iter().fold(state, |_, letter| match letter.note {
-        Note::Payload => Holding::Has,
-    })
+    inbox
+        .iter()
+        .fold(state, |before, letter| match letter.note {
+            Note::Payload => Holding::Has,
+            _ => before,
+        })
 }
 
 /// What a node does at step `t`.
@@ -53,5 +56,6 @@ pub fn shows(state: Holding, fact: Fact) -> bool
     match (state, fact) {
         (Holding::Has, Fact::Has) | (Holding::Lacks, Fact::Lacks) => true,
         (Holding::Has, Fact::Lacks) | (Holding::Lacks, Fact::Has) => false,
+        (_, other) => other.is_denial(),
     }
 }

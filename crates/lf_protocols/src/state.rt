@@ -1,7 +1,9 @@
 //! What nodes keep.
 
-ghost use Rattle.std.specs.Prelude.{◌≡◌};
-ghost use Rattle.lf_protocols.specs.Words.{state_text};
+ghost use Rattle.std.specs.Prelude.{◌≡◌, true, false};
+ghost use Rattle.lf_protocols.specs.Words.{state_text, phase_word, replica_text};
+
+use crate::Nodes;
 
 /// What a node keeps from one step to the next: a variant for each protocol, round that protocol's own state.
 ///
@@ -12,6 +14,12 @@ pub enum State {
     Retry(Holding),
     /// A state of redundant.
     Redundant(Relay),
+    /// A state of two_phase.
+    TwoPhase(Progress),
+    /// A state of three_phase.
+    ThreePhase(Progress),
+    /// A state of primary_backup.
+    PrimaryBackup(Replica),
 }
 
 /// Whether a node of retry has the data.
@@ -29,14 +37,112 @@ pub enum Relay {
     Lacks,
 }
 
+/// How far a node of two_phase or three_phase has come: its phase, and the step from which its time-out counts.
+#[derive(Clone, Copy, Debug, PartialEq, Eq)]
+pub struct Progress {
+    pub phase: Phase,
+    pub since: u32,
+}
+
+/// A phase of a commit. Node 0 alone is ever in `Voting` and `Precommitting`, and the others alone in `Prepared` and
+/// `Precommitted`. Only three_phase has `Precommitting` and `Precommitted`.
+#[derive(Clone, Copy, Debug, PartialEq, Eq)]
+pub enum Phase {
+    Idle,
+    /// It waits for the votes: which nodes' yes it has noted, and whether it has noted a no.
+    Voting { agreed: Nodes, refused: bool },
+    /// It has voted yes.
+    Prepared,
+    /// It waits for the answers to PRECOMMIT: which nodes' ack it has noted.
+    Precommitting { acked: Nodes },
+    /// It has answered PRECOMMIT.
+    Precommitted,
+    Committed,
+    Aborted,
+}
+
+/// What a node of primary_backup knows.
+#[derive(Clone, Copy, Debug, PartialEq, Eq)]
+pub struct Replica {
+    /// It holds what was written.
+    pub holds: bool,
+    /// It knows that the write is done.
+    pub done: bool,
+    /// It is a primary.
+    pub primary: bool,
+    /// It knows that another has become the primary.
+    pub claimed: bool,
+    /// The step from which its time-out counts.
+    pub since: u32,
+}
+
 impl State {
-    /// The state's text in a trace: `has` or `lacks`.
+    /// The state's text in a trace. Of a delivery `has` or `lacks`, of a commit the phase's name in lower case, and of a
+    /// replica `holds` or `empty`, `done` or `not_done`, `primary` or `backup`, and `claimed` or `unclaimed`, with single
+    /// blanks.
     pub fn text(&self) -> &'static str
         ensures { result.now ≡ state_text self.now }
     {
         match self {
             State::Retry(Holding::Has) | State::Redundant(Relay::Has { .. }) => "has",
             State::Retry(Holding::Lacks) | State::Redundant(Relay::Lacks) => "lacks",
+            State::TwoPhase(progress) | State::ThreePhase(progress) => phase_word(progress.phase),
+            State::PrimaryBackup(replica) => {
+                if replica.holds {
+                    text_of_holder(replica)
+                } else {
+                    text_of_empty(replica)
+                }
+            }
         }
+    }
+}
+
+/// The word of a phase.
+fn phase_word(phase: Phase) -> &'static str
+    ensures { result.now ≡ phase_word phase }
+{
+    match phase {
+        Phase::Idle => "idle",
+        Phase::Voting { .. } => "voting",
+        Phase::Prepared => "prepared",
+        Phase::Precommitting { .. } => "precommitting",
+        Phase::Precommitted => "precommitted",
+        Phase::Committed => "committed",
+        Phase::Aborted => "aborted",
+    }
+}
+
+/// The text of a replica that holds what was written.
+fn text_of_holder(replica: &Replica) -> &'static str
+    requires { replica.now.holds ≡ true }
+    ensures { result.now ≡ replica_text replica.now }
+{
+    match (replica.done, replica.primary, replica.claimed) {
+        (true, true, true) => "holds done primary claimed",
+        (true, true, false) => "holds done primary unclaimed",
+        (true, false, true) => "holds done backup claimed",
+        (true, false, false) => "holds done backup unclaimed",
+        (false, true, true) => "holds not_done primary claimed",
+        (false, true, false) => "holds not_done primary unclaimed",
+        (false, false, true) => "holds not_done backup claimed",
+        (false, false, false) => "holds not_done backup unclaimed",
+    }
+}
+
+/// The text of a replica that holds nothing.
+fn text_of_empty(replica: &Replica) -> &'static str
+    requires { replica.now.holds ≡ false }
+    ensures { result.now ≡ replica_text replica.now }
+{
+    match (replica.done, replica.primary, replica.claimed) {
+        (true, true, true) => "empty done primary claimed",
+        (true, true, false) => "empty done primary unclaimed",
+        (true, false, true) => "empty done backup claimed",
+        (true, false, false) => "empty done backup unclaimed",
+        (false, true, true) => "empty not_done primary claimed",
+        (false, true, false) => "empty not_done primary unclaimed",
+        (false, false, true) => "empty not_done backup claimed",
+        (false, false, false) => "empty not_done backup unclaimed",
     }
 }

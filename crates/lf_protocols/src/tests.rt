@@ -2,11 +2,16 @@
 
 ghost use Rattle.std.specs.Prelude.{◌<◌, ◌≤◌};
 
+mod commits;
+mod replicas;
+
 use crate::{
-    Fact, Holding, Kind, Note, Protocol, Relay, State, facts_are_opposites, redundant_delivers,
+    Fact, Holding, Kind, Nodes, Note, Phase, Progress, Protocol, Relay, Replica, State,
+    claims_are_heard, facts_are_opposites, prepared_gives_up, prepared_waits, redundant_delivers,
     retry_delivers,
 };
 use lf_sim::{Letter, Machine, Stepped};
+use std::process::Abort;
 use std::test::Fail;
 
 /// The data, on its way from node 0.
@@ -149,8 +154,80 @@ fn limits(rt: HostRuntime) {
 }
 
 #[test]
+fn limits_of_commits(rt: HostRuntime) {
+    let all = [true; 8];
+    let mut last = all;
+    last[7] = false;
+    let mut first = all;
+    first[0] = false;
+    let mut second = all;
+    second[1] = false;
+    let rows = [
+        (1, 1, all, false),
+        (2, 0, all, false),
+        (2, 1, all, true),
+        (8, 48, all, true),
+        (8, 49, all, false),
+        (9, 1, all, false),
+        (2, 1, second, true),
+        (8, 1, last, true),
+        (7, 1, last, false),
+        (8, 1, first, false),
+    ];
+    for (nodes, patience, votes, allowed) in rows {
+        let two = Protocol::two_phase(nodes, patience, votes).map(|protocol| protocol.kind());
+        let three = Protocol::three_phase(nodes, patience, votes).map(|protocol| protocol.kind());
+        if allowed {
+            assert_eq!(rt;
+                two,
+                Some(Kind::TwoPhase {
+                    nodes,
+                    patience,
+                    votes
+                })
+            );
+            assert_eq!(rt;
+                three,
+                Some(Kind::ThreePhase {
+                    nodes,
+                    patience,
+                    votes
+                })
+            );
+        } else {
+            assert_eq!(rt; two, None, "at {nodes} {patience}");
+            assert_eq!(rt; three, None, "at {nodes} {patience}");
+        }
+    }
+}
+
+#[test]
+fn limits_of_replicas(rt: HostRuntime) {
+    let rows = [
+        (2, 1, false),
+        (3, 0, false),
+        (3, 1, true),
+        (8, 48, true),
+        (8, 49, false),
+        (9, 1, false),
+    ];
+    for (nodes, patience, allowed) in rows {
+        let protocol = Protocol::primary_backup(nodes, patience);
+        let kind = if allowed {
+            Some(Kind::PrimaryBackup { nodes, patience })
+        } else {
+            None
+        };
+        assert_eq!(rt;
+            protocol.map(|protocol| protocol.kind()),
+            kind,
+            "at {nodes} {patience}"
+        );
+    }
+}
+
+#[test]
 fn words(rt: HostRuntime) -> Result<(), Fail> {
-    assert_eq!(rt; Note::Payload.word(), "data");
     assert_eq!(rt; sent(1).text(), "has");
     assert_eq!(rt; LACKS.text(), "lacks");
     for protocol in [Protocol::retry(2, 1), Protocol::redundant(2, 1)] {
@@ -169,5 +246,176 @@ fn words(rt: HostRuntime) -> Result<(), Fail> {
     facts_are_opposites();
     retry_delivers();
     redundant_delivers();
+    prepared_waits();
+    prepared_gives_up();
+    claims_are_heard();
     Ok(())
+}
+
+/// Checks whether a state shows the fact of a word.
+fn check_shown(
+    rt: &impl Abort,
+    protocol: &Protocol,
+    state: State,
+    word: &'static str,
+    is: bool,
+) -> Result<(), Fail> {
+    let fact = protocol.fact(word).ok_or("fact")?;
+    let _nodes = protocol.nodes();
+    assert_eq!(rt; fact.word(), word);
+    assert_eq!(rt; protocol.shows(0, state, fact), is, "{word}");
+    Ok(())
+}
+
+/// Checks the facts of a phase.
+fn check_phase(
+    rt: &impl Abort,
+    protocol: &Protocol,
+    state: State,
+    phase: &'static str,
+) -> Result<(), Fail> {
+    assert_eq!(rt; state.text(), phase);
+    let rows = [
+        ("committed", "not_committed", "committed"),
+        ("aborted", "not_aborted", "aborted"),
+        ("blocked", "free", "prepared"),
+    ];
+    for (fact, opposite, shown) in rows {
+        check_shown(rt, protocol, state, fact, phase == shown)?;
+        check_shown(rt, protocol, state, opposite, phase != shown)?;
+    }
+    Ok(())
+}
+
+#[test]
+fn words_of_commits(rt: HostRuntime) -> Result<(), Fail> {
+    let votes = [true; 8];
+    let none = Nodes::none();
+    let phases = [
+        (Phase::Idle, "idle"),
+        (
+            Phase::Voting {
+                agreed: none,
+                refused: false,
+            },
+            "voting",
+        ),
+        (Phase::Prepared, "prepared"),
+        (Phase::Precommitting { acked: none }, "precommitting"),
+        (Phase::Precommitted, "precommitted"),
+        (Phase::Committed, "committed"),
+        (Phase::Aborted, "aborted"),
+    ];
+    let two = Protocol::two_phase(2, 1, votes).ok_or("limits")?;
+    let three = Protocol::three_phase(2, 1, votes).ok_or("limits")?;
+    for (phase, word) in phases {
+        let progress = Progress { phase, since: 0 };
+        check_phase(&rt, &two, State::TwoPhase(progress), word)?;
+        check_phase(&rt, &three, State::ThreePhase(progress), word)?;
+    }
+    for word in ["", "has", "holds", "prepared", "Committed", "not committed"] {
+        assert_eq!(rt; two.fact(word), None, "at {word}");
+        assert_eq!(rt; three.fact(word), None, "at {word}");
+    }
+    Ok(())
+}
+
+/// Checks the text and the facts of a replica.
+fn check_replica(rt: &impl Abort, replica: Replica, text: &'static str) -> Result<(), Fail> {
+    let protocol = Protocol::primary_backup(3, 1).ok_or("limits")?;
+    let state = State::PrimaryBackup(replica);
+    assert_eq!(rt; state.text(), text);
+    let rows = [
+        ("holds", "empty", replica.holds),
+        ("done", "not_done", replica.done),
+        ("primary", "backup", replica.primary),
+        ("claimed", "unclaimed", replica.claimed),
+    ];
+    for (fact, opposite, is) in rows {
+        check_shown(rt, &protocol, state, fact, is)?;
+        check_shown(rt, &protocol, state, opposite, !is)?;
+    }
+    Ok(())
+}
+
+#[test]
+fn words_of_replicas(rt: HostRuntime) -> Result<(), Fail> {
+    let new = Replica {
+        holds: false,
+        done: false,
+        primary: false,
+        claimed: false,
+        since: 0,
+    };
+    let all = Replica {
+        holds: true,
+        done: true,
+        primary: true,
+        claimed: true,
+        since: 9,
+    };
+    let rows = [
+        (new, "empty not_done backup unclaimed"),
+        (
+            Replica { holds: true, ..new },
+            "holds not_done backup unclaimed",
+        ),
+        (Replica { done: true, ..new }, "empty done backup unclaimed"),
+        (
+            Replica {
+                primary: true,
+                ..new
+            },
+            "empty not_done primary unclaimed",
+        ),
+        (
+            Replica {
+                claimed: true,
+                ..new
+            },
+            "empty not_done backup claimed",
+        ),
+        (all, "holds done primary claimed"),
+        (
+            Replica {
+                holds: false,
+                ..all
+            },
+            "empty done primary claimed",
+        ),
+        (
+            Replica { done: false, ..all },
+            "holds not_done primary claimed",
+        ),
+    ];
+    for (replica, text) in rows {
+        check_replica(&rt, replica, text)?;
+    }
+    let protocol = Protocol::primary_backup(3, 1).ok_or("limits")?;
+    for word in ["has", "free", "hold", "not_holds"] {
+        assert_eq!(rt; protocol.fact(word), None, "at {word}");
+    }
+    Ok(())
+}
+
+#[test]
+fn words_of_notes(rt: HostRuntime) {
+    let rows = [
+        (Note::Payload, "data"),
+        (Note::Prepare, "prepare"),
+        (Note::Yes, "yes"),
+        (Note::No, "no"),
+        (Note::Precommit, "precommit"),
+        (Note::Ack, "ack"),
+        (Note::Commit, "commit"),
+        (Note::Abort, "abort"),
+        (Note::Write, "write"),
+        (Note::Repl, "repl"),
+        (Note::Done, "done"),
+        (Note::Beat, "beat"),
+        (Note::Claim, "claim"),
+    ];
+    for (note, word) in rows {
+        assert_eq!(rt; note.word(), word);
+    }
 }

@@ -1,2 +1,4 @@
 pub mod LinkSteps
 pub mod NamedRanges
+pub mod VotesLemmas
+pub mod Refusing

@@ -6,20 +6,22 @@ use Rattle.std.proofs.lemmas.Bool.{and_from, lt-ltb, le-leb}
 use Rattle.std.proofs.lemmas.List.Folds.{list_all-map}
 use Rattle.lf_faults.specs.Allowed.{Bounds, IsInLimits}
 use Rattle.lf_protocols.specs.declared.fact.Fact.{Fact}
-use Rattle.lf_protocols.specs.declared.fact.Fact.TheVariants.{Has, Lacks}
+use Rattle.lf_protocols.specs.declared.fact.Fact.TheVariants.{Has, Lacks, NotCommitted, NotAborted, Free, Backup, NotDone, Holds}
 use Rattle.lf_protocols.specs.declared.protocol.Kind.{Kind}
 use Rattle.lf_protocols.specs.declared.protocol.Kind.TheVariants as kinds
+use Rattle.lf_protocols.specs.Limits.{IsWithinLimits}
+use Rattle.lf_protocols.specs.Protocols.{nodes_of}
 use Rattle.lf_outcome.specs.declared.formula.Formula.{Formula, fold-roll-Formula}
 use Rattle.lf_outcome.specs.declared.formula.Formula.TheVariants.{rolls-All, rolls-Any, rolls-Down, rolls-Shows}
 use Rattle.lf_outcome.specs.declared.formula.Formula.TheVariants as kind
 use Rattle.lf_outcome.specs.declared.formula.Formula.TheOpen.{Formula-F}
 use Rattle.lf_outcome.specs.declared.outcome.Outcome.{Outcome}
-use Rattle.lf_outcome.specs.declared.outcome.Outcome.TheVariants.{Delivered}
+use Rattle.lf_outcome.specs.declared.outcome.Outcome.TheVariants.{Delivered, Agreement, Unblocked, OnePrimary, Durable}
 use Rattle.lf_outcome.specs.Measures.{depth_of, atoms_of}
 use Rattle.lf_outcome.specs.Named.{shows_or_down, each_shows, formula_of}
 use Rattle.lf_outcome.proofs.MeasuresLemmas.{depth_of-parts, atoms_of-parts, depth_of-Down, depth_of-Shows, atoms_of-Down, atoms_of-Shows}
 use Rattle.lf_scenario.specs.Formulas.{is_point, is_fact_of, range_step, is_in_range, IsFormulaOf}
-use Rattle.lf_scenario.specs.Reading.{is_outcome_of}
+use Rattle.lf_scenario.specs.Reading.{is_of_delivery, is_of_commit, is_of_replica, is_outcome_of}
 
 -- a node that shows a fact or is down
 module _ (t : ℕ) (fact : Fact) where
@@ -131,14 +133,116 @@ module _ (k : Kind) (b : Bounds) (limits : IsInLimits b) (one other : Fact) wher
         omega (arith, whole, atoms-each b.horizon one b.nodes, atoms-each b.horizon other b.nodes, limits.nodes.1);
   }
 
-pub formula_of-fits : (k : Kind) (b : Bounds) (outcome : Outcome) → IsInLimits b → is_outcome_of k outcome ≡ true
+-- each node that is up
+module _ (k : Kind) (b : Bounds) (limits : IsInLimits b) (fact : Fact) where
+  all_each : is_fact_of k fact ≡ true → IsFormulaOf k b (each_shows b.nodes b.horizon fact)
+  all_each own = record {
+    range = range-each k b.nodes b.horizon limits.horizon.0 fact own;
+    depth = omega (arith, depth-each b.horizon fact b.nodes);
+    atoms = omega (arith, atoms-each b.horizon fact b.nodes, limits.nodes.1);
+  }
+
+-- one of some atoms
+module _ (k : Kind) (b : Bounds) (limits : IsInLimits b) where
+  abbrev last : ℕ
+  last = b.horizon
+
+  abbrev fits_in : Formula Fact → Bool
+  fits_in = is_in_range k b.nodes b.horizon
+
+  one_of_three : (x y z : Formula Fact) → fits_in x ≡ true → fits_in y ≡ true → fits_in z ≡ true
+      → depth_of x ≡ 1 → depth_of y ≡ 1 → depth_of z ≡ 1 → atoms_of x ≡ 1 → atoms_of y ≡ 1 → atoms_of z ≡ 1
+      → IsFormulaOf k b (kind.Any (x ∷ y ∷ z ∷ []))
+  one_of_three x y z in_x in_y in_z deep_x deep_y deep_z one_x one_y one_z = record {
+    range =
+        range-Any k b.nodes b.horizon (x ∷ y ∷ z ∷ [])
+        ∙ and_from (fits_in x) (fits_in y && (fits_in z && true)) in_x (and_from (fits_in y) (fits_in z && true) in_y (and_from (fits_in z) true in_z refl));
+    depth =
+        let whole : depth_of (kind.Any (x ∷ y ∷ z ∷ [])) ≡ max (max (max 0 (depth_of x)) (depth_of y)) (depth_of z) + 1 =
+        depth_of-parts (kind.Any (x ∷ y ∷ z ∷ [])) (x ∷ y ∷ z ∷ []) (inr refl) in
+        omega (arith, whole, deep_x, deep_y, deep_z);
+    atoms =
+        let whole : atoms_of (kind.Any (x ∷ y ∷ z ∷ [])) ≡ 0 + atoms_of x + atoms_of y + atoms_of z =
+        atoms_of-parts (kind.Any (x ∷ y ∷ z ∷ [])) (x ∷ y ∷ z ∷ []) (inr refl) in
+        omega (arith, whole, one_x, one_y, one_z);
+  }
+
+  one_of_four : (w x y z : Formula Fact) → fits_in w ≡ true → fits_in x ≡ true → fits_in y ≡ true → fits_in z ≡ true
+      → depth_of w ≡ 1 → depth_of x ≡ 1 → depth_of y ≡ 1 → depth_of z ≡ 1 → atoms_of w ≡ 1 → atoms_of x ≡ 1 → atoms_of y ≡ 1 → atoms_of z ≡ 1
+      → IsFormulaOf k b (kind.Any (w ∷ x ∷ y ∷ z ∷ []))
+  one_of_four w x y z in_w in_x in_y in_z deep_w deep_x deep_y deep_z one_w one_x one_y one_z = record {
+    range =
+        range-Any k b.nodes b.horizon (w ∷ x ∷ y ∷ z ∷ [])
+        ∙ and_from (fits_in w) (fits_in x && (fits_in y && (fits_in z && true))) in_w
+        (and_from (fits_in x) (fits_in y && (fits_in z && true)) in_x (and_from (fits_in y) (fits_in z && true) in_y (and_from (fits_in z) true in_z refl)));
+    depth =
+        let whole : depth_of (kind.Any (w ∷ x ∷ y ∷ z ∷ [])) ≡ max (max (max (max 0 (depth_of w)) (depth_of x)) (depth_of y)) (depth_of z) + 1 =
+        depth_of-parts (kind.Any (w ∷ x ∷ y ∷ z ∷ [])) (w ∷ x ∷ y ∷ z ∷ []) (inr refl) in
+        omega (arith, whole, deep_w, deep_x, deep_y, deep_z);
+    atoms =
+        let whole : atoms_of (kind.Any (w ∷ x ∷ y ∷ z ∷ [])) ≡ 0 + atoms_of w + atoms_of x + atoms_of y + atoms_of z =
+        atoms_of-parts (kind.Any (w ∷ x ∷ y ∷ z ∷ [])) (w ∷ x ∷ y ∷ z ∷ []) (inr refl) in
+        omega (arith, whole, one_w, one_x, one_y, one_z);
+  }
+
+  down_fits : (n : ℕ) → n < b.nodes → fits_in (kind.Down n last) ≡ true
+  down_fits n below = down k b.nodes b.horizon limits.horizon.0 n below
+
+  shows_fits : (n : ℕ) (fact : Fact) → n < b.nodes → is_fact_of k fact ≡ true → fits_in (kind.Shows n last fact) ≡ true
+  shows_fits n fact below own = shows k b.nodes b.horizon limits.horizon.0 fact own n below
+
+  one_primary_fits : is_fact_of k Backup ≡ true → IsFormulaOf k b (formula_of OnePrimary b.nodes b.horizon)
+  one_primary_fits own =
+      one_of_three (kind.Down 0 last) (kind.Down 1 last) (kind.Shows 1 last Backup)
+      (down_fits 0 (omega (arith, limits.nodes.0))) (down_fits 1 (omega (arith, limits.nodes.0))) (shows_fits 1 Backup (omega (arith, limits.nodes.0)) own)
+      (depth_of-Down Fact 0 last) (depth_of-Down Fact 1 last) (depth_of-Shows 1 last Backup)
+      (atoms_of-Down Fact 0 last) (atoms_of-Down Fact 1 last) (atoms_of-Shows 1 last Backup)
+
+  durable_fits : 3 ≤ b.nodes → is_fact_of k NotDone ≡ true → is_fact_of k Holds ≡ true → IsFormulaOf k b (formula_of Durable b.nodes b.horizon)
+  durable_fits three done holds =
+      one_of_four (kind.Down 2 last) (kind.Shows 2 last NotDone) (kind.Shows 0 last Holds) (kind.Shows 1 last Holds)
+      (down_fits 2 (omega (arith, three))) (shows_fits 2 NotDone (omega (arith, three)) done) (shows_fits 0 Holds (omega (arith, three)) holds) (shows_fits 1 Holds (omega (arith, three)) holds)
+      (depth_of-Down Fact 2 last) (depth_of-Shows 2 last NotDone) (depth_of-Shows 0 last Holds) (depth_of-Shows 1 last Holds)
+      (atoms_of-Down Fact 2 last) (atoms_of-Shows 2 last NotDone) (atoms_of-Shows 0 last Holds) (atoms_of-Shows 1 last Holds)
+
+  delivery_fits : (outcome : Outcome) → is_fact_of k Has ≡ true → is_fact_of k Lacks ≡ true → is_of_delivery outcome ≡ true
+      → IsFormulaOf k b (formula_of outcome b.nodes b.horizon)
+  delivery_fits Delivered has lacks own = either_each k b limits Has Lacks has lacks
+  delivery_fits Agreement has lacks own = absurd cc
+  delivery_fits Unblocked has lacks own = absurd cc
+  delivery_fits OnePrimary has lacks own = absurd cc
+  delivery_fits Durable has lacks own = absurd cc
+
+  commit_fits : (outcome : Outcome) → is_fact_of k NotCommitted ≡ true → is_fact_of k NotAborted ≡ true → is_fact_of k Free ≡ true
+      → is_of_commit outcome ≡ true → IsFormulaOf k b (formula_of outcome b.nodes b.horizon)
+  commit_fits Delivered committed aborted free own = absurd cc
+  commit_fits Agreement committed aborted free own = either_each k b limits NotCommitted NotAborted committed aborted
+  commit_fits Unblocked committed aborted free own = all_each k b limits Free free
+  commit_fits OnePrimary committed aborted free own = absurd cc
+  commit_fits Durable committed aborted free own = absurd cc
+
+  replica_fits : (outcome : Outcome) → 3 ≤ b.nodes → is_fact_of k Backup ≡ true → is_fact_of k NotDone ≡ true → is_fact_of k Holds ≡ true
+      → is_of_replica outcome ≡ true → IsFormulaOf k b (formula_of outcome b.nodes b.horizon)
+  replica_fits Delivered three backup done holds own = absurd cc
+  replica_fits Agreement three backup done holds own = absurd cc
+  replica_fits Unblocked three backup done holds own = absurd cc
+  replica_fits OnePrimary three backup done holds own = one_primary_fits backup
+  replica_fits Durable three backup done holds own = durable_fits three done holds
+
+formula_of-fits : (k : Kind) (b : Bounds) (outcome : Outcome) → IsInLimits b → IsWithinLimits k → nodes_of k ≡ b.nodes → is_outcome_of k outcome ≡ true
     → IsFormulaOf k b (formula_of outcome b.nodes b.horizon)
-formula_of-fits (kinds.Retry nodes tries) b Delivered limits own = either_each (kinds.Retry nodes tries) b limits Has Lacks refl refl
-formula_of-fits (kinds.Redundant nodes tries) b Delivered limits own = either_each (kinds.Redundant nodes tries) b limits Has Lacks refl refl
+formula_of-fits (kinds.Retry nodes tries) b outcome limits within same own = delivery_fits (kinds.Retry nodes tries) b limits outcome refl refl own
+formula_of-fits (kinds.Redundant nodes tries) b outcome limits within same own = delivery_fits (kinds.Redundant nodes tries) b limits outcome refl refl own
+formula_of-fits (kinds.TwoPhase nodes patience votes) b outcome limits within same own =
+    commit_fits (kinds.TwoPhase nodes patience votes) b limits outcome refl refl refl own
+formula_of-fits (kinds.ThreePhase nodes patience votes) b outcome limits within same own =
+    commit_fits (kinds.ThreePhase nodes patience votes) b limits outcome refl refl refl own
+formula_of-fits (kinds.PrimaryBackup nodes patience) b outcome limits within same own =
+    replica_fits (kinds.PrimaryBackup nodes patience) b limits outcome (omega (arith, within.0, same)) refl refl refl own
 
 -- of a setting with this protocol and these bounds
 pub formula_of-setting : (k m : Kind) (b s : Bounds) (outcome : Outcome) (nodes horizon : ℕ) (formula : Formula Fact) → m ≡ k → s ≡ b
-    → nodes ≡ b.nodes → horizon ≡ b.horizon → formula ≡ formula_of outcome nodes horizon → IsInLimits b → is_outcome_of k outcome ≡ true
-    → IsFormulaOf m s formula
-formula_of-setting k m b s outcome nodes horizon formula machine spec at_nodes at_horizon is limits own =
-    rw (machine, spec, is, at_nodes, at_horizon) (formula_of-fits k b outcome limits own)
+    → nodes ≡ b.nodes → horizon ≡ b.horizon → formula ≡ formula_of outcome nodes horizon → IsInLimits b → IsWithinLimits k → nodes_of k ≡ b.nodes
+    → is_outcome_of k outcome ≡ true → IsFormulaOf m s formula
+formula_of-setting k m b s outcome nodes horizon formula machine spec at_nodes at_horizon is limits within same own =
+    rw (machine, spec, is, at_nodes, at_horizon) (formula_of-fits k b outcome limits within same own)

@@ -1,6 +1,7 @@
 pub mod Keys
 pub mod Refusals
 pub mod Values
+pub mod Votes
 pub mod Reading
 pub mod LinkTables
 pub mod Formulas

@@ -61,9 +61,10 @@ abbrev pub owned : {A : Type 0} → Bool → Members → Key → (Key → Data �
 owned true ms key read nothing = required ms key read
 owned false ms key read nothing = foreign ms key nothing
 
--- a key that no protocol has
-abbrev pub unowned : Members → Key → Reading (Unit {0})
-unowned ms key = foreign ms key tt
+-- a key of some protocols, which may be missing where the protocol has it
+abbrev pub chosen : {A : Type 0} → Bool → Members → Key → (Key → Data → Reading A) → A → Reading A
+chosen true ms key read default = optional ms key read default
+chosen false ms key read default = foreign ms key default
 
 -- each key is one of a scenario's
 unfoldable pub known : Members → Reading (Unit {0})

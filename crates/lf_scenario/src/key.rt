@@ -69,7 +69,7 @@ impl Key {
     }
 
     /// What the key takes, in words.
-    pub fn takes(&self) -> &'static str {
+    pub(crate) fn takes(&self) -> &'static str {
         match self {
             Key::Nodes => "a whole number from 2 to 8",
             Key::Horizon => "a whole number from 1 to 48",
@@ -81,10 +81,14 @@ impl Key {
             Key::Seed => "a text of 64 hexadecimal digits",
             Key::Least => "a whole number from 1 to 16",
             Key::Spread => "a whole number from 0 to 15",
-            Key::Protocol => "a text: \"retry\" or \"redundant\"",
+            Key::Protocol => {
+                "a text: \"retry\", \"redundant\", \"two_phase\", \"three_phase\", or with at least three nodes \"primary_backup\""
+            }
             Key::Tries | Key::Patience => "a whole number from 1 to 48",
             Key::Votes => "a list of truth values, one for each of the nodes from 1 on",
-            Key::Outcome => "a text: \"delivered\"",
+            Key::Outcome => {
+                "a text: \"delivered\" for retry and redundant, \"agreement\" or \"unblocked\" for two_phase and three_phase, \"one_primary\" or \"durable\" for primary_backup"
+            }
             Key::Links => {
                 "a list of tables, each with two different nodes `from` and `to`, a pair that no earlier table has, and with `least` from 1 to 16 and `spread` from 0 to 15 where they are its own"
             }

@@ -6,15 +6,18 @@
 
 mod error;
 mod key;
+mod laws;
 mod links;
 mod names;
 mod reader;
 mod reading;
 mod scenario;
 mod value;
+mod votes;
 
 pub use error::ScenarioError;
 pub use key::Key;
+pub use laws::refusals_are_one;
 pub use links::Link;
 pub use names::ProtocolName;
 pub use reader::{LONGEST, read};

@@ -6,12 +6,11 @@ ghost use Rattle.lf_protocols.specs.Protocols.{nodes_of};
 ghost use Rattle.toml.specs.View.{view, table_view};
 ghost use Rattle.lf_scenario.specs.Ranges.{AreDelays, IsInRange};
 ghost use Rattle.lf_scenario.specs.Values.{required};
-ghost use Rattle.lf_scenario.specs.Reading.{protocol_in, has_tries, has_patience, kind_of, outcome_of, outcome_in, is_outcome_of, bounds_in, delays_in, kind_in, described_in};
+ghost use Rattle.lf_scenario.specs.Reading.{protocol_of, protocol_in, has_tries, has_patience, has_votes, kind_of, delivery_named, commit_named, replica_named, outcome_of, outcome_in, is_of_delivery, is_of_commit, is_of_replica, is_outcome_of, bounds_in, delays_in, kind_in, described_in};
 
 use crate::names::ProtocolName;
-use crate::value::{
-    at, known, optional_seed, optional_whole, owned_whole, required_whole, unowned,
-};
+use crate::value::{at, known, optional_seed, optional_whole, owned_whole, required_whole};
+use crate::votes::chosen_votes;
 use crate::{Key, ScenarioError};
 use lf_faults::FaultSpec;
 use lf_outcome::Outcome;
@@ -86,30 +85,45 @@ fn read_delays(table: &Table) -> Result<Delays, ScenarioError>
     })
 }
 
-/// A protocol's name.
-fn protocol_name(value: &Value, key: Key) -> Result<ProtocolName, ScenarioError>
-    ensures { result ≡ protocol_in key (view value.now) }
+/// The protocol of this name. One with a backup needs three nodes.
+fn protocol_name(name: &str, nodes: u32) -> Result<ProtocolName, ScenarioError>
+    ensures value { result ≡ protocol_of nodes name.now }
+    ensures enough { IfOk result (λ p. p ≡ ProtocolName.PrimaryBackup → 3 ≤ nodes) }
 {
-    let Value::String(text) = value else {
-        return Err(ScenarioError::WrongKind(key));
-    };
-    let name = text.as_str();
     if name == "retry" {
         Ok(ProtocolName::Retry)
     } else if name == "redundant" {
         Ok(ProtocolName::Redundant)
+    } else if name == "two_phase" {
+        Ok(ProtocolName::TwoPhase)
+    } else if name == "three_phase" {
+        Ok(ProtocolName::ThreePhase)
+    } else if name == "primary_backup" && nodes >= 3 {
+        Ok(ProtocolName::PrimaryBackup)
     } else {
         Err(ScenarioError::Protocol)
     }
 }
 
+/// The protocol that a value names.
+fn protocol(value: &Value, key: Key, nodes: u32) -> Result<ProtocolName, ScenarioError>
+    ensures value { result ≡ protocol_in nodes key (view value.now) }
+    ensures enough { IfOk result (λ p. p ≡ ProtocolName.PrimaryBackup → 3 ≤ nodes) }
+{
+    match value {
+        Value::String(text) => protocol_name(text.as_str(), nodes),
+        _ => Err(ScenarioError::WrongKind(key)),
+    }
+}
+
 /// The protocol's name of the table.
 #[tactic(auto, unfolding(crate::specs::Values::required))]
-fn required_protocol(table: &Table) -> Result<ProtocolName, ScenarioError>
-    ensures { result ≡ required (table_view table.now) Key.Protocol protocol_in }
+fn required_protocol(table: &Table, nodes: u32) -> Result<ProtocolName, ScenarioError>
+    ensures value { result ≡ required (table_view table.now) Key.Protocol (protocol_in nodes) }
+    ensures enough { IfOk result (λ p. p ≡ ProtocolName.PrimaryBackup → 3 ≤ nodes) }
 {
     match at(table, Key::Protocol.name()) {
-        Some(value) => protocol_name(value, Key::Protocol),
+        Some(value) => protocol(value, Key::Protocol, nodes),
         None => Err(ScenarioError::Missing(Key::Protocol)),
     }
 }
@@ -120,6 +134,7 @@ fn has_tries(name: ProtocolName) -> bool
 {
     match name {
         ProtocolName::Retry | ProtocolName::Redundant => true,
+        ProtocolName::TwoPhase | ProtocolName::ThreePhase | ProtocolName::PrimaryBackup => false,
     }
 }
 
@@ -129,18 +144,33 @@ fn has_patience(name: ProtocolName) -> bool
 {
     match name {
         ProtocolName::Retry | ProtocolName::Redundant => false,
+        ProtocolName::TwoPhase | ProtocolName::ThreePhase | ProtocolName::PrimaryBackup => true,
+    }
+}
+
+/// Whether the protocol has the key `votes`.
+fn has_votes(name: ProtocolName) -> bool
+    ensures { result ≡ has_votes name }
+{
+    match name {
+        ProtocolName::TwoPhase | ProtocolName::ThreePhase => true,
+        ProtocolName::Retry | ProtocolName::Redundant | ProtocolName::PrimaryBackup => false,
     }
 }
 
 /// The protocol with its settings.
-fn made(name: ProtocolName, nodes: u32, tries: u32) -> Protocol
-    requires { IsWithinLimits (kind_of name nodes tries) }
-    ensures value { result ≡ kind_of name nodes tries }
+fn made(name: ProtocolName, nodes: u32, tries: u32, patience: u32, votes: [bool; 8]) -> Protocol
+    requires { IsWithinLimits (kind_of name nodes tries patience votes) }
+    ensures value { result ≡ kind_of name nodes tries patience votes }
     ensures nodes { nodes_of result ≡ nodes }
+    ensures within { IsWithinLimits result }
 {
     match name {
         ProtocolName::Retry => Protocol::retry(nodes, tries).unwrap(),
         ProtocolName::Redundant => Protocol::redundant(nodes, tries).unwrap(),
+        ProtocolName::TwoPhase => Protocol::two_phase(nodes, patience, votes).unwrap(),
+        ProtocolName::ThreePhase => Protocol::three_phase(nodes, patience, votes).unwrap(),
+        ProtocolName::PrimaryBackup => Protocol::primary_backup(nodes, patience).unwrap(),
     }
 }
 
@@ -150,27 +180,64 @@ fn read_protocol(table: &Table, nodes: u32) -> Result<Protocol, ScenarioError>
     requires { (2 ≤ nodes) × (nodes ≤ 8) }
     ensures value { result ≡ kind_in nodes (table_view table.now) }
     ensures nodes { IfOk result (λ protocol. nodes_of protocol ≡ nodes) }
+    ensures within { IfOk result IsWithinLimits }
 {
-    let name = required_protocol(table)?;
+    let name = required_protocol(table, nodes)?;
     let tries = owned_whole(table, Key::Tries, has_tries(name), 1, 48)?;
-    let _patience = owned_whole(table, Key::Patience, has_patience(name), 1, 48)?;
-    unowned(table, Key::Votes)?;
-    Ok(made(name, nodes, tries))
+    let patience = owned_whole(table, Key::Patience, has_patience(name), 1, 48)?;
+    let votes = chosen_votes(table, has_votes(name), nodes)?;
+    Ok(made(name, nodes, tries, patience, votes))
 }
 
-/// The outcome of this name.
+/// The outcome of a delivery with this name.
+fn delivery_named(name: &str) -> Result<Outcome, ScenarioError>
+    ensures value { result ≡ delivery_named name.now }
+    ensures owned { IfOk result (λ outcome. is_of_delivery outcome ≡ true) }
+{
+    if name == "delivered" {
+        Ok(Outcome::Delivered)
+    } else {
+        Err(ScenarioError::Outcome)
+    }
+}
+
+/// The outcome of a commit with this name.
+fn commit_named(name: &str) -> Result<Outcome, ScenarioError>
+    ensures value { result ≡ commit_named name.now }
+    ensures owned { IfOk result (λ outcome. is_of_commit outcome ≡ true) }
+{
+    if name == "agreement" {
+        Ok(Outcome::Agreement)
+    } else if name == "unblocked" {
+        Ok(Outcome::Unblocked)
+    } else {
+        Err(ScenarioError::Outcome)
+    }
+}
+
+/// The outcome of a primary and its backup with this name.
+fn replica_named(name: &str) -> Result<Outcome, ScenarioError>
+    ensures value { result ≡ replica_named name.now }
+    ensures owned { IfOk result (λ outcome. is_of_replica outcome ≡ true) }
+{
+    if name == "one_primary" {
+        Ok(Outcome::OnePrimary)
+    } else if name == "durable" {
+        Ok(Outcome::Durable)
+    } else {
+        Err(ScenarioError::Outcome)
+    }
+}
+
+/// The outcome of the protocol with this name.
 fn outcome_name(name: &str, protocol: Protocol) -> Result<Outcome, ScenarioError>
     ensures value { result ≡ outcome_of protocol name.now }
     ensures owned { IfOk result (λ outcome. is_outcome_of protocol outcome ≡ true) }
 {
     match protocol.kind() {
-        Kind::Retry { .. } | Kind::Redundant { .. } => {
-            if name == "delivered" {
-                Ok(Outcome::Delivered)
-            } else {
-                Err(ScenarioError::Outcome)
-            }
-        }
+        Kind::Retry { .. } | Kind::Redundant { .. } => delivery_named(name),
+        Kind::TwoPhase { .. } | Kind::ThreePhase { .. } => commit_named(name),
+        Kind::PrimaryBackup { .. } => replica_named(name),
     }
 }
 

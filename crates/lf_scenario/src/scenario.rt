@@ -47,7 +47,7 @@ impl Scenario {
     pub fn same(&self, other: &Scenario) -> bool
         ensures { IsTrue result ↔ AreSame self.now other.now }
     {
-        self.setting.machine == other.setting.machine
+        self.setting.machine.same(&other.setting.machine)
             && self.setting.network.same(&other.setting.network)
             && self.setting.spec == other.setting.spec
             && same(&self.formula, &other.formula)

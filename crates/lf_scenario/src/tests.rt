@@ -107,7 +107,8 @@ fn keys_are_refused(rt: HostRuntime) -> Result<(), Fail> {
         (4, "budget = 2026-11-22", 5, Some(Key::Budget)),
         (4, "budget = 7", 6, Some(Key::Budget)),
         (5, "protocol = \"raft\"", 9, Some(Key::Protocol)),
-        (5, "protocol = \"two_phase\"", 9, Some(Key::Protocol)),
+        (5, "protocol = \"two_phase\"", 4, Some(Key::Tries)),
+        (5, "protocol = \"Retry\"", 9, Some(Key::Protocol)),
         (5, "protocol = 1", 5, Some(Key::Protocol)),
         (6, "", 3, Some(Key::Tries)),
         (6, "tries = 49", 6, Some(Key::Tries)),
@@ -451,6 +452,230 @@ fn text_of_all(alloc: Global) -> Result<String, AllocError> {
     text(alloc, 8, "", "")
 }
 
+/// A scenario of a protocol that waits.
+fn patient(
+    alloc: Global,
+    nodes: u32,
+    protocol: &str,
+    outcome: &str,
+    more: &str,
+) -> Result<String, AllocError> {
+    let bounds = format!(in alloc;
+        "nodes = {nodes}\nhorizon = 4\nlast_omission = 0\ncrashes = 0\nbudget = 0\n"
+    )?;
+    format!(in alloc; "{bounds}protocol = \"{protocol}\"\noutcome = \"{outcome}\"\n{more}")
+}
+
+#[test]
+fn each_protocol_is_read(rt: HostRuntime) -> Result<(), Fail> {
+    let alloc = rt.alloc();
+    let both = [true, true, false, true, true, true, true, true];
+    for (nodes, protocol, outcome, more, kind, formula) in [
+        (
+            3,
+            "two_phase",
+            "agreement",
+            "patience = 5\nvotes = [true, false]",
+            Kind::TwoPhase {
+                nodes: 3,
+                patience: 5,
+                votes: both,
+            },
+            Outcome::Agreement,
+        ),
+        (
+            8,
+            "two_phase",
+            "unblocked",
+            "patience = 48",
+            Kind::TwoPhase {
+                nodes: 8,
+                patience: 48,
+                votes: [true; 8],
+            },
+            Outcome::Unblocked,
+        ),
+        (
+            3,
+            "three_phase",
+            "unblocked",
+            "votes = [true, false]\npatience = 1",
+            Kind::ThreePhase {
+                nodes: 3,
+                patience: 1,
+                votes: both,
+            },
+            Outcome::Unblocked,
+        ),
+        (
+            2,
+            "three_phase",
+            "agreement",
+            "patience = 1\nvotes = [false]",
+            Kind::ThreePhase {
+                nodes: 2,
+                patience: 1,
+                votes: [true, false, true, true, true, true, true, true],
+            },
+            Outcome::Agreement,
+        ),
+        (
+            3,
+            "primary_backup",
+            "one_primary",
+            "patience = 2",
+            Kind::PrimaryBackup {
+                nodes: 3,
+                patience: 2,
+            },
+            Outcome::OnePrimary,
+        ),
+        (
+            4,
+            "primary_backup",
+            "durable",
+            "patience = 2",
+            Kind::PrimaryBackup {
+                nodes: 4,
+                patience: 2,
+            },
+            Outcome::Durable,
+        ),
+    ] {
+        let text = patient(alloc, nodes, protocol, outcome, more)?;
+        let scenario = read(alloc, text.as_bytes())?;
+        assert_eq!(rt; scenario.setting().machine.kind(), kind, "of {text}");
+        let named = named(alloc, formula, nodes, 4)?;
+        assert!(rt; same_formula(scenario.formula(), &named), "of {text}");
+        assert!(rt; scenario.same(&scenario), "of {text}");
+    }
+    Ok(())
+}
+
+#[test]
+fn votes_and_patience_are_refused(rt: HostRuntime) -> Result<(), Fail> {
+    let alloc = rt.alloc();
+    for (nodes, protocol, outcome, more, number, key) in [
+        (3, "two_phase", "agreement", "", 3, Key::Patience),
+        (3, "two_phase", "agreement", "tries = 1", 4, Key::Tries),
+        (
+            3,
+            "two_phase",
+            "agreement",
+            "patience = 0",
+            6,
+            Key::Patience,
+        ),
+        (
+            3,
+            "three_phase",
+            "agreement",
+            "patience = 49",
+            6,
+            Key::Patience,
+        ),
+        (
+            3,
+            "two_phase",
+            "agreement",
+            "patience = true",
+            5,
+            Key::Patience,
+        ),
+        (
+            3,
+            "two_phase",
+            "agreement",
+            "patience = 1\nvotes = [true]",
+            6,
+            Key::Votes,
+        ),
+        (
+            3,
+            "two_phase",
+            "agreement",
+            "patience = 1\nvotes = [true, true, true]",
+            6,
+            Key::Votes,
+        ),
+        (
+            3,
+            "two_phase",
+            "agreement",
+            "patience = 1\nvotes = []",
+            6,
+            Key::Votes,
+        ),
+        (
+            3,
+            "two_phase",
+            "agreement",
+            "patience = 1\nvotes = [true, 1]",
+            5,
+            Key::Votes,
+        ),
+        (
+            3,
+            "two_phase",
+            "agreement",
+            "patience = 1\nvotes = [1]",
+            5,
+            Key::Votes,
+        ),
+        (
+            3,
+            "three_phase",
+            "agreement",
+            "patience = 1\nvotes = true",
+            5,
+            Key::Votes,
+        ),
+        (
+            3,
+            "primary_backup",
+            "durable",
+            "patience = 1\nvotes = [true, true]",
+            4,
+            Key::Votes,
+        ),
+        (3, "primary_backup", "durable", "tries = 1", 4, Key::Tries),
+        (3, "primary_backup", "durable", "", 3, Key::Patience),
+        (
+            2,
+            "primary_backup",
+            "durable",
+            "patience = 1",
+            9,
+            Key::Protocol,
+        ),
+        (
+            3,
+            "primary_backup",
+            "agreement",
+            "patience = 1",
+            10,
+            Key::Outcome,
+        ),
+        (3, "two_phase", "durable", "patience = 1", 10, Key::Outcome),
+        (
+            3,
+            "three_phase",
+            "delivered",
+            "patience = 1",
+            10,
+            Key::Outcome,
+        ),
+    ] {
+        let text = patient(alloc, nodes, protocol, outcome, more)?;
+        assert_eq!(rt;
+            refusal(alloc, text.as_bytes()),
+            Some((number, Some(key))),
+            "to {text}"
+        );
+    }
+    Ok(())
+}
+
 #[test]
 fn refusals_are_told_in_words(rt: HostRuntime) -> Result<(), Fail> {
     let alloc = rt.alloc();
@@ -461,7 +686,7 @@ fn refusals_are_told_in_words(rt: HostRuntime) -> Result<(), Fail> {
         ),
         (
             ScenarioError::Missing(Key::Protocol),
-            "the key `protocol` is missing: it takes a text: \"retry\" or \"redundant\"",
+            "the key `protocol` is missing: it takes a text: \"retry\", \"redundant\", \"two_phase\", \"three_phase\", or with at least three nodes \"primary_backup\"",
         ),
         (ScenarioError::NoDocument, "the text is not TOML"),
     ] {

@@ -3,7 +3,7 @@
 ghost use Rattle.std.specs.Prelude.{◌≡◌, ◌≤◌, true, option_map, replicate, IfOk};
 ghost use Rattle.toml.specs.Data.{get_member};
 ghost use Rattle.toml.specs.View.{view, table_view};
-ghost use Rattle.lf_scenario.specs.Values.{whole, seed_in, required, optional, owned, unowned, known};
+ghost use Rattle.lf_scenario.specs.Values.{whole, seed_in, required, optional, owned, known};
 
 use crate::key::is_key;
 use crate::{Key, ScenarioError};
@@ -109,17 +109,6 @@ pub(crate) fn owned_whole(
     match at(table, key.name()) {
         Some(_) => Err(ScenarioError::OtherProtocol(key)),
         None => Ok(0),
-    }
-}
-
-/// Refuses a key that no protocol has.
-#[tactic(auto, unfolding(crate::specs::Values::foreign))]
-pub(crate) fn unowned(table: &Table, key: Key) -> Result<(), ScenarioError>
-    ensures { result ≡ unowned (table_view table.now) key }
-{
-    match at(table, key.name()) {
-        Some(_) => Err(ScenarioError::OtherProtocol(key)),
-        None => Ok(()),
     }
 }
 

@@ -10,7 +10,10 @@ use std::alloc::Global;
 const CHUNK: usize = 4096;
 
 /// The bytes of a source up to its end, or the first `limit + 1` of them: so a text that is longer than `limit` is told
-/// by its length. At most `limit + 1` bytes of the source are taken, also where it answers an error.
+/// by its length. The source must not have failed.
+///
+/// `Failed` where the source fails, `Memory` where memory runs out. At most `limit + 1` bytes of the source are taken,
+/// also where it answers an error.
 pub fn read_up_to<S: Source>(
     alloc: Global,
     source: &mut S,

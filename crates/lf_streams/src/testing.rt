@@ -1,6 +1,7 @@
 //! Devices for tests: they give and take in pieces, fail at a given call, or never end.
 
-ghost use Rattle.std.specs.Prelude.{◌≡◌, false};
+ghost use Rattle.std.specs.Prelude.{◌≡◌, ◌+◌, ◌-◌, ◌^◌, min, false, Ok, length};
+ghost use Rattle.std.specs.Io.{ReadsAtMost};
 
 use crate::{Failed, Sink, Source};
 
@@ -121,7 +122,11 @@ pub struct Endless {
 impl Source for Endless {
     ghost has_failed = { λ _. false };
 
-    fn read(&mut self, buf: &mut [u8]) -> Result<usize, Failed> {
+    fn read(&mut self, buf: &mut [u8]) -> Result<usize, Failed>
+        ensures bound { ReadsAtMost result buf.new }
+        ensures full { result ≡ Ok (length buf.new) }
+        ensures count { self.new.taken ≡ min (self.old.taken + length buf.new) (2 ^ 64 - 1) }
+    {
         buf.fill(0);
         self.taken = self.taken.saturating_add(buf.len() as u64);
         Ok(buf.len())

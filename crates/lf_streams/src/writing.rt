@@ -5,7 +5,9 @@ ghost use Rattle.std.specs.Io.KnownBytes.{Appends};
 
 use crate::{Failed, Sink};
 
-/// Writes all bytes in order. Where the sink fails, it has taken a part of them from the front.
+/// Writes all bytes in order. The sink must not have failed.
+///
+/// `Failed` where the sink fails: it has taken a part of the bytes then, from the front, and not all.
 pub fn write_all<K: Sink>(sink: &mut K, bytes: &[u8]) -> Result<(), Failed>
     requires { K.has_failed sink.old ≡ false }
     ensures all { OnOk result (Appends (K.written sink.old) (K.written sink.new) bytes.now) }

@@ -5,4 +5,4 @@ pub invariant_of-result-clause-formula_fits : goal.invariant_of-result-clause-fo
 invariant_of-result-clause-formula_fits c =
     formula_of-setting c.args.described.protocol c.settled.result.machine c.args.described.bounds c.settled.result.spec c.args.described.outcome
     c.nodes-nodes.result c.horizon-horizon.result c.in-Ok.formula (search) (search) c.nodes-nodes.ensures.value c.horizon-horizon.ensures.value c.in-Ok.ensures
-    c.nodes-nodes.ensures.limits c.requires.ranges.outcome
+    c.nodes-nodes.ensures.limits c.requires.ranges.limits c.requires.ranges.nodes c.requires.ranges.outcome

@@ -1,0 +1,107 @@
+//! What a node of three_phase does.
+
+ghost use Rattle.std.specs.Prelude.{◌≡◌, ◌<◌};
+ghost use Rattle.lf_protocols.specs.ThreePhaseTable.{three_phase_hears, three_phase_ends, three_phase_joins, three_phase_waits, three_phase_step};
+
+use crate::commit::Turn;
+use crate::{Nodes, Note, Phase, Progress, commit, turns};
+use lf_sim::{Letter, Stepped};
+
+/// What node 0 does with a letter.
+fn hear(mut turn: Turn, from: u32, note: Note) -> Turn
+    ensures { result ≡ three_phase_hears turn.state.phase from note turn }
+{
+    match (turn.state.phase, note) {
+        (Phase::Precommitting { mut acked }, Note::Ack) => {
+            acked.insert(from);
+            turn.state.phase = Phase::Precommitting { acked };
+            turn
+        }
+        _ => commit::poll(turn, from, note),
+    }
+}
+
+/// What node 0 does once it has handled its inbox.
+fn end(nodes: u32, patience: u32, t: u32, turn: Turn) -> Turn
+    ensures { result ≡ three_phase_ends nodes patience t turn.state.phase turn }
+{
+    match turn.state.phase {
+        Phase::Voting { agreed, refused } => {
+            let phase = Phase::Precommitting {
+                acked: Nodes::none(),
+            };
+            let told = commit::announce(nodes, turn, phase, Note::Precommit);
+            let precommitting = commit::enter(phase, t, told);
+            commit::end_poll(nodes, patience, t, agreed, refused, turn, precommitting)
+        }
+        Phase::Precommitting { acked } => {
+            if acked.has_participants(nodes) || turns::is_time_out(patience, t, turn.state.since) {
+                commit::announce(nodes, turn, Phase::Committed, Note::Commit)
+            } else {
+                turn
+            }
+        }
+        _ => turn,
+    }
+}
+
+/// What a participant that votes so does with a letter at step `t`.
+fn join(t: u32, vote: bool, mut turn: Turn, note: Note) -> Turn
+    ensures { result ≡ three_phase_joins t turn.state.phase note vote turn }
+{
+    match (turn.state.phase, note) {
+        (Phase::Prepared, Note::Precommit) => {
+            turn = commit::enter(Phase::Precommitted, t, turn);
+            turn.out.put(0, Note::Ack);
+            turn
+        }
+        (Phase::Precommitted, Note::Commit) => {
+            turn.state.phase = Phase::Committed;
+            turn
+        }
+        _ => commit::participate(t, vote, turn, note),
+    }
+}
+
+/// What a participant does once it has handled its inbox.
+fn wait(patience: u32, t: u32, mut turn: Turn) -> Turn
+    ensures { result ≡ three_phase_waits patience t turn.state.phase turn }
+{
+    if turns::is_time_out(patience, t, turn.state.since) {
+        match turn.state.phase {
+            Phase::Prepared => turn.state.phase = Phase::Aborted,
+            Phase::Precommitted => turn.state.phase = Phase::Committed,
+            _ => {}
+        }
+    }
+    turn
+}
+
+/// What a node does at step `t`.
+pub fn step(
+    nodes: u32,
+    patience: u32,
+    votes: [bool; 8],
+    node: u32,
+    t: u32,
+    state: Progress,
+    inbox: &[Letter<Note>],
+) -> Stepped<Progress, Note>
+    requires { node < 8 }
+    ensures { result ≡ three_phase_step nodes patience votes node t state inbox.now }
+{
+    if node == 0 {
+        let heard = inbox
+            .iter()
+            .fold(commit::open(nodes, t, state), |turn, letter| {
+                hear(turn, letter.from, letter.note)
+            });
+        end(nodes, patience, t, heard)
+    } else {
+        let vote = votes[node as usize];
+        let heard = inbox.iter().fold(turns::idle(state), |turn, letter| {
+            join(t, vote, turn, letter.note)
+        });
+        wait(patience, t, heard)
+    }
+}

@@ -1,0 +1,48 @@
+//! What a node of two_phase does.
+
+ghost use Rattle.std.specs.Prelude.{◌≡◌, ◌<◌};
+ghost use Rattle.lf_protocols.specs.TwoPhaseTable.{two_phase_ends, two_phase_step};
+
+use crate::{Note, Phase, Progress, commit, turns};
+use lf_sim::{Letter, Stepped};
+
+/// What node 0 does once it has handled its inbox.
+fn end(nodes: u32, patience: u32, t: u32, turn: commit::Turn) -> commit::Turn
+    ensures { result ≡ two_phase_ends nodes patience t turn.state.phase turn }
+{
+    match turn.state.phase {
+        Phase::Voting { agreed, refused } => {
+            let done = commit::announce(nodes, turn, Phase::Committed, Note::Commit);
+            commit::end_poll(nodes, patience, t, agreed, refused, turn, done)
+        }
+        _ => turn,
+    }
+}
+
+/// What a node does at step `t`.
+pub fn step(
+    nodes: u32,
+    patience: u32,
+    votes: [bool; 8],
+    node: u32,
+    t: u32,
+    state: Progress,
+    inbox: &[Letter<Note>],
+) -> Stepped<Progress, Note>
+    requires { node < 8 }
+    ensures { result ≡ two_phase_step nodes patience votes node t state inbox.now }
+{
+    if node == 0 {
+        let heard = inbox
+            .iter()
+            .fold(commit::open(nodes, t, state), |turn, letter| {
+                commit::poll(turn, letter.from, letter.note)
+            });
+        end(nodes, patience, t, heard)
+    } else {
+        let vote = votes[node as usize];
+        inbox.iter().fold(turns::idle(state), |turn, letter| {
+            commit::participate(t, vote, turn, letter.note)
+        })
+    }
+}

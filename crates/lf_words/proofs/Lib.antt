@@ -1,0 +1,4 @@
+mod Parts
+mod Plain
+mod Plainly
+mod Reading

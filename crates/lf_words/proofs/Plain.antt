@@ -1,0 +1,81 @@
+-- Plain words are taken as they stand.
+use Rattle.std.proofs.Common.{◌≡◌, ◌==◌, ℕ, List, [], ◌∷◌, Some, None, refl, false, true, codes, option_map, not, sym, Option}
+use Rattle.std.specs.Prelude.{Bool}
+use Rattle.std.specs.Str.{bytes_eq}
+use Rattle.clap.specs.Words.{Row, Text, fault_of, first_of, subcommand_of}
+use Rattle.clap.specs.declared.error.kind.ErrorKind.TheVariants as kind
+use Rattle.clap.specs.Lexer.{long_of, short_of, strip_byte}
+use Rattle.clap.proofs.OnLiterals.{clap_on_literals}
+use Rattle.lf_words.specs.Commands.{program}
+use Rattle.lf_words.specs.Plain.{is_plain}
+
+-- what `clap` looks for in a word
+pub record IsTaken (word : Text) : Type 0 where
+  pub no_end : bytes_eq word (45 ∷ 45 ∷ []) ≡ false
+  pub no_long : long_of word ≡ None
+  pub no_short : short_of word ≡ None
+
+not_stripped : (x : ℕ) (xs : List ℕ) → (x == 45) ≡ false → strip_byte 45 (x ∷ xs) ≡ None
+not_stripped x xs other = rw (other) refl
+
+taken_other : (x : ℕ) (xs : List ℕ) → (x == 45) ≡ false → IsTaken (x ∷ xs)
+taken_other x xs other = record {
+  no_end = rw (other) refl;
+  no_long = rw (not_stripped x xs other) refl;
+  no_short = rw (not_stripped x xs other) refl;
+}
+
+taken_one : (x : ℕ) (b : Bool) → (x == 45) ≡ b → IsTaken (x ∷ [])
+taken_one x false other = taken_other x [] other
+taken_one x true minus = record {
+  no_end = rw (minus) refl;
+  no_long = rw (minus) refl;
+  no_short = rw (minus) refl;
+}
+
+not_minus : (b : Bool) → not b ≡ true → b ≡ false
+not_minus false plain = refl
+not_minus true plain = sym plain
+
+pub is_taken : (word : Text) → is_plain word ≡ true → IsTaken word
+is_taken [] plain = record { no_end = refl; no_long = refl; no_short = refl }
+is_taken (x ∷ []) plain = taken_one x (x == 45) refl
+is_taken (x ∷ y ∷ rest) plain = taken_other x (y ∷ rest) (not_minus (x == 45) plain)
+
+abbrev pub named_file : Text × List Row → Text × Option Text
+named_file p = (p.0, first_of (codes "file") p.1)
+
+abbrev pub named_both : Text × List Row → Text × Option Text × Option Text
+named_both p = (p.0, first_of (codes "file") p.1, first_of (codes "faults") p.1)
+
+pub search_fault : (file : Text) → IsTaken file → fault_of program (codes "search" ∷ file ∷ []) ≡ []
+unfolding clap_on_literals
+search_fault file taken = rw (taken.no_end, taken.no_long, taken.no_short) refl
+
+pub search_names : (file : Text) → IsTaken file
+    → option_map named_file (subcommand_of program (codes "search" ∷ file ∷ [])) ≡ Some (codes "search", Some file)
+unfolding clap_on_literals
+search_names file taken = rw (taken.no_end, taken.no_long, taken.no_short) refl
+
+pub run_fault : (file faults : Text) → IsTaken file → IsTaken faults → fault_of program (codes "run" ∷ file ∷ faults ∷ []) ≡ []
+unfolding clap_on_literals
+run_fault file faults taken taken_too = rw (taken.no_end, taken.no_long, taken.no_short, taken_too.no_end, taken_too.no_long, taken_too.no_short) refl
+
+pub run_names : (file faults : Text) → IsTaken file → IsTaken faults
+    → option_map named_both (subcommand_of program (codes "run" ∷ file ∷ faults ∷ []))
+    ≡ Some (codes "run", Some file, Some faults)
+unfolding clap_on_literals
+run_names file faults taken taken_too = rw (taken.no_end, taken.no_long, taken.no_short, taken_too.no_end, taken_too.no_long, taken_too.no_short) refl
+
+pub help_fault : (words : List Text) → fault_of program (codes "--help" ∷ words) ≡ kind.DisplayHelp ∷ []
+unfolding clap_on_literals
+help_fault words = refl
+
+pub short_help_fault : (words : List Text) → fault_of program (codes "-h" ∷ words) ≡ kind.DisplayHelp ∷ []
+unfolding clap_on_literals
+short_help_fault words = refl
+
+pub unknown_fault : (word : Text) (words : List Text) → IsTaken word → bytes_eq (codes "search") word ≡ false → bytes_eq (codes "run") word ≡ false
+    → fault_of program (word ∷ words) ≡ kind.UnknownArgument ∷ kind.InvalidSubcommand ∷ []
+unfolding clap_on_literals
+unknown_fault word words taken no_search no_run = rw (no_search, no_run, taken.no_end, taken.no_long, taken.no_short) refl

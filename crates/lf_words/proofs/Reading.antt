@@ -1,0 +1,52 @@
+-- From what `clap` answers to what words ask for.
+use Rattle.std.proofs.Common.{◌≡◌, ◌∙◌, ◌⊎◌, ℕ, List, [], ◌∷◌, Option, Some, None, inl, inr, refl, sym, ap, subst, true}
+use Rattle.clap.specs.Words.{App, HasKind, HasMatchesOf, IsAmong, Kinds, Row, Text, fault_of, is_simple, is_simple_and_free, subcommand_of, subcommand_rows_of}
+use Rattle.clap.specs.declared.error.Error.{Error}
+use Rattle.clap.specs.declared.error.kind.ErrorKind.{ErrorKind}
+use Rattle.clap.specs.declared.error.kind.ErrorKind.TheVariants as kind
+use Rattle.clap.specs.declared.parser.matches.ArgMatches.{ArgMatches}
+use Rattle.clap.proofs.OnLiterals.{clap_on_literals}
+use Rattle.lf_words.specs.Commands.{program}
+use Rattle.lf_words.specs.Statuses.{status_of}
+use Rattle.lf_words.specs.Words.{Asks, HasStatus, IsAnswer, IsAskedIn, IsRefusal}
+use Rattle.lf_words.specs.declared.types.Asked.{Asked}
+
+pub program_is_simple : is_simple program ≡ true
+unfolding clap_on_literals
+program_is_simple = refl
+
+pub program_is_free : is_simple_and_free program ≡ true
+unfolding clap_on_literals
+program_is_free = refl
+
+pub has_status : (kinds : Kinds) (k : ErrorKind) (n : ℕ) → IsAmong k kinds → n ≡ status_of k → HasStatus kinds n
+has_status [] k n among status = elim among [ ]
+has_status (x ∷ xs) k n (inl is) status = inl (status ∙ ap status_of is)
+has_status (x ∷ xs) k n (inr later) status = inr (has_status xs k n later status)
+
+pub is_refusal : (words : List Text) (k : ErrorKind) (n : ℕ) → n ≡ status_of k
+    → (k ≡ kind.OutOfMemory) ⊎ IsAmong k (fault_of program words) → IsRefusal words n
+is_refusal words k n status (inl memory) = inl (status ∙ ap status_of memory)
+is_refusal words k n status (inr among) = inr (inl (has_status (fault_of program words) k n among status))
+
+pub fault_is_none : (app : App) (words : List Text) (m : ArgMatches) → app ≡ program
+    → (is_simple_and_free app ≡ true → fault_of app words ≡ []) → fault_of program words ≡ []
+fault_is_none app words m is kinds = subst (λ (a : App). (is_simple_and_free a ≡ true → fault_of a words ≡ []) → fault_of program words ≡ []) (sym is) (λ h. h program_is_free) kinds
+
+pub command_is : (app : App) (words : List Text) (m : ArgMatches) → app ≡ program → HasMatchesOf app words m
+    → subcommand_rows_of m ≡ subcommand_of program words
+command_is app words m is matches = subst (λ (a : App). HasMatchesOf a words m → subcommand_rows_of m ≡ subcommand_of program words) (sym is) (λ h. (h program_is_simple).1) matches
+
+pub kinds_are : (app : App) (words : List Text) (e : Error) → app ≡ program
+    → (is_simple_and_free app ≡ true → HasKind (fault_of app words) e) → HasKind (fault_of program words) e
+kinds_are app words e is kinds = subst (λ (a : App). (is_simple_and_free a ≡ true → HasKind (fault_of a words) e) → HasKind (fault_of program words) e) (sym is) (λ h. h program_is_free) kinds
+
+pub asks : (words : List Text) (command : Option (Text × List Row)) (o : Option Asked) (a : Asked) → fault_of program words ≡ []
+    → command ≡ subcommand_of program words → IsAnswer (IsAskedIn words command) o → o ≡ Some a → Asks words a
+asks words command o a fault is answer some =
+    (fault, subst (λ x. IsAskedIn words x a) is (subst (λ x. IsAnswer (IsAskedIn words command) x) some answer))
+
+pub asks_nothing : (words : List Text) (command : Option (Text × List Row)) (o : Option Asked) → command ≡ subcommand_of program words
+    → IsAnswer (IsAskedIn words command) o → o ≡ None → (a : Asked) → Asks words a → ⊥
+asks_nothing words command o is answer none a asked =
+    subst (λ x. IsAnswer (IsAskedIn words command) x) none answer a (subst (λ x. IsAskedIn words x a) (sym is) asked.1)

@@ -1,0 +1,28 @@
+-- The commands of `leastfault`, as `clap` reads them.
+use Rattle.std.specs.Prelude.{codes, true}
+use Rattle.clap.specs.Words.{App, Rule, new_app, new_rule, with_rule, with_subcommand}
+use Rattle.clap.specs.Simple.{on_top}
+
+-- the argument FILE
+abbrev pub file : Rule
+file = record (new_rule (codes "file")) { required = true; value_names = 1 }
+
+-- search FILE
+abbrev pub search : App
+search = with_rule (new_app (codes "search")) file
+
+-- the argument FAULTS
+abbrev pub faults : Rule
+faults = record (new_rule (codes "faults")) { required = true; value_names = 1 }
+
+-- run FILE FAULTS
+abbrev pub run : App
+run = with_rule (with_rule (new_app (codes "run")) file) faults
+
+-- the words are all after the program's name, there is no command `help`, and one command has to be named
+abbrev pub plain : App
+plain = on_top (λ s. record s { no_binary_name = true; disable_help_subcommand = true; subcommand_required = true })
+    (new_app (codes "leastfault"))
+
+abbrev pub program : App
+program = with_subcommand (with_subcommand plain search.top) run.top

@@ -1,0 +1,26 @@
+-- Words of which nobody has to ask `clap`.
+use Rattle.std.specs.Prelude.{◌==◌, ◌&&◌, ◌||◌, Bool, true, false, not, List, [], ◌∷◌, codes}
+use Rattle.std.specs.Str.{bytes_eq}
+use Rattle.clap.specs.Words.{Text}
+
+-- the word is `-`, which is 45, or doesn't begin with it
+abbrev pub is_plain : Text → Bool
+is_plain [] = true
+is_plain (x ∷ []) = true
+is_plain (x ∷ y ∷ rest) = not (x == 45)
+
+-- search FILE, or run FILE FAULTS
+abbrev pub is_plain_command : List Text → Bool
+is_plain_command (command ∷ file ∷ []) = bytes_eq command (codes "search") && is_plain file
+is_plain_command (command ∷ file ∷ faults ∷ []) = bytes_eq command (codes "run") && (is_plain file && is_plain faults)
+is_plain_command _ = false
+
+-- the first word asks for help
+abbrev pub asks_help : List Text → Bool
+asks_help [] = false
+asks_help (word ∷ words) = bytes_eq word (codes "--help") || bytes_eq word (codes "-h")
+
+-- the first word is no command, and is plain
+abbrev pub is_unknown : List Text → Bool
+is_unknown [] = false
+is_unknown (word ∷ words) = is_plain word && (not (bytes_eq (codes "search") word) && not (bytes_eq (codes "run") word))

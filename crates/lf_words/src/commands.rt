@@ -1,0 +1,80 @@
+//! The program's commands, as `clap` reads and explains them.
+
+ghost use Rattle.std.specs.Prelude.{◌≡◌, IfOk, false};
+ghost use Rattle.clap.specs.Words.{app_of, rule_of};
+ghost use Rattle.clap.specs.declared.builder.command.Command.TheViews.{out-Command};
+ghost use Rattle.lf_words.specs.Commands.{file, program, run, search};
+
+use clap::{Arg, Command};
+use std::alloc::{AllocError, Global};
+
+/// What the program does.
+const ABOUT: &str =
+    "Looks for the fewest faults (lost messages, crashes, pauses) with which a protocol misses the outcome that it promises.\nWith no words it reads a scenario from standard input and searches, as `search -` does.";
+
+/// What the words of the commands stand for, and the statuses that the program exits with.
+const WORDS: &str = "Words:
+  FILE    a file with a scenario in TOML, or - for standard input
+  FAULTS  faults joined by commas, as in 'omit 0>1 @2,crash 2 @3'; the empty word '' for none
+
+Exit status:
+  0  no allowed set of faults misses the outcome, or the run reaches it, or help was asked for
+  1  a set of faults that misses the outcome was found, or the run misses it
+  2  the scenario or the faults were refused, or the words were wrong
+  3  memory was wanting, or a device failed";
+
+/// The command line of the program, with the program's name in help.
+pub(crate) fn program<'a>(alloc: Global) -> Result<Command<'a>, AllocError>
+    ensures { IfOk result (λ c. app_of c ≡ program) }
+{
+    unnamed(alloc)?.bin_name("leastfault")
+}
+
+/// The command line of the program.
+fn unnamed<'a>(alloc: Global) -> Result<Command<'a>, AllocError>
+    ensures { IfOk result (λ c. app_of c ≡ program) }
+{
+    Command::new(alloc, "leastfault")
+        .no_binary_name(true)
+        .disable_help_subcommand(true)
+        .subcommand_required(true)
+        .about(ABOUT)
+        .after_help(WORDS)
+        .subcommand(search(alloc)?)?
+        .subcommand(run(alloc)?)
+}
+
+/// The command `search FILE`.
+fn search<'a>(alloc: Global) -> Result<Command<'a>, AllocError>
+    ensures { IfOk result (λ c. (app_of c ≡ search) × ((out-Command c).has_globals ≡ false)) }
+{
+    Command::new(alloc, "search")
+        .about("Prints the fewest faults that miss the outcome of the scenario FILE, or none")
+        .arg(file(alloc))
+}
+
+/// The command `run FILE FAULTS`.
+fn run<'a>(alloc: Global) -> Result<Command<'a>, AllocError>
+    ensures { IfOk result (λ c. (app_of c ≡ run) × ((out-Command c).has_globals ≡ false)) }
+{
+    let faults = Arg::new(alloc, "faults")
+        .required(true)
+        .value_name("FAULTS")
+        .help(
+            "Faults joined by commas, as in 'omit 0>1 @2,crash 2 @3'; the empty word '' for none",
+        );
+    Command::new(alloc, "run")
+        .about("Runs the scenario FILE once under the faults FAULTS, and prints what happens")
+        .arg(file(alloc))?
+        .arg(faults)
+}
+
+/// The argument FILE.
+fn file<'a>(alloc: Global) -> Arg<'a>
+    ensures { (rule_of result ≡ file) × (result.global ≡ false) }
+{
+    Arg::new(alloc, "file")
+        .required(true)
+        .value_name("FILE")
+        .help("A file with a scenario in TOML, or - for standard input")
+}
