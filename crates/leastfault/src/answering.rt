@@ -44,13 +44,12 @@ pub(crate) fn search_reply(alloc: Global, text: &[u8]) -> Result<Reply, AllocErr
 pub(crate) fn run_reply(alloc: Global, text: &[u8], faults: &str) -> Result<Reply, AllocError>
     ensures { IfOk result (λ reply. IsRunReply faults.now text.now (string_bytes reply.text) reply.status) }
 {
-    let scenario = match read(alloc, text) {
-        Ok(scenario) => scenario,
-        Err(error) => return refused(alloc, error),
-    };
-    match allowed_set(&scenario, faults) {
-        Some(set) => traced(alloc, &scenario, &set),
-        None => no_set(alloc),
+    match read(alloc, text) {
+        Ok(scenario) => match allowed_set(&scenario, faults) {
+            Some(set) => traced(alloc, &scenario, &set),
+            None => no_set(alloc),
+        },
+        Err(error) => refused(alloc, error),
     }
 }
 

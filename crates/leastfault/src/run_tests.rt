@@ -301,9 +301,9 @@ fn a_run_whose_sink_fails_at_any_call_has_written_a_part(rt: HostRuntime) -> Res
         let answered = run_bytes(rt.alloc(), &mut source, "", &mut sink);
         assert!(rt; !source.failed());
         assert_eq!(rt; sink.failed(), answered.is_err());
-        assert_eq!(rt;
-            out.as_slice(),
-            &UNHARMED.as_bytes()[..calls],
+        assert_eq!(rt; out.len(), calls);
+        assert!(rt;
+            UNHARMED.as_bytes().starts_with(out.as_slice()),
             "after {calls} calls"
         );
         if answered == Ok(0) {

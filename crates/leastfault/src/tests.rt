@@ -290,20 +290,14 @@ fn the_longest_text_and_one_byte_more(rt: HostRuntime) -> Result<(), Fail> {
     let alloc = rt.alloc();
     let mut text = Vec::new(alloc);
     text.extend_from_slice(ONCE.as_bytes())?;
-    while text.len() < LONGEST {
-        text.push(b'#')?;
-    }
+    text.resize(LONGEST, b'#')?;
     let (out, status) = searched(alloc, text.as_slice());
-    assert_eq!(rt;
-        (out.as_slice(), status),
-        (b"least 1\nomit 0>1 @1\n".as_slice(), Ok(1))
-    );
+    assert_eq!(rt; out.as_slice(), b"least 1\nomit 0>1 @1\n".as_slice());
+    assert_eq!(rt; status, Ok(1));
     text.push(b'#')?;
     let (out, status) = searched(alloc, text.as_slice());
-    assert_eq!(rt;
-        (out.as_slice(), status),
-        (b"refused 1\n".as_slice(), Ok(2))
-    );
+    assert_eq!(rt; out.as_slice(), b"refused 1\n".as_slice());
+    assert_eq!(rt; status, Ok(2));
     Ok(())
 }
 
@@ -388,7 +382,8 @@ fn a_sink_that_fails_at_any_call_has_a_part_of_the_reply(rt: HostRuntime) -> Res
         let answered = search_bytes(rt.alloc(), &mut source, &mut sink);
         assert!(rt; !source.failed());
         assert_eq!(rt; sink.failed(), answered.is_err());
-        assert_eq!(rt; out.as_slice(), &reply[..calls], "after {calls} calls");
+        assert_eq!(rt; out.len(), calls);
+        assert!(rt; reply.starts_with(out.as_slice()), "after {calls} calls");
         match answered {
             Ok(searched) => {
                 assert_eq!(rt; searched.status, 1);

@@ -9,13 +9,6 @@ use Rattle.leastfault.specs.Reports.{no_set_line, refusal_of, run_status}
 use Rattle.leastfault.proofs.ReplyLemmas.{run_of_set, run_without_set}
 use Rattle.leastfault.proofs.answering.run_reply.Goals as goal
 
-pub returns-in-Err : goal.returns-in-Err
-returns-in-Err c =
-    IfOk-weaker c.refused.result (λ reply. (c.in-Err.error ≢ ScenarioError.Memory) × (string_bytes reply.text ≡ refusal_of c.in-Err.error) × (reply.status ≡ 2))
-    (λ reply. IsRunReply c.args.faults.now c.args.text.now (string_bytes reply.text) reply.status)
-    (λ reply told. inl (c.in-Err.error, c.in-Err.ensures.reading told.0, told.1, told.2))
-    c.refused.ensures
-
 pub returns-in-Some : goal.returns-in-Some
 returns-in-Some c =
     IfOk-weaker c.traced.result
@@ -25,10 +18,17 @@ returns-in-Some c =
     ((c.allowed_set.ensures c.in-Some.set).0 c.in-Some.is) told.0 told.1)
     c.traced.ensures
 
-pub returns : goal.returns
-returns c =
+pub returns-in-Ok : goal.returns-in-Ok
+returns-in-Ok c =
     IfOk-weaker c.no_set.result (λ reply. (string_bytes reply.text ≡ no_set_line) × (reply.status ≡ 2))
     (λ reply. IsRunReply c.args.faults.now c.args.text.now (string_bytes reply.text) reply.status)
     (λ reply told. run_without_set c.args.faults.now c.args.text.now (string_bytes reply.text) reply.status c.in-Ok.scenario c.allowed_set.result
     c.in-Ok.ensures.reading c.allowed_set.ensures c.in-None.is told.0 told.1)
     c.no_set.ensures
+
+pub returns : goal.returns
+returns c =
+    IfOk-weaker c.refused.result (λ reply. (c.in-Err.error ≢ ScenarioError.Memory) × (string_bytes reply.text ≡ refusal_of c.in-Err.error) × (reply.status ≡ 2))
+    (λ reply. IsRunReply c.args.faults.now c.args.text.now (string_bytes reply.text) reply.status)
+    (λ reply told. inl (c.in-Err.error, c.in-Err.ensures.reading told.0, told.1, told.2))
+    c.refused.ensures
