@@ -86,11 +86,7 @@ fn done(rt: &HostRuntime, asked: &Asked) -> Result<u8, BytesFault> {
 }
 
 /// Does what is asked with the scenario that a reader has, and writes the reply to standard output.
-fn replied<R: Read + Drop>(
-    rt: &HostRuntime,
-    asked: &Asked,
-    reader: R,
-) -> Result<u8, BytesFault> {
+fn replied<R: Read + Drop>(rt: &HostRuntime, asked: &Asked, reader: R) -> Result<u8, BytesFault> {
     let mut source = FromRead::new(reader);
     let mut sink = ToWrite::new(rt.stdout());
     match asked {
