@@ -2,7 +2,7 @@
 use Rattle.std.proofs.Common.{◌≡◌, ℕ, ◌+◌, ◌<◌, ◌≤◌, Bool, true, false, List, [], ◌∷◌, ◌++◌, length, take, slice_set, get_or, refl, sym, ap, ◌∙◌, subst, arith, inl, inr, eq-eqb, nat_eq, nat_le}
 use Rattle.std.specs.Prelude.{◌||◌, ◌&&◌, not, ◌⊎◌, slice_index, slice_index_or}
 use Rattle.std.specs.List.{list_any}
-use Rattle.std.proofs.lemmas.Bool.{false_from_ne_true, false≢true, and_parts, leb-true, le-leb}
+use Rattle.std.proofs.lemmas.Bool.{false_from_ne_true, false≢true, and_parts, eqb-true, leb-true, le-leb}
 use Rattle.std.proofs.lemmas.Bool.Decides.{eqb_tells}
 use Rattle.std.proofs.lemmas.List.{take_more, append-nil, take-append-drop, get_or-set_other, get_or-set_same}
 use Rattle.std.proofs.lemmas.List.Folds.{list_any-append}
@@ -11,8 +11,8 @@ use Rattle.std.proofs.Math.ListN.{drop_of_length-le}
 use Rattle.lf_faults.specs.declared.fault.Parts.{Parts}
 use Rattle.lf_faults.specs.declared.fault.Parts.TheVariants.{Omit, Crash, Pause}
 use Rattle.lf_faults.specs.Allowed.{is_pause_of}
-use Rattle.lf_faults.specs.Faults.{IsFault, omits, crashes, pauses, wakes, is_crashed, is_paused, is_woken}
-use Rattle.lf_sim.specs.Effects.{place, AreLost, AreCrashes, ArePausing}
+use Rattle.lf_faults.specs.Faults.{IsFault, omits, crashes, pauses, wakes, is_crashed, is_omitted, is_paused, is_woken}
+use Rattle.lf_sim.specs.Effects.{link_place, loses, AreLosing, AreCrashes, ArePausing}
 use Rattle.lf_sim.proofs.FaultTests.{omits-is}
 use Rattle.lf_sim.proofs.ListsLemmas.{found-in, passed-in}
 
@@ -39,10 +39,10 @@ one-false : {X : Type 0} (p : X → Bool) (xs : List X) (i : ℕ) (x : X) → x 
 one-false p xs i x is h e = one-more p xs i x is h ∙ ap (λ b. list_any p (take i xs) || b) e ∙ or-false (list_any p (take i xs))
 
 -- faults of another kind
-pub omits-not : (n m t : ℕ) (f : Parts) → ((a b c : ℕ) → f ≡ Omit a b c → ⊥) → omits n m t f ≡ false
-omits-not n m t (Omit a b c) h = absurd (h a b c refl)
-omits-not n m t (Crash a c) h = refl
-omits-not n m t (Pause a c) h = refl
+pub loses-not : (n m : ℕ) (f : Parts) → ((a b c : ℕ) → f ≡ Omit a b c → ⊥) → loses n m f ≡ false
+loses-not n m (Omit a b c) h = absurd (h a b c refl)
+loses-not n m (Crash a c) h = refl
+loses-not n m (Pause a c) h = refl
 
 pub crashes-not : (n t : ℕ) (f : Parts) → ((a c : ℕ) → f ≡ Crash a c → ⊥) → crashes n t f ≡ false
 crashes-not n t (Omit a b c) h = refl
@@ -54,36 +54,35 @@ is_pause_of-not n (Omit a b c) h = refl
 is_pause_of-not n (Crash a c) h = refl
 is_pause_of-not n (Pause a c) h = absurd (h a c refl)
 
--- the place of a fault's slot
-abbrev place_of : Parts → ℕ
-place_of (Omit a b c) = place a b c
-place_of (Crash a c) = 0
-place_of (Pause a c) = 0
+-- one that loses a note of a link
+loses-omits : (n m t : ℕ) (f : Parts) → omits n m t f ≡ true → loses n m f ≡ true
+loses-omits n m t f h = rw (omits-is n m t f h, eq-eqb n n refl, eq-eqb m m refl) refl
 
 module _ (xs : List Parts) (i : ℕ) (x : Parts) (is : x ≡ get_or xs i x) (h : i < length xs) where
-  pub lost_pass : (lost : List Bool) → ((n m t : ℕ) → omits n m t x ≡ false) → AreLost (take i xs) lost → AreLost (take (i + 1) xs) lost
-  lost_pass lost none before n m t a b c d = before n m t a b c d ∙ sym (one-false (omits n m t) xs i x is h (none n m t))
+  pub losing_pass : (losing : List Bool) → ((n m : ℕ) → loses n m x ≡ false) → AreLosing (take i xs) losing → AreLosing (take (i + 1) xs) losing
+  losing_pass losing none before n m a b = before n m a b ∙ sym (one-false (loses n m) xs i x is h (none n m))
 
-  pub lost_more : (lost : List Bool) (from to step : ℕ) → x ≡ Omit from to step → IsFault (Omit from to step) → length lost ≡ 3072
-      → AreLost (take i xs) lost → AreLost (take (i + 1) xs) (slice_set lost (place from to step) true)
-  lost_more lost from to step made fault long before n m t a b c d =
+  pub losing_more : (losing : List Bool) (from to step : ℕ) → x ≡ Omit from to step → IsFault (Omit from to step) → length losing ≡ 64
+      → AreLosing (take i xs) losing → AreLosing (take (i + 1) xs) (slice_set losing (link_place from to) true)
+  losing_more losing from to step made fault long before n m a b =
       let sender : from < 8 = fault.0 in
       let receiver : to < 8 = fault.1 in
-      let first : 1 ≤ step = fault.3 in
-      let last : step ≤ 48 = fault.4 in
-      let inside : place from to step < length lost = omega arith in
-      elim (eqb_tells (place n m t) (place from to step)) [
+      let inside : link_place from to < length losing = omega (arith, sender, receiver, long) in
+      elim (eqb_tells (link_place n m) (link_place from to)) [
         | inl same ↦
-            let e : place n m t ≡ place from to step = same.1 in
-            let e₁ : n ≡ from = omega (arith, e, a, b, c, d, sender, receiver, first, last) in
-            let e₂ : m ≡ to = omega (arith, e, a, b, c, d, sender, receiver, first, last) in
-            let e₃ : t ≡ step = omega (arith, e, a, b, c, d, sender, receiver, first, last) in
-            let passes : omits n m t x ≡ true = rw (made, eq-eqb n from e₁, eq-eqb m to e₂, eq-eqb t step e₃) refl in
-            ap (λ k. slice_index_or (slice_set lost (place from to step) true) k false) e ∙ get_or-set_same lost (place from to step) true false inside
-            ∙ sym (one-true (omits n m t) xs i x is h passes)
+            let e : link_place n m ≡ link_place from to = same.1 in
+            let e₁ : n ≡ from = omega (arith, e, a, b, sender, receiver) in
+            let e₂ : m ≡ to = omega (arith, e, a, b, sender, receiver) in
+            let passes : loses n m x ≡ true = rw (made, eq-eqb n from e₁, eq-eqb m to e₂) refl in
+            ap (λ k. slice_index_or (slice_set losing (link_place from to) true) k false) e ∙ get_or-set_same losing (link_place from to) true false inside
+            ∙ sym (one-true (loses n m) xs i x is h passes)
         | inr other ↦
-            let fails : omits n m t x ≡ false = false_from_ne_true (omits n m t x) (λ k. other.1 (ap place_of (sym (omits-is n m t x k) ∙ made))) in
-            get_or-set_other lost (place from to step) (place n m t) true false other.1 ∙ before n m t a b c d ∙ sym (one-false (omits n m t) xs i x is h fails)
+            let fails : loses n m x ≡ false = false_from_ne_true (loses n m x) (λ k. other.1 (
+              let parts = and_parts (nat_eq n from) (nat_eq m to) (ap (loses n m) (sym made) ∙ k) in
+              let one : n ≡ from = eqb-true n from parts.0 in
+              let two : m ≡ to = eqb-true m to parts.1 in
+              rw (one, two) refl)) in
+            get_or-set_other losing (link_place from to) (link_place n m) true false other.1 ∙ before n m a b ∙ sym (one-false (loses n m) xs i x is h fails)
       ]
 
   pub crashes_pass : (steps : List ℕ) → ((n t : ℕ) → crashes n t x ≡ false) → AreCrashes (take i xs) steps → AreCrashes (take (i + 1) xs) steps
@@ -138,6 +137,12 @@ module _ (xs : List Parts) (i : ℕ) (x : Parts) (is : x ≡ get_or xs i x) (h :
         | inr other ↦
             get_or-set_other pausing node n true false other.1 ∙ before n a ∙ sym (one-false (is_pause_of n) xs i x is h (rw (made, other.0) refl))
       ]
+
+-- a link that loses no note loses none at any step
+pub omitted-never : (faults : List Parts) (n m t : ℕ) → list_any (loses n m) faults ≡ false → is_omitted faults n m t ≡ false
+omitted-never faults n m t none = false_from_ne_true (is_omitted faults n m t) (λ h.
+    let found = found-in (omits n m t) faults h in
+    false≢true (sym none ∙ passed-in (loses n m) faults found.0 found.1 (loses-omits n m t found.0 found.2)))
 
 -- a node with no pause is never paused, and never wakes
 is_pause_of-pauses : (length n t : ℕ) (f : Parts) → pauses length n t f ≡ true → is_pause_of n f ≡ true

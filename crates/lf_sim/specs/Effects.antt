@@ -1,17 +1,25 @@
 -- What a set of faults does, as tables.
-use Rattle.std.specs.Prelude.{◌≡◌, ℕ, ◌+◌, ◌-◌, ◌*◌, ◌<◌, ◌≤◌, Bool, false, nat_le, List, slice_index, slice_index_or}
+use Rattle.std.specs.Prelude.{◌≡◌, ℕ, ◌+◌, ◌*◌, ◌<◌, ◌≤◌, Bool, false, ◌==◌, ◌&&◌, nat_le, List, slice_index, slice_index_or}
 use Rattle.std.specs.List.{list_any}
 use Rattle.lf_faults.specs.declared.fault.Parts.{Parts}
-use Rattle.lf_faults.specs.Faults.{is_omitted, is_crashed}
+use Rattle.lf_faults.specs.declared.fault.Parts.TheVariants.{Omit, Crash, Pause}
+use Rattle.lf_faults.specs.Faults.{is_crashed}
 use Rattle.lf_faults.specs.Allowed.{is_pause_of}
 
--- the place of a slot
-abbrev pub place : ℕ → ℕ → ℕ → ℕ
-place n m t = (n * 8 + m) * 48 + t - 1
+-- the place of a link
+abbrev pub link_place : ℕ → ℕ → ℕ
+link_place n m = n * 8 + m
 
--- by place, whether the slot's note is lost
-abbrev pub AreLost : List Parts → List Bool → Type 0
-AreLost faults lost = (n m t : ℕ) → n < 8 → m < 8 → 1 ≤ t → t ≤ 48 → slice_index_or lost (place n m t) false ≡ is_omitted faults n m t
+-- the fault loses a note from n to m, at whichever step
+abbrev pub loses : ℕ → ℕ → Parts → Bool
+loses n m (Omit from to step) = (n == from) && (m == to)
+loses n m (Crash node step) = false
+loses n m (Pause node step) = false
+
+-- by link, whether any of its notes is lost
+abbrev pub AreLosing : List Parts → List Bool → Type 0
+AreLosing faults losing =
+    (n m : ℕ) → n < 8 → m < 8 → slice_index_or losing (link_place n m) false ≡ list_any (loses n m) faults
 
 -- by node, the step from which it has crashed
 abbrev pub AreCrashes : List Parts → List ℕ → Type 0

@@ -2,12 +2,12 @@
 
 ghost use Rattle.std.specs.Prelude.{◌≡◌, ◌<◌, ◌≤◌, ◌&&◌, not, length};
 ghost use Rattle.lf_faults.specs.Faults.{is_omitted, is_crashed, is_paused, is_woken};
-ghost use Rattle.lf_sim.specs.Effects.{AreLost, AreCrashes, ArePausing};
+ghost use Rattle.lf_sim.specs.Effects.{AreLosing, AreCrashes, ArePausing};
 
 use lf_faults::{FaultSet, Parts};
 
-/// The places for slots: 8 senders, 8 receivers and 48 steps.
-const SLOTS: usize = 3072;
+/// The places for links: 8 senders and 8 receivers.
+const LINKS: usize = 64;
 
 /// A step after all others.
 const NEVER: u32 = 49;
@@ -16,13 +16,13 @@ const NEVER: u32 = 49;
 #[derive(Clone, Copy, Drop)]
 pub(crate) struct Effects {
     pub(crate) set: FaultSet,
-    // By sender, receiver and step, whether the note is lost.
-    lost: [bool; SLOTS],
+    // By sender and receiver, whether a note between them is ever lost.
+    losing: [bool; LINKS],
     // By node, the step from which it has crashed.
     crashes: [u32; 8],
     // By node, whether it is ever paused.
     pausing: [bool; 8],
-    ghost losses: { AreLost set lost },
+    ghost losses: { AreLosing set losing },
     ghost ends: { AreCrashes set crashes },
     ghost pauses: { ArePausing set pausing },
 }
@@ -34,7 +34,7 @@ impl Effects {
     {
         Effects {
             set: *set,
-            lost: losses(set),
+            losing: losing(set),
             crashes: crash_steps(set),
             pausing: pausing(set),
         }
@@ -44,11 +44,13 @@ impl Effects {
     pub(crate) fn omits(&self, from: u32, to: u32, step: u32) -> bool
         requires from { from < 8 }
         requires to { to < 8 }
-        requires first { 1 ≤ step }
-        requires last { step ≤ 48 }
         ensures { result ≡ is_omitted self.now.set from to step }
     {
-        self.lost[((from * 8 + to) * 48 + step - 1) as usize]
+        if self.losing[(from * 8 + to) as usize] {
+            self.set.omits(from, to, step)
+        } else {
+            false
+        }
     }
 
     /// Whether a node is up at a step, where a pause takes `length` steps.
@@ -81,17 +83,17 @@ impl Effects {
     }
 }
 
-/// By slot, whether the set loses its note.
-fn losses(set: &FaultSet) -> [bool; SLOTS]
-    ensures { AreLost set.now result }
+/// By link, whether the set ever loses a note of it.
+fn losing(set: &FaultSet) -> [bool; LINKS]
+    ensures { AreLosing set.now result }
 {
-    let mut lost = [false; SLOTS];
+    let mut losing = [false; LINKS];
     for fault in set.items() {
-        if let Parts::Omit { from, to, step } = fault.parts() {
-            lost[((from * 8 + to) * 48 + step - 1) as usize] = true;
+        if let Parts::Omit { from, to, .. } = fault.parts() {
+            losing[(from * 8 + to) as usize] = true;
         }
     }
-    lost
+    losing
 }
 
 /// By node, the step from which the set crashes it.
