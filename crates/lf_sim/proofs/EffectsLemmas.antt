@@ -78,10 +78,10 @@ module _ (xs : List Parts) (i : ℕ) (x : Parts) (is : x ≡ get_or xs i x) (h :
             ∙ sym (one-true (loses n m) xs i x is h passes)
         | inr other ↦
             let fails : loses n m x ≡ false = false_from_ne_true (loses n m x) (λ k. other.1 (
-              let parts = and_parts (nat_eq n from) (nat_eq m to) (ap (loses n m) (sym made) ∙ k) in
-              let one : n ≡ from = eqb-true n from parts.0 in
-              let two : m ≡ to = eqb-true m to parts.1 in
-              rw (one, two) refl)) in
+            let parts = and_parts (nat_eq n from) (nat_eq m to) (ap (loses n m) (sym made) ∙ k) in
+            let one : n ≡ from = eqb-true n from parts.0 in
+            let two : m ≡ to = eqb-true m to parts.1 in
+            rw (one, two) refl)) in
             get_or-set_other losing (link_place from to) (link_place n m) true false other.1 ∙ before n m a b ∙ sym (one-false (loses n m) xs i x is h fails)
       ]
 
