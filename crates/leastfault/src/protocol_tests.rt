@@ -43,13 +43,14 @@ fn runs(
 fn the_last_vote_and_the_time_out_at_one_step(rt: HostRuntime) -> Result<(), Fail> {
     let text =
         "nodes = 2\nhorizon = 6\nlast_omission = 0\ncrashes = 0\nbudget = 0\nprotocol = \"three_phase\"\npatience = 2\noutcome = \"agreement\"\n";
-    for (faults, reply, status) in [(
+    runs(
+        &rt,
+        rt.alloc(),
+        text,
         "",
         "step 1\n0 voting\n1 idle\n0>1 prepare 2\nstep 2\n0 voting\n1 prepared\n1>0 yes 3\nstep 3\n0 precommitting\n1 prepared\n0>1 precommit 4\nstep 4\n0 precommitting\n1 precommitted\n1>0 ack 5\nstep 5\n0 committed\n1 precommitted\n0>1 commit 6\nstep 6\n0 committed\n1 committed\nreaches\n",
         0,
-    )] {
-        runs(&rt, rt.alloc(), text, faults, reply, status)?;
-    }
+    )?;
     Ok(())
 }
 
@@ -57,13 +58,14 @@ fn the_last_vote_and_the_time_out_at_one_step(rt: HostRuntime) -> Result<(), Fai
 fn the_last_vote_commits_at_the_time_out(rt: HostRuntime) -> Result<(), Fail> {
     let text =
         "nodes = 2\nhorizon = 4\nlast_omission = 0\ncrashes = 0\nbudget = 0\nprotocol = \"two_phase\"\npatience = 2\noutcome = \"agreement\"\n";
-    for (faults, reply, status) in [(
+    runs(
+        &rt,
+        rt.alloc(),
+        text,
         "",
         "step 1\n0 voting\n1 idle\n0>1 prepare 2\nstep 2\n0 voting\n1 prepared\n1>0 yes 3\nstep 3\n0 committed\n1 prepared\n0>1 commit 4\nstep 4\n0 committed\n1 committed\nreaches\n",
         0,
-    )] {
-        runs(&rt, rt.alloc(), text, faults, reply, status)?;
-    }
+    )?;
     Ok(())
 }
 
@@ -71,13 +73,14 @@ fn the_last_vote_commits_at_the_time_out(rt: HostRuntime) -> Result<(), Fail> {
 fn prepare_and_abort_in_one_inbox(rt: HostRuntime) -> Result<(), Fail> {
     let text =
         "nodes = 2\nhorizon = 5\nlast_omission = 0\ncrashes = 0\nbudget = 0\nprotocol = \"two_phase\"\npatience = 1\noutcome = \"agreement\"\nspread = 1\nseed = \"0505050505050505050505050505050505050505050505050505050505050505\"\n";
-    for (faults, reply, status) in [(
+    runs(
+        &rt,
+        rt.alloc(),
+        text,
         "",
         "step 1\n0 voting\n1 idle\n0>1 prepare 3\nstep 2\n0 aborted\n1 idle\n0>1 abort 3\nstep 3\n0 aborted\n1 aborted\n1>0 yes 4\nstep 4\n0 aborted\n1 aborted\nstep 5\n0 aborted\n1 aborted\nreaches\n",
         0,
-    )] {
-        runs(&rt, rt.alloc(), text, faults, reply, status)?;
-    }
+    )?;
     Ok(())
 }
 
@@ -85,13 +88,14 @@ fn prepare_and_abort_in_one_inbox(rt: HostRuntime) -> Result<(), Fail> {
 fn a_paused_client_never_writes(rt: HostRuntime) -> Result<(), Fail> {
     let text =
         "nodes = 3\nhorizon = 3\nlast_omission = 0\ncrashes = 0\nbudget = 1\npauses = 1\nprotocol = \"primary_backup\"\npatience = 2\noutcome = \"one_primary\"\n";
-    for (faults, reply, status) in [(
+    runs(
+        &rt,
+        rt.alloc(),
+        text,
         "pause 2 @1",
         "step 1\n0 empty not_done primary unclaimed\n1 empty not_done backup unclaimed\n2 down\n0>1 beat 2\nstep 2\n0 empty not_done primary unclaimed\n1 empty not_done backup unclaimed\n2 empty not_done backup unclaimed\n0>1 beat 3\nstep 3\n0 empty not_done primary unclaimed\n1 empty not_done backup unclaimed\n2 empty not_done backup unclaimed\n0>1 beat lost\nreaches\n",
         0,
-    )] {
-        runs(&rt, rt.alloc(), text, faults, reply, status)?;
-    }
+    )?;
     Ok(())
 }
 
@@ -99,13 +103,14 @@ fn a_paused_client_never_writes(rt: HostRuntime) -> Result<(), Fail> {
 fn waking_starts_the_wait_anew(rt: HostRuntime) -> Result<(), Fail> {
     let text =
         "nodes = 2\nhorizon = 6\nlast_omission = 2\ncrashes = 0\nbudget = 2\npauses = 1\npause_length = 2\nprotocol = \"three_phase\"\npatience = 2\noutcome = \"unblocked\"\n";
-    for (faults, reply, status) in [(
+    runs(
+        &rt,
+        rt.alloc(),
+        text,
         "pause 1 @3",
         "step 1\n0 voting\n1 idle\n0>1 prepare 2\nstep 2\n0 voting\n1 prepared\n1>0 yes 3\nstep 3\n0 precommitting\n1 down\n0>1 precommit lost\nstep 4\n0 precommitting\n1 down\nstep 5\n0 committed\n1 prepared\n0>1 commit 6\nstep 6\n0 committed\n1 committed\nreaches\n",
         0,
-    )] {
-        runs(&rt, rt.alloc(), text, faults, reply, status)?;
-    }
+    )?;
     Ok(())
 }
 
@@ -113,20 +118,22 @@ fn waking_starts_the_wait_anew(rt: HostRuntime) -> Result<(), Fail> {
 fn a_write_its_copy_and_a_claim(rt: HostRuntime) -> Result<(), Fail> {
     let text =
         "nodes = 3\nhorizon = 6\nlast_omission = 2\ncrashes = 0\nbudget = 2\nprotocol = \"primary_backup\"\npatience = 3\noutcome = \"one_primary\"\n";
-    for (faults, reply, status) in [
-        (
-            "",
-            "step 1\n0 empty not_done primary unclaimed\n1 empty not_done backup unclaimed\n2 empty not_done backup unclaimed\n0>1 beat 2\n2>0 write 2\nstep 2\n0 holds not_done primary unclaimed\n1 empty not_done backup unclaimed\n2 empty not_done backup unclaimed\n0>1 repl 3\nstep 3\n0 holds not_done primary unclaimed\n1 holds not_done backup unclaimed\n2 empty not_done backup unclaimed\n0>1 beat 4\n1>0 ack 4\nstep 4\n0 holds not_done primary unclaimed\n1 holds not_done backup unclaimed\n2 empty not_done backup unclaimed\n0>1 beat 5\n0>2 done 5\nstep 5\n0 holds not_done primary unclaimed\n1 holds not_done backup unclaimed\n2 empty done backup unclaimed\n0>1 beat 6\nstep 6\n0 holds not_done primary unclaimed\n1 holds not_done backup unclaimed\n2 empty done backup unclaimed\n0>1 beat lost\nreaches\n",
-            0,
-        ),
-        (
-            "omit 0>1 @1,omit 0>1 @2",
-            "step 1\n0 empty not_done primary unclaimed\n1 empty not_done backup unclaimed\n2 empty not_done backup unclaimed\n0>1 beat omitted\n2>0 write 2\nstep 2\n0 holds not_done primary unclaimed\n1 empty not_done backup unclaimed\n2 empty not_done backup unclaimed\n0>1 repl omitted\nstep 3\n0 holds not_done primary unclaimed\n1 empty not_done primary unclaimed\n2 empty not_done backup unclaimed\n0>1 beat 4\n1>2 claim 4\nstep 4\n0 holds not_done primary unclaimed\n1 empty not_done primary unclaimed\n2 empty not_done backup claimed\n0>1 beat 5\nstep 5\n0 holds not_done primary unclaimed\n1 empty not_done primary unclaimed\n2 empty not_done backup claimed\n0>1 beat 6\nstep 6\n0 holds not_done primary unclaimed\n1 empty not_done primary unclaimed\n2 empty not_done backup claimed\n0>1 beat lost\nmisses\n",
-            1,
-        ),
-    ] {
-        runs(&rt, rt.alloc(), text, faults, reply, status)?;
-    }
+    runs(
+        &rt,
+        rt.alloc(),
+        text,
+        "",
+        "step 1\n0 empty not_done primary unclaimed\n1 empty not_done backup unclaimed\n2 empty not_done backup unclaimed\n0>1 beat 2\n2>0 write 2\nstep 2\n0 holds not_done primary unclaimed\n1 empty not_done backup unclaimed\n2 empty not_done backup unclaimed\n0>1 repl 3\nstep 3\n0 holds not_done primary unclaimed\n1 holds not_done backup unclaimed\n2 empty not_done backup unclaimed\n0>1 beat 4\n1>0 ack 4\nstep 4\n0 holds not_done primary unclaimed\n1 holds not_done backup unclaimed\n2 empty not_done backup unclaimed\n0>1 beat 5\n0>2 done 5\nstep 5\n0 holds not_done primary unclaimed\n1 holds not_done backup unclaimed\n2 empty done backup unclaimed\n0>1 beat 6\nstep 6\n0 holds not_done primary unclaimed\n1 holds not_done backup unclaimed\n2 empty done backup unclaimed\n0>1 beat lost\nreaches\n",
+        0,
+    )?;
+    runs(
+        &rt,
+        rt.alloc(),
+        text,
+        "omit 0>1 @1,omit 0>1 @2",
+        "step 1\n0 empty not_done primary unclaimed\n1 empty not_done backup unclaimed\n2 empty not_done backup unclaimed\n0>1 beat omitted\n2>0 write 2\nstep 2\n0 holds not_done primary unclaimed\n1 empty not_done backup unclaimed\n2 empty not_done backup unclaimed\n0>1 repl omitted\nstep 3\n0 holds not_done primary unclaimed\n1 empty not_done primary unclaimed\n2 empty not_done backup unclaimed\n0>1 beat 4\n1>2 claim 4\nstep 4\n0 holds not_done primary unclaimed\n1 empty not_done primary unclaimed\n2 empty not_done backup claimed\n0>1 beat 5\nstep 5\n0 holds not_done primary unclaimed\n1 empty not_done primary unclaimed\n2 empty not_done backup claimed\n0>1 beat 6\nstep 6\n0 holds not_done primary unclaimed\n1 empty not_done primary unclaimed\n2 empty not_done backup claimed\n0>1 beat lost\nmisses\n",
+        1,
+    )?;
     Ok(())
 }
 
@@ -134,20 +141,22 @@ fn a_write_its_copy_and_a_claim(rt: HostRuntime) -> Result<(), Fail> {
 fn two_phase_commits_and_blocks(rt: HostRuntime) -> Result<(), Fail> {
     let text =
         "nodes = 2\nhorizon = 4\nlast_omission = 0\ncrashes = 1\nbudget = 1\nprotocol = \"two_phase\"\npatience = 3\nvotes = [true]\noutcome = \"unblocked\"\n";
-    for (faults, reply, status) in [
-        (
-            "",
-            "step 1\n0 voting\n1 idle\n0>1 prepare 2\nstep 2\n0 voting\n1 prepared\n1>0 yes 3\nstep 3\n0 committed\n1 prepared\n0>1 commit 4\nstep 4\n0 committed\n1 committed\nreaches\n",
-            0,
-        ),
-        (
-            "crash 0 @3",
-            "step 1\n0 voting\n1 idle\n0>1 prepare 2\nstep 2\n0 voting\n1 prepared\n1>0 yes lost\nstep 3\n0 down\n1 prepared\nstep 4\n0 down\n1 prepared\nmisses\n",
-            1,
-        ),
-    ] {
-        runs(&rt, rt.alloc(), text, faults, reply, status)?;
-    }
+    runs(
+        &rt,
+        rt.alloc(),
+        text,
+        "",
+        "step 1\n0 voting\n1 idle\n0>1 prepare 2\nstep 2\n0 voting\n1 prepared\n1>0 yes 3\nstep 3\n0 committed\n1 prepared\n0>1 commit 4\nstep 4\n0 committed\n1 committed\nreaches\n",
+        0,
+    )?;
+    runs(
+        &rt,
+        rt.alloc(),
+        text,
+        "crash 0 @3",
+        "step 1\n0 voting\n1 idle\n0>1 prepare 2\nstep 2\n0 voting\n1 prepared\n1>0 yes lost\nstep 3\n0 down\n1 prepared\nstep 4\n0 down\n1 prepared\nmisses\n",
+        1,
+    )?;
     Ok(())
 }
 
@@ -155,13 +164,14 @@ fn two_phase_commits_and_blocks(rt: HostRuntime) -> Result<(), Fail> {
 fn a_no_aborts(rt: HostRuntime) -> Result<(), Fail> {
     let text =
         "nodes = 2\nhorizon = 4\nlast_omission = 0\ncrashes = 1\nbudget = 1\nprotocol = \"two_phase\"\npatience = 3\nvotes = [false]\noutcome = \"unblocked\"\n";
-    for (faults, reply, status) in [(
+    runs(
+        &rt,
+        rt.alloc(),
+        text,
         "",
         "step 1\n0 voting\n1 idle\n0>1 prepare 2\nstep 2\n0 voting\n1 aborted\n1>0 no 3\nstep 3\n0 aborted\n1 aborted\n0>1 abort 4\nstep 4\n0 aborted\n1 aborted\nreaches\n",
         0,
-    )] {
-        runs(&rt, rt.alloc(), text, faults, reply, status)?;
-    }
+    )?;
     Ok(())
 }
 
@@ -169,13 +179,14 @@ fn a_no_aborts(rt: HostRuntime) -> Result<(), Fail> {
 fn a_coordinator_that_wakes_waits_anew(rt: HostRuntime) -> Result<(), Fail> {
     let text =
         "nodes = 2\nhorizon = 4\nlast_omission = 0\ncrashes = 1\nbudget = 1\nprotocol = \"two_phase\"\npatience = 3\nvotes = [true]\noutcome = \"unblocked\"\npauses = 1\n";
-    for (faults, reply, status) in [(
+    runs(
+        &rt,
+        rt.alloc(),
+        text,
         "pause 0 @3",
         "step 1\n0 voting\n1 idle\n0>1 prepare 2\nstep 2\n0 voting\n1 prepared\n1>0 yes lost\nstep 3\n0 down\n1 prepared\nstep 4\n0 voting\n1 prepared\nmisses\n",
         1,
-    )] {
-        runs(&rt, rt.alloc(), text, faults, reply, status)?;
-    }
+    )?;
     Ok(())
 }
 
@@ -183,42 +194,47 @@ fn a_coordinator_that_wakes_waits_anew(rt: HostRuntime) -> Result<(), Fail> {
 fn the_copy_takes_the_place_of_a_beat(rt: HostRuntime) -> Result<(), Fail> {
     let text =
         "nodes = 3\nhorizon = 2\nlast_omission = 0\ncrashes = 0\nbudget = 0\nprotocol = \"primary_backup\"\npatience = 3\noutcome = \"one_primary\"\n";
-    for (faults, reply, status) in [(
+    runs(
+        &rt,
+        rt.alloc(),
+        text,
         "",
         "step 1\n0 empty not_done primary unclaimed\n1 empty not_done backup unclaimed\n2 empty not_done backup unclaimed\n0>1 beat 2\n2>0 write 2\nstep 2\n0 holds not_done primary unclaimed\n1 empty not_done backup unclaimed\n2 empty not_done backup unclaimed\n0>1 repl lost\nreaches\n",
         0,
-    )] {
-        runs(&rt, rt.alloc(), text, faults, reply, status)?;
-    }
+    )?;
     Ok(())
 }
 
 #[test]
 fn pauses_split_the_primary(rt: HostRuntime) -> Result<(), Fail> {
-    for (text, reply, status) in [
-        (
-            "nodes = 3\nhorizon = 6\nlast_omission = 0\ncrashes = 0\nbudget = 1\npauses = 1\npause_length = 2\nprotocol = \"primary_backup\"\npatience = 3\noutcome = \"one_primary\"\n",
-            "least 1\npause 0 @1\n",
-            1,
-        ),
-        (
-            "nodes = 3\nhorizon = 6\nlast_omission = 0\ncrashes = 0\nbudget = 1\npauses = 1\npause_length = 1\nprotocol = \"primary_backup\"\npatience = 3\noutcome = \"one_primary\"\n",
-            "none 1\n",
-            0,
-        ),
-        (
-            "nodes = 3\nhorizon = 6\nlast_omission = 0\ncrashes = 0\nbudget = 1\npauses = 4\npause_length = 2\nprotocol = \"primary_backup\"\npatience = 3\noutcome = \"one_primary\"\n",
-            "refused 6 pauses\n",
-            2,
-        ),
-        (
-            "nodes = 3\nhorizon = 6\nlast_omission = 0\ncrashes = 0\nbudget = 1\npauses = 1\npause_length = 9\nprotocol = \"primary_backup\"\npatience = 3\noutcome = \"one_primary\"\n",
-            "refused 6 pause_length\n",
-            2,
-        ),
-    ] {
-        searches(&rt, rt.alloc(), text, reply, status)?;
-    }
+    searches(
+        &rt,
+        rt.alloc(),
+        "nodes = 3\nhorizon = 6\nlast_omission = 0\ncrashes = 0\nbudget = 1\npauses = 1\npause_length = 2\nprotocol = \"primary_backup\"\npatience = 3\noutcome = \"one_primary\"\n",
+        "least 1\npause 0 @1\n",
+        1,
+    )?;
+    searches(
+        &rt,
+        rt.alloc(),
+        "nodes = 3\nhorizon = 6\nlast_omission = 0\ncrashes = 0\nbudget = 1\npauses = 1\npause_length = 1\nprotocol = \"primary_backup\"\npatience = 3\noutcome = \"one_primary\"\n",
+        "none 1\n",
+        0,
+    )?;
+    searches(
+        &rt,
+        rt.alloc(),
+        "nodes = 3\nhorizon = 6\nlast_omission = 0\ncrashes = 0\nbudget = 1\npauses = 4\npause_length = 2\nprotocol = \"primary_backup\"\npatience = 3\noutcome = \"one_primary\"\n",
+        "refused 6 pauses\n",
+        2,
+    )?;
+    searches(
+        &rt,
+        rt.alloc(),
+        "nodes = 3\nhorizon = 6\nlast_omission = 0\ncrashes = 0\nbudget = 1\npauses = 1\npause_length = 9\nprotocol = \"primary_backup\"\npatience = 3\noutcome = \"one_primary\"\n",
+        "refused 6 pause_length\n",
+        2,
+    )?;
     Ok(())
 }
 
@@ -226,102 +242,131 @@ fn pauses_split_the_primary(rt: HostRuntime) -> Result<(), Fail> {
 fn two_pauses_of_a_node_are_refused(rt: HostRuntime) -> Result<(), Fail> {
     let text =
         "nodes = 3\nhorizon = 6\nlast_omission = 0\ncrashes = 0\nbudget = 1\npauses = 1\npause_length = 2\nprotocol = \"primary_backup\"\npatience = 3\noutcome = \"one_primary\"\n";
-    for (faults, reply, status) in [("pause 0 @1,pause 0 @3", "refused faults\n", 2)] {
-        runs(&rt, rt.alloc(), text, faults, reply, status)?;
-    }
+    runs(
+        &rt,
+        rt.alloc(),
+        text,
+        "pause 0 @1,pause 0 @3",
+        "refused faults\n",
+        2,
+    )?;
     Ok(())
 }
 
 #[test]
 fn a_crash_blocks_two_phase(rt: HostRuntime) -> Result<(), Fail> {
-    for (text, reply, status) in [(
+    searches(
+        &rt,
+        rt.alloc(),
         "nodes = 3\nhorizon = 6\nlast_omission = 0\ncrashes = 1\nbudget = 1\nprotocol = \"two_phase\"\npatience = 4\noutcome = \"unblocked\"\n",
         "least 1\ncrash 0 @2\n",
         1,
-    )] {
-        searches(&rt, rt.alloc(), text, reply, status)?;
-    }
+    )?;
     Ok(())
 }
 
 #[test]
 fn one_lost_note_splits_three_phase(rt: HostRuntime) -> Result<(), Fail> {
-    for (text, reply, status) in [
-        (
-            "nodes = 3\nhorizon = 10\nlast_omission = 3\ncrashes = 0\nbudget = 2\nprotocol = \"three_phase\"\npatience = 3\noutcome = \"agreement\"\n",
-            "least 1\nomit 0>1 @3\n",
-            1,
-        ),
-        (
-            "nodes = 3\nhorizon = 10\nlast_omission = 0\ncrashes = 2\nbudget = 2\nprotocol = \"three_phase\"\npatience = 3\noutcome = \"agreement\"\n",
-            "none 2\n",
-            0,
-        ),
-    ] {
-        searches(&rt, rt.alloc(), text, reply, status)?;
-    }
+    searches(
+        &rt,
+        rt.alloc(),
+        "nodes = 3\nhorizon = 10\nlast_omission = 3\ncrashes = 0\nbudget = 2\nprotocol = \"three_phase\"\npatience = 3\noutcome = \"agreement\"\n",
+        "least 1\nomit 0>1 @3\n",
+        1,
+    )?;
+    searches(
+        &rt,
+        rt.alloc(),
+        "nodes = 3\nhorizon = 10\nlast_omission = 0\ncrashes = 2\nbudget = 2\nprotocol = \"three_phase\"\npatience = 3\noutcome = \"agreement\"\n",
+        "none 2\n",
+        0,
+    )?;
     Ok(())
 }
 
 #[test]
 fn a_backup_takes_over_too_early(rt: HostRuntime) -> Result<(), Fail> {
-    for (text, reply, status) in [(
+    searches(
+        &rt,
+        rt.alloc(),
         "nodes = 3\nhorizon = 6\nlast_omission = 2\ncrashes = 0\nbudget = 2\nprotocol = \"primary_backup\"\npatience = 3\noutcome = \"one_primary\"\n",
         "least 2\nomit 0>1 @1\nomit 0>1 @2\n",
         1,
-    )] {
-        searches(&rt, rt.alloc(), text, reply, status)?;
-    }
+    )?;
     Ok(())
 }
 
 #[test]
 fn a_write_that_was_done_is_lost(rt: HostRuntime) -> Result<(), Fail> {
-    for (text, reply, status) in [(
+    searches(
+        &rt,
+        rt.alloc(),
         "nodes = 3\nhorizon = 6\nlast_omission = 0\ncrashes = 2\nbudget = 2\nprotocol = \"primary_backup\"\npatience = 3\noutcome = \"durable\"\n",
         "least 2\ncrash 1 @4\ncrash 0 @5\n",
         1,
-    )] {
-        searches(&rt, rt.alloc(), text, reply, status)?;
-    }
+    )?;
     Ok(())
 }
 
 #[test]
 fn refused_settings(rt: HostRuntime) -> Result<(), Fail> {
-    for (text, reply, status) in [
-        (
-            "nodes = 3\nhorizon = 4\nlast_omission = 0\ncrashes = 0\nbudget = 0\nprotocol = \"two_phase\"\npatience = 1\nvotes = [true]\noutcome = \"agreement\"\n",
-            "refused 6 votes\n",
-            2,
-        ),
-        (
-            "nodes = 3\nhorizon = 4\nlast_omission = 0\ncrashes = 0\nbudget = 0\nprotocol = \"two_phase\"\npatience = 1\nvotes = [true, 1]\noutcome = \"agreement\"\n",
-            "refused 5 votes\n",
-            2,
-        ),
-        (
-            "nodes = 3\nhorizon = 4\nlast_omission = 0\ncrashes = 0\nbudget = 0\nprotocol = \"two_phase\"\npatience = 1\nvotes = [1]\noutcome = \"agreement\"\n",
-            "refused 5 votes\n",
-            2,
-        ),
-        (
-            "nodes = 2\nhorizon = 4\nlast_omission = 0\ncrashes = 0\nbudget = 0\nprotocol = \"primary_backup\"\npatience = 1\noutcome = \"durable\"\n",
-            "refused 9 protocol\n",
-            2,
-        ),
-        (
-            "nodes = 3\nhorizon = 4\nlast_omission = 0\ncrashes = 0\nbudget = 0\nprotocol = \"two_phase\"\npatience = 1\ntries = 1\noutcome = \"agreement\"\n",
-            "refused 4 tries\n",
-            2,
-        ),
-        (
-            "nodes = 3\nhorizon = 4\nlast_omission = 0\ncrashes = 0\nbudget = 0\nprotocol = \"primary_backup\"\npatience = 1\noutcome = \"agreement\"\n",
-            "refused 10 outcome\n",
-            2,
-        ),
-    ] {
-        searches(&rt, rt.alloc(), text, reply, status)?;
-    }
+    searches(
+        &rt,
+        rt.alloc(),
+        "nodes = 3\nhorizon = 4\nlast_omission = 0\ncrashes = 0\nbudget = 0\nprotocol = \"two_phase\"\npatience = 1\nvotes = [true]\noutcome = \"agreement\"\n",
+        "refused 6 votes\n",
+        2,
+    )?;
+    searches(
+        &rt,
+        rt.alloc(),
+        "nodes = 3\nhorizon = 4\nlast_omission = 0\ncrashes = 0\nbudget = 0\nprotocol = \"two_phase\"\npatience = 1\nvotes = [true, 1]\noutcome = \"agreement\"\n",
+        "refused 5 votes\n",
+        2,
+    )?;
+    searches(
+        &rt,
+        rt.alloc(),
+        "nodes = 3\nhorizon = 4\nlast_omission = 0\ncrashes = 0\nbudget = 0\nprotocol = \"two_phase\"\npatience = 1\nvotes = [1]\noutcome = \"agreement\"\n",
+        "refused 5 votes\n",
+        2,
+    )?;
+    searches(
+        &rt,
+        rt.alloc(),
+        "nodes = 2\nhorizon = 4\nlast_omission = 0\ncrashes = 0\nbudget = 0\nprotocol = \"primary_backup\"\npatience = 1\noutcome = \"durable\"\n",
+        "refused 9 protocol\n",
+        2,
+    )?;
+    searches(
+        &rt,
+        rt.alloc(),
+        "nodes = 3\nhorizon = 4\nlast_omission = 0\ncrashes = 0\nbudget = 0\nprotocol = \"two_phase\"\npatience = 1\ntries = 1\noutcome = \"agreement\"\n",
+        "refused 4 tries\n",
+        2,
+    )?;
+    searches(
+        &rt,
+        rt.alloc(),
+        "nodes = 3\nhorizon = 4\nlast_omission = 0\ncrashes = 0\nbudget = 0\nprotocol = \"primary_backup\"\npatience = 1\noutcome = \"agreement\"\n",
+        "refused 10 outcome\n",
+        2,
+    )?;
+    Ok(())
+}
+
+#[test]
+fn a_crash_while_the_votes_are_on_their_way_blocks_all(rt: HostRuntime) -> Result<(), Fail> {
+    let text =
+        "nodes = 3\nhorizon = 5\nlast_omission = 0\ncrashes = 1\nbudget = 1\nprotocol = \"two_phase\"\npatience = 3\nvotes = [true, true]\noutcome = \"unblocked\"\n";
+    searches(&rt, rt.alloc(), text, "least 1\ncrash 0 @2\n", 1)?;
+    runs(
+        &rt,
+        rt.alloc(),
+        text,
+        "crash 0 @2",
+        "step 1\n0 voting\n1 idle\n2 idle\n0>1 prepare 2\n0>2 prepare 2\nstep 2\n0 down\n1 prepared\n2 prepared\n1>0 yes lost\n2>0 yes lost\nstep 3\n0 down\n1 prepared\n2 prepared\nstep 4\n0 down\n1 prepared\n2 prepared\nstep 5\n0 down\n1 prepared\n2 prepared\nmisses\n",
+        1,
+    )?;
     Ok(())
 }
