@@ -5,9 +5,9 @@
 # Wants the Rattle kit and valgrind.
 set -euo pipefail
 cd "$(dirname "$0")/../crates/bench_runs"
-rt run -- 1 rerun 0 >/dev/null
+rt run -- 1 run_reusing 0 >/dev/null
 
-# the instructions of COUNT runs, in MODE (run or rerun), under sets of FAULTS faults
+# the instructions of COUNT runs, in MODE (run or run_reusing), under sets of FAULTS faults
 count() {
     valgrind --tool=callgrind --callgrind-out-file=/dev/null out/bench_runs "$1" "$2" "$3" 2>&1 | awk '/Collected/ { print $NF }'
 }
@@ -15,7 +15,7 @@ count() {
 few=20
 many=120
 points=$((8 * 48 * (many - few)))
-for mode in rerun run; do
+for mode in run_reusing run; do
     for faults in 0 2 6; do
         less=$(count "$few" "$mode" "$faults")
         more=$(count "$many" "$mode" "$faults")

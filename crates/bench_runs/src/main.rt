@@ -1,8 +1,8 @@
 //! Runs a machine that sends to all at every step, as often as it is told, and prints a sum of what it finds:
 //!
-//!     bench_runs COUNT run|rerun FAULTS
+//!     bench_runs COUNT run|run_reusing FAULTS
 //!
-//! `rerun` gives one run's memory to the next. FAULTS is how many faults each set has, 0 to 6.
+//! `run_reusing` gives one run's memory to the next. FAULTS is how many faults each set has, 0 to 6.
 #![tactic(auto)]
 
 ghost use Rattle.std.specs.Prelude.{◌≡◌};
@@ -10,7 +10,7 @@ ghost use Rattle.bench_runs.specs.Chatter.{heard};
 
 use lf_faults::{Fault, FaultSet, FaultSpec};
 use lf_latency::{Links, Network};
-use lf_sim::{Letter, Machine, Out, Run, Setting, Stepped, rerun, run};
+use lf_sim::{Letter, Machine, Out, Run, Setting, Stepped, run_reusing, run};
 use std::alloc::{AllocError, Global};
 use std::env;
 use std::process::ExitCode;
@@ -118,7 +118,7 @@ fn runs(alloc: Global, count: u32, again: bool, faults: u32) -> Result<u32, Allo
     for number in 0..count {
         let set = set_of(number, faults);
         spent = if again {
-            rerun(&setting, &set, spent)
+            run_reusing(&setting, &set, spent)
         } else {
             run(alloc, &setting, &set)?
         };
@@ -134,7 +134,7 @@ fn main(rt: HostRuntime) -> ExitCode {
     let _program = words.next();
     let count = number(words.next());
     let again = match words.next() {
-        Some(word) => word.as_str() == "rerun",
+        Some(word) => word.as_str() == "run_reusing",
         None => false,
     };
     let faults = number(words.next());

@@ -12,7 +12,7 @@ use Rattle.std.proofs.lemmas.Map.Lookups.{exact_unsigned}
 use Rattle.std.proofs.lemmas.Bool.{cond_both, both_ways, false_from_ne_true}
 use Rattle.lf_faults.specs.declared.fault.Parts.{Parts}
 use Rattle.lf_faults.specs.declared.fault.Parts.TheVariants.{Omit, Crash, Pause}
-use Rattle.lf_faults.specs.Faults.{step_of, rank_of, node_of, receiver_of, fault_cmp, is_before, IsAscending, inserted, set_cmp, set_before}
+use Rattle.lf_faults.specs.Faults.{step_of, rank_of, node_of, receiver_of, fault_cmp, is_before, IsAscending, inserted, set_cmp, set_is_before}
 use Rattle.lf_faults.proofs.Members.{Contains-first, Contains-more, each-in, each-left, each-weaker}
 
 pub fault_total : IsTotalOrder fault_cmp
@@ -88,19 +88,19 @@ cases_total R total exact x y = elim (cases_Ordering (R x y)) [
 pub cases_faults : (f g : Parts) → (is_before f g ≡ true) ⊎ ((f ≡ g) ⊎ (is_before g f ≡ true))
 cases_faults = cases_total fault_cmp fault_total fault_exact
 
-pub cases_sets : (fs gs : List Parts) → (set_before fs gs ≡ true) ⊎ ((fs ≡ gs) ⊎ (set_before gs fs ≡ true))
+pub cases_sets : (fs gs : List Parts) → (set_is_before fs gs ≡ true) ⊎ ((fs ≡ gs) ⊎ (set_is_before gs fs ≡ true))
 cases_sets = cases_total set_cmp set_total set_exact
 
 pub before_trans : (f g h : Parts) → is_before f g ≡ true → is_before g h ≡ true → is_before f h ≡ true
 before_trans f g h a b = ap is_lt (fault_total.trans f g h (Less-from (fault_cmp f g) a) (Less-from (fault_cmp g h) b))
 
-pub set_trans : (f g h : List Parts) → set_before f g ≡ true → set_before g h ≡ true → set_before f h ≡ true
+pub set_trans : (f g h : List Parts) → set_is_before f g ≡ true → set_is_before g h ≡ true → set_is_before f h ≡ true
 set_trans f g h a b = ap is_lt (set_total.trans f g h (Less-from (set_cmp f g) a) (Less-from (set_cmp g h) b))
 
 pub not_itself : (f : Parts) → is_before f f ≡ true → ⊥
 not_itself f h = let e = Less-from (fault_cmp f f) h in let e' = tied_itself fault_total f in cc
 
-pub set_not_itself : (fs : List Parts) → set_before fs fs ≡ true → ⊥
+pub set_not_itself : (fs : List Parts) → set_is_before fs fs ≡ true → ⊥
 set_not_itself fs h = let e = Less-from (set_cmp fs fs) h in let e' = tied_itself set_total fs in cc
 
 pub not_both : (f g : Parts) → is_before f g ≡ true → is_before g f ≡ true → ⊥
@@ -109,8 +109,8 @@ not_both f g a b = not_itself f (before_trans f g f a b)
 pub not_after : (f g : Parts) → is_before f g ≡ true → is_before g f ≡ false
 not_after f g a = false_from_ne_true (is_before g f) (not_both f g a)
 
-pub set_not_after : (fs gs : List Parts) → set_before fs gs ≡ true → set_before gs fs ≡ false
-set_not_after fs gs a = false_from_ne_true (set_before gs fs) (λ b. set_not_itself fs (set_trans fs gs fs a b))
+pub set_not_after : (fs gs : List Parts) → set_is_before fs gs ≡ true → set_is_before gs fs ≡ false
+set_not_after fs gs a = false_from_ne_true (set_is_before gs fs) (λ b. set_not_itself fs (set_trans fs gs fs a b))
 
 -- not before, then it is the other or comes after it
 pub before_or_same : (f g : Parts) → is_before f g ≡ false → (g ≡ f) ⊎ (is_before g f ≡ true)

@@ -3,7 +3,7 @@ use Rattle.std.specs.Prelude.{◌≡◌, ◌≢◌, ℕ, ◌<◌, ◌≤◌, Boo
 use Rattle.std.specs.List.{AllByRecursion, Contains, count_by}
 use Rattle.lf_faults.specs.declared.fault.Parts.{Parts}
 use Rattle.lf_faults.specs.declared.fault.Parts.TheVariants.{Omit, Crash, Pause}
-use Rattle.lf_faults.specs.Faults.{IsAscending, inserted, set_before}
+use Rattle.lf_faults.specs.Faults.{IsAscending, inserted, set_is_before}
 
 -- how many nodes and steps there are, and what bounds the faults
 pub record Bounds : Type 0 where
@@ -84,19 +84,19 @@ IsSubset fs gs = (f : Parts) → Contains fs f → Contains gs f
 -- the next allowed set: allowed, after this one, and no allowed set lies between
 pub record IsNext (b : Bounds) (faults next : List Parts) : Type 0 where
   pub allowed : IsAllowed b next
-  pub after : set_before faults next ≡ true
-  pub least : (other : List Parts) → IsAllowed b other → set_before faults other ≡ true → set_before other next ≡ false
+  pub after : set_is_before faults next ≡ true
+  pub least : (other : List Parts) → IsAllowed b other → set_is_before faults other ≡ true → set_is_before other next ≡ false
 
 -- no allowed set comes after this one
 abbrev pub IsLast : Bounds → List Parts → Type 0
-IsLast b faults = (other : List Parts) → IsAllowed b other → set_before faults other ≡ false
+IsLast b faults = (other : List Parts) → IsAllowed b other → set_is_before faults other ≡ false
 
 -- the first allowed set with the property, in the order of sets, or none where no allowed set has it
 abbrev pub IsFirst : Bounds → (List Parts → Bool) → Option (List Parts) → Type 0
 IsFirst b misses answer =
     MatchOption answer
     ((other : List Parts) → IsAllowed b other → misses other ≡ false)
-    (λ found. IsAllowed b found × (misses found ≡ true) × ((other : List Parts) → IsAllowed b other → misses other ≡ true → set_before other found ≡ false))
+    (λ found. IsAllowed b found × (misses found ≡ true) × ((other : List Parts) → IsAllowed b other → misses other ≡ true → set_is_before other found ≡ false))
 
 -- the sets that follow `here` one by one, each the next allowed set, until none is left
 abbrev pub IsWalkFrom : Bounds → List Parts → List (List Parts) → Type 0
@@ -106,7 +106,7 @@ IsWalkFrom b here (next ∷ rest) = IsNext b here next × IsWalkFrom b next rest
 -- each set comes before those after it
 abbrev pub AreAscending : List (List Parts) → Type 0
 AreAscending [] = Unit {0}
-AreAscending (s ∷ ss) = AllByRecursion (λ t. set_before s t ≡ true) ss × AreAscending ss
+AreAscending (s ∷ ss) = AllByRecursion (λ t. set_is_before s t ≡ true) ss × AreAscending ss
 
 -- the sets are the allowed ones, each once, in order
 pub record IsEnumeration (b : Bounds) (sets : List (List Parts)) : Type 0 where

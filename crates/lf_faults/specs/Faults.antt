@@ -39,17 +39,17 @@ wakes length n t (Crash node step) = false
 wakes length n t (Pause node step) = (n == node) && (t == step + length)
 
 -- some fault of the set does
-abbrev pub is_omitted : List Parts → ℕ → ℕ → ℕ → Bool
-is_omitted faults n m t = list_any (omits n m t) faults
+abbrev pub set_omits : List Parts → ℕ → ℕ → ℕ → Bool
+set_omits faults n m t = list_any (omits n m t) faults
 
-abbrev pub is_crashed : List Parts → ℕ → ℕ → Bool
-is_crashed faults n t = list_any (crashes n t) faults
+abbrev pub set_crashes : List Parts → ℕ → ℕ → Bool
+set_crashes faults n t = list_any (crashes n t) faults
 
-abbrev pub is_paused : ℕ → List Parts → ℕ → ℕ → Bool
-is_paused length faults n t = list_any (pauses length n t) faults
+abbrev pub set_pauses : ℕ → List Parts → ℕ → ℕ → Bool
+set_pauses length faults n t = list_any (pauses length n t) faults
 
-abbrev pub is_woken : ℕ → List Parts → ℕ → ℕ → Bool
-is_woken length faults n t = list_any (wakes length n t) faults
+abbrev pub set_wakes : ℕ → List Parts → ℕ → ℕ → Bool
+set_wakes length faults n t = list_any (wakes length n t) faults
 
 -- the order of faults: by step, then omissions before crashes before pauses, then by sender or node, then by receiver
 abbrev pub step_of : Parts → ℕ
@@ -95,5 +95,5 @@ inserted f (g ∷ gs) = if is_before g f then g ∷ inserted f gs else f ∷ g �
 abbrev pub set_cmp : List Parts → List Parts → Ordering
 set_cmp fs gs = ordering_then (nat_cmp (length fs) (length gs)) (slice_cmp fault_cmp fs gs)
 
-abbrev pub set_before : List Parts → List Parts → Bool
-set_before fs gs = is_lt (set_cmp fs gs)
+abbrev pub set_is_before : List Parts → List Parts → Bool
+set_is_before fs gs = is_lt (set_cmp fs gs)

@@ -2,7 +2,7 @@
 
 ghost use Rattle.std.specs.Prelude.{◌≡◌, ◌+◌, ◌-◌, ◌<◌, ◌≤◌, ◌↔◌, ◌++◌, ◌∷◌, [], IsTrue, IsSome, IfSome, length, take, drop, replicate};
 ghost use Rattle.std.specs.List.{Contains, prefix_len};
-ghost use Rattle.lf_faults.specs.Faults.{IsAscending, is_omitted, is_crashed, is_paused, is_woken, is_before, inserted, set_before};
+ghost use Rattle.lf_faults.specs.Faults.{IsAscending, set_omits, set_crashes, set_pauses, set_wakes, is_before, inserted, set_is_before};
 ghost use Rattle.lf_faults.specs.Kinds.{filler};
 
 use crate::{Fault, Parts};
@@ -105,7 +105,7 @@ impl FaultSet {
 
     /// Whether it comes before another, in the order of sets: fewer faults first, and sets of one size by their lists.
     pub fn is_before(&self, other: &FaultSet) -> bool
-        ensures { result ≡ set_before self.now other.now }
+        ensures { result ≡ set_is_before self.now other.now }
     {
         self.len()
             .cmp(&other.len())
@@ -114,7 +114,7 @@ impl FaultSet {
     }
 
     /// The first faults of the set, as many as `count`.
-    pub fn first(&self, count: usize) -> FaultSet
+    pub fn prefix(&self, count: usize) -> FaultSet
         requires { count ≤ length self.now }
         ensures { result ≡ take count self.now }
     {
@@ -126,7 +126,7 @@ impl FaultSet {
 
     /// Whether the note that `from` sends to `to` at `step` is lost.
     pub fn omits(&self, from: u32, to: u32, step: u32) -> bool
-        ensures { result ≡ is_omitted self.now from to step }
+        ensures { result ≡ set_omits self.now from to step }
     {
         self.items()
             .iter()
@@ -135,7 +135,7 @@ impl FaultSet {
 
     /// Whether the node has crashed at the step or before.
     pub fn crashes(&self, at: u32, by: u32) -> bool
-        ensures { result ≡ is_crashed self.now at by }
+        ensures { result ≡ set_crashes self.now at by }
     {
         self.items().iter().any(|fault| match fault.parts() {
             Parts::Crash { node, step } => at == node && step <= by,
@@ -146,7 +146,7 @@ impl FaultSet {
     /// Whether the node is paused over the step, where a pause lasts `length` steps, at most 8.
     pub fn pauses(&self, at: u32, over: u32, length: u32) -> bool
         requires { length ≤ 8 }
-        ensures { result ≡ is_paused length self.now at over }
+        ensures { result ≡ set_pauses length self.now at over }
     {
         self.items().iter().any(|fault| match fault.parts() {
             Parts::Pause { node, step } => at == node && step <= over && over < step + length,
@@ -157,7 +157,7 @@ impl FaultSet {
     /// Whether the step is the first after a pause of the node, where a pause lasts `length` steps, at most 8.
     pub fn wakes(&self, at: u32, first: u32, length: u32) -> bool
         requires { length ≤ 8 }
-        ensures { result ≡ is_woken length self.now at first }
+        ensures { result ≡ set_wakes length self.now at first }
     {
         self.items().iter().any(|fault| match fault.parts() {
             Parts::Pause { node, step } => at == node && first == step + length,

@@ -180,6 +180,6 @@ fn sets_grow_in_order(rt: HostRuntime) -> Result<(), Fail> {
         set.pauses(0, 2, 2) && set.pauses(0, 3, 2) && !set.pauses(0, 4, 2) && !set.pauses(0, 1, 2)
     );
     assert!(rt; set.wakes(0, 4, 2) && !set.wakes(0, 3, 2));
-    assert!(rt; set.first(2).is_before(&set) && !set.is_before(&set.first(2)));
+    assert!(rt; set.prefix(2).is_before(&set) && !set.is_before(&set.prefix(2)));
     Ok(())
 }

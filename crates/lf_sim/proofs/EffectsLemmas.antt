@@ -11,7 +11,7 @@ use Rattle.std.proofs.Math.ListN.{drop_of_length-le}
 use Rattle.lf_faults.specs.declared.fault.Parts.{Parts}
 use Rattle.lf_faults.specs.declared.fault.Parts.TheVariants.{Omit, Crash, Pause}
 use Rattle.lf_faults.specs.Allowed.{is_pause_of}
-use Rattle.lf_faults.specs.Faults.{IsFault, omits, crashes, pauses, wakes, is_crashed, is_omitted, is_paused, is_woken}
+use Rattle.lf_faults.specs.Faults.{IsFault, omits, crashes, pauses, wakes, set_crashes, set_omits, set_pauses, set_wakes}
 use Rattle.lf_sim.specs.Effects.{link_place, loses, AreLosing, AreCrashes, ArePausing}
 use Rattle.lf_sim.proofs.FaultTests.{omits-is}
 use Rattle.lf_sim.proofs.ListsLemmas.{found-in, passed-in}
@@ -113,7 +113,7 @@ module _ (xs : List Parts) (i : ℕ) (x : Parts) (is : x ≡ get_or xs i x) (h :
         | inl same ↦
             let gives : crashes n t x ≡ nat_le step t = rw (made, same.0) refl in
             let at : slice_index (slice_set steps node step) n ≡ step = ap (λ k. slice_index (slice_set steps node step) k) same.1 ∙ get_or-set_same steps node step 0 (omega (arith, inside, long)) in
-            let old : nat_le (slice_index steps n) t ≡ is_crashed (take i xs) n t = before n t a b in
+            let old : nat_le (slice_index steps n) t ≡ set_crashes (take i xs) n t = before n t a b in
             let here : step < slice_index steps n = (let P : ℕ → Type 0 = λ k. step < slice_index steps k in subst P (sym same.1) early) in
             ap (λ k. nat_le k t) at ∙ (elim (leb-cases step t) [
               | inl fails ↦
@@ -139,8 +139,8 @@ module _ (xs : List Parts) (i : ℕ) (x : Parts) (is : x ≡ get_or xs i x) (h :
       ]
 
 -- a link that loses no note loses none at any step
-pub omitted-never : (faults : List Parts) (n m t : ℕ) → list_any (loses n m) faults ≡ false → is_omitted faults n m t ≡ false
-omitted-never faults n m t none = false_from_ne_true (is_omitted faults n m t) (λ h.
+pub omitted-never : (faults : List Parts) (n m t : ℕ) → list_any (loses n m) faults ≡ false → set_omits faults n m t ≡ false
+omitted-never faults n m t none = false_from_ne_true (set_omits faults n m t) (λ h.
     let found = found-in (omits n m t) faults h in
     false≢true (sym none ∙ passed-in (loses n m) faults found.0 found.1 (loses-omits n m t found.0 found.2)))
 
@@ -155,13 +155,13 @@ is_pause_of-wakes length n t (Omit a b c) h = absurd (false≢true h)
 is_pause_of-wakes length n t (Crash a c) h = absurd (false≢true h)
 is_pause_of-wakes length n t (Pause a c) h = (and_parts (nat_eq n a) (nat_eq t (c + length)) h).0
 
-pub paused-never : (faults : List Parts) (length n t : ℕ) → list_any (is_pause_of n) faults ≡ false → is_paused length faults n t ≡ false
-paused-never faults length n t none = false_from_ne_true (is_paused length faults n t) (λ h.
+pub paused-never : (faults : List Parts) (length n t : ℕ) → list_any (is_pause_of n) faults ≡ false → set_pauses length faults n t ≡ false
+paused-never faults length n t none = false_from_ne_true (set_pauses length faults n t) (λ h.
     let found = found-in (pauses length n t) faults h in
     false≢true (sym none ∙ passed-in (is_pause_of n) faults found.0 found.1 (is_pause_of-pauses length n t found.0 found.2)))
 
-pub woken-never : (faults : List Parts) (length n t : ℕ) → list_any (is_pause_of n) faults ≡ false → is_woken length faults n t ≡ false
-woken-never faults length n t none = false_from_ne_true (is_woken length faults n t) (λ h.
+pub woken-never : (faults : List Parts) (length n t : ℕ) → list_any (is_pause_of n) faults ≡ false → set_wakes length faults n t ≡ false
+woken-never faults length n t none = false_from_ne_true (set_wakes length faults n t) (λ h.
     let found = found-in (wakes length n t) faults h in
     false≢true (sym none ∙ passed-in (is_pause_of n) faults found.0 found.1 (is_pause_of-wakes length n t found.0 found.2)))
 
@@ -172,21 +172,21 @@ list_any-take p xs i h =
 
 -- what leaves a node up
 pub leaves_crashed : (faults : List Parts) (steps : List ℕ) (length n t : ℕ) → AreCrashes faults steps → n < 8 → t ≤ 48 → slice_index steps n ≤ t
-    → false ≡ (not (is_crashed faults n t) && not (is_paused length faults n t))
+    → false ≡ (not (set_crashes faults n t) && not (set_pauses length faults n t))
 leaves_crashed faults steps length n t ends a b late =
-    let crashed : is_crashed faults n t ≡ true = sym (ends n t a b) ∙ le-leb (slice_index steps n) t late in
+    let crashed : set_crashes faults n t ≡ true = sym (ends n t a b) ∙ le-leb (slice_index steps n) t late in
     rw crashed refl
 
-pub leaves_uncrashed : (faults : List Parts) (steps : List ℕ) (n t : ℕ) → AreCrashes faults steps → n < 8 → t ≤ 48 → t < slice_index steps n → is_crashed faults n t ≡ false
+pub leaves_uncrashed : (faults : List Parts) (steps : List ℕ) (n t : ℕ) → AreCrashes faults steps → n < 8 → t ≤ 48 → t < slice_index steps n → set_crashes faults n t ≡ false
 leaves_uncrashed faults steps n t ends a b early =
     sym (ends n t a b) ∙ false_from_ne_true (nat_le (slice_index steps n) t) (λ k. omega (arith, leb-true (slice_index steps n) t k, early))
 
-pub leaves_unpaused : (faults : List Parts) (pausing : List Bool) (length n t : ℕ) → ArePausing faults pausing → n < 8 → slice_index_or pausing n false ≡ false → is_crashed faults n t ≡ false
-    → true ≡ (not (is_crashed faults n t) && not (is_paused length faults n t))
+pub leaves_unpaused : (faults : List Parts) (pausing : List Bool) (length n t : ℕ) → ArePausing faults pausing → n < 8 → slice_index_or pausing n false ≡ false → set_crashes faults n t ≡ false
+    → true ≡ (not (set_crashes faults n t) && not (set_pauses length faults n t))
 leaves_unpaused faults pausing length n t pauses a off alive =
-    let never : is_paused length faults n t ≡ false = paused-never faults length n t (sym (pauses n a) ∙ off) in
+    let never : set_pauses length faults n t ≡ false = paused-never faults length n t (sym (pauses n a) ∙ off) in
     rw (alive, never) refl
 
-pub leaves_up : (faults : List Parts) (length n t : ℕ) (paused : Bool) → paused ≡ is_paused length faults n t → is_crashed faults n t ≡ false
-    → not paused ≡ (not (is_crashed faults n t) && not (is_paused length faults n t))
+pub leaves_up : (faults : List Parts) (length n t : ℕ) (paused : Bool) → paused ≡ set_pauses length faults n t → set_crashes faults n t ≡ false
+    → not paused ≡ (not (set_crashes faults n t) && not (set_pauses length faults n t))
 leaves_up faults length n t paused is alive = rw (is, alive) refl

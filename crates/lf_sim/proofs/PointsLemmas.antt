@@ -5,7 +5,7 @@ use Rattle.std.specs.Option.{option_to_list}
 use Rattle.std.specs.List.{Contains, AllPairs}
 use Rattle.std.proofs.lemmas.Bool.{and_parts, ltb-true, leb-true, lt-ltb, le-leb, both_ways, false_from_ne_true, true_from_ne_false}
 use Rattle.lf_faults.specs.declared.fault.Parts.{Parts}
-use Rattle.lf_faults.specs.Faults.{is_omitted, is_crashed, is_paused, is_woken}
+use Rattle.lf_faults.specs.Faults.{set_omits, set_crashes, set_pauses, set_wakes}
 use Rattle.lf_sim.specs.declared.letter.Letter.{Letter}
 use Rattle.lf_sim.specs.declared.out.Stepped.{Stepped}
 use Rattle.lf_sim.specs.Outs.{note_to}
@@ -27,24 +27,24 @@ module _ {State Note Fact : Type 0} (w : World State Note Fact) (faults : List P
       let p = and_parts (nat_lt n w.rules.nodes) _ h in
       let q = and_parts (nat_le 1 t) _ p.1 in
       let r = and_parts (nat_le t w.horizon) _ q.1 in
-      let s = and_parts (not (is_crashed faults n t)) (not (is_paused w.pause_length faults n t)) r.1 in
+      let s = and_parts (not (set_crashes faults n t)) (not (set_pauses w.pause_length faults n t)) r.1 in
       record {
         node = ltb-true n w.rules.nodes p.0;
         first = leb-true 1 t q.0;
         last = leb-true t w.horizon r.0;
-        crashes = λ k early c. both_ways (is_crashed faults n t) (not-true (is_crashed faults n t) s.0) (contains-crashed faults n k t c early);
-        pauses = λ k early over c. both_ways (is_paused w.pause_length faults n t) (not-true (is_paused w.pause_length faults n t) s.1) (contains-paused faults w.pause_length n k t c early over);
+        crashes = λ k early c. both_ways (set_crashes faults n t) (not-true (set_crashes faults n t) s.0) (contains-crashed faults n k t c early);
+        pauses = λ k early over c. both_ways (set_pauses w.pause_length faults n t) (not-true (set_pauses w.pause_length faults n t) s.1) (contains-paused faults w.pause_length n k t c early over);
       }
 
   pub up-IsRunning : (n t : ℕ) → IsRunning w faults n t → is_up w faults n t ≡ true
   unfolding is_up
   up-IsRunning n t r =
-      let crashed : is_crashed faults n t ≡ false = false_from_ne_true (is_crashed faults n t) (λ h. let found = crashed-contains faults n t h in r.crashes found.0 found.2 found.1) in
-      let paused : is_paused w.pause_length faults n t ≡ false = false_from_ne_true (is_paused w.pause_length faults n t) (λ h. let found = paused-contains faults w.pause_length n t h in r.pauses found.0 found.2 found.3 found.1) in
+      let crashed : set_crashes faults n t ≡ false = false_from_ne_true (set_crashes faults n t) (λ h. let found = crashed-contains faults n t h in r.crashes found.0 found.2 found.1) in
+      let paused : set_pauses w.pause_length faults n t ≡ false = false_from_ne_true (set_pauses w.pause_length faults n t) (λ h. let found = paused-contains faults w.pause_length n t h in r.pauses found.0 found.2 found.3 found.1) in
       rw (lt-ltb n w.rules.nodes r.node, le-leb 1 t r.first, le-leb t w.horizon r.last, crashed, paused) refl
 
-  awake-from : (n t : ℕ) → (EndsPause w faults n t → ⊥) → is_woken w.pause_length faults n t ≡ false
-  awake-from n t none = false_from_ne_true (is_woken w.pause_length faults n t) (λ h. none (woken-contains faults w.pause_length n t h))
+  awake-from : (n t : ℕ) → (EndsPause w faults n t → ⊥) → set_wakes w.pause_length faults n t ≡ false
+  awake-from n t none = false_from_ne_true (set_wakes w.pause_length faults n t) (λ h. none (woken-contains faults w.pause_length n t h))
 
   -- what a step gives
   gives : (n t : ℕ) (from : State) → did w faults n t ≡ w.rules.step n t from (inbox w faults n t) → StepsFrom w faults n t from
@@ -84,7 +84,7 @@ module _ {State Note Fact : Type 0} (w : World State Note Fact) (faults : List P
         up = up;
         arrives = rw (from, sends) at comes.arrives;
         note = note;
-        kept = λ c. both_ways (is_omitted faults x.from m x.sent) (rw (from, sends) at comes.kept) (contains-omitted faults x.from m x.sent c);
+        kept = λ c. both_ways (set_omits faults x.from m x.sent) (rw (from, sends) at comes.kept) (contains-omitted faults x.from m x.sent c);
       }
 
   pub Reaches-inbox : (m u : ℕ) (x : Letter Note) → Contains (inbox w faults m u) x → Reaches w faults m u x
@@ -95,7 +95,7 @@ module _ {State Note Fact : Type 0} (w : World State Note Fact) (faults : List P
   pub inbox-Reaches : ArrivesLater w → (m u : ℕ) (x : Letter Note) → Reaches w faults m u x → Contains (inbox w faults m u) x
   unfolding letters
   inbox-Reaches later m u x r =
-      let kept : is_omitted faults x.from m x.sent ≡ false = false_from_ne_true (is_omitted faults x.from m x.sent) (λ h. r.kept (omitted-contains faults x.from m x.sent h)) in
+      let kept : set_omits faults x.from m x.sent ≡ false = false_from_ne_true (set_omits faults x.from m x.sent) (λ h. r.kept (omitted-contains faults x.from m x.sent h)) in
       let early : x.sent < u = omega (arith, later x.from m x.sent, r.arrives) in
       let comes : letter w faults (did w faults) m u x.from x.sent ≡ Some x = letter-Comes w faults (did w faults) m u x.from x.sent x.note r.other r.arrives kept r.note in
       in-each_below (λ n. letters_from w faults (did w faults) m u n u) w.rules.nodes x.from x r.sender

@@ -5,7 +5,7 @@ use Rattle.std.specs.Option.{option_map, option_to_list}
 use Rattle.std.proofs.lemmas.Bool.{and_parts, ne_eqb, eqb-true, lt-ltb, le-leb}
 use Rattle.std.proofs.lemmas.Bool.Decides.{leb_tells, nat_tests}
 use Rattle.lf_faults.specs.declared.fault.Parts.{Parts}
-use Rattle.lf_faults.specs.Faults.{is_omitted, is_crashed, is_paused, is_woken}
+use Rattle.lf_faults.specs.Faults.{set_omits, set_crashes, set_pauses, set_wakes}
 use Rattle.lf_sim.specs.declared.letter.Letter.{Letter}
 use Rattle.lf_sim.specs.declared.out.Out.{Out}
 use Rattle.lf_sim.specs.declared.out.Stepped.{Stepped}
@@ -79,20 +79,20 @@ module _ {State Note Fact : Type 0} (w : World State Note Fact) (faults : List P
   did-down n t = rw add-one (λ h. did-suc n t ∙ unfold turn in rw h refl)
 
   -- the state from which it starts, by whether a pause has just ended
-  pub before_step-awake : (n t : ℕ) (last : State) → is_woken w.pause_length faults n t ≡ false → before_step w faults n t last ≡ last
+  pub before_step-awake : (n t : ℕ) (last : State) → set_wakes w.pause_length faults n t ≡ false → before_step w faults n t last ≡ last
   unfolding before_step
   before_step-awake n t last h = rw h refl
 
-  pub before_step-woken : (n t : ℕ) (last : State) → is_woken w.pause_length faults n t ≡ true → before_step w faults n t last ≡ w.rules.wake n t last
+  pub before_step-woken : (n t : ℕ) (last : State) → set_wakes w.pause_length faults n t ≡ true → before_step w faults n t last ≡ w.rules.wake n t last
   unfolding before_step
   before_step-woken n t last h = rw h refl
 
-  pub did-awake : (n t : ℕ) → is_up w faults n (t + 1) ≡ true → is_woken w.pause_length faults n (t + 1) ≡ false
+  pub did-awake : (n t : ℕ) → is_up w faults n (t + 1) ≡ true → set_wakes w.pause_length faults n (t + 1) ≡ false
       → did w faults n (t + 1) ≡ w.rules.step n (t + 1) (view w faults n t) (inbox w faults n (t + 1))
   did-awake n t up awake =
       did-up n t up ∙ ap (λ s. w.rules.step n (t + 1) s (inbox w faults n (t + 1))) (before_step-awake n (t + 1) (view w faults n t) awake)
 
-  pub did-woken : (n t : ℕ) → is_up w faults n (t + 1) ≡ true → is_woken w.pause_length faults n (t + 1) ≡ true
+  pub did-woken : (n t : ℕ) → is_up w faults n (t + 1) ≡ true → set_wakes w.pause_length faults n (t + 1) ≡ true
       → did w faults n (t + 1) ≡ w.rules.step n (t + 1) (w.rules.wake n (t + 1) (view w faults n t)) (inbox w faults n (t + 1))
   did-woken n t up woken =
       did-up n t up ∙ ap (λ s. w.rules.step n (t + 1) s (inbox w faults n (t + 1))) (before_step-woken n (t + 1) (view w faults n t) woken)
@@ -116,7 +116,7 @@ module _ {State Note Fact : Type 0} (w : World State Note Fact) (faults : List P
   unfolding letter
   letter-elsewhere past m u n t h = rw (ne_eqb (w.arrival n m t) u h, and-false (not (nat_eq n m))) refl
 
-  pub letter-omitted : (past : Past State Note) (m u n t : ℕ) → is_omitted faults n m t ≡ true → letter w faults past m u n t ≡ None
+  pub letter-omitted : (past : Past State Note) (m u n t : ℕ) → set_omits faults n m t ≡ true → letter w faults past m u n t ≡ None
   unfolding letter
   letter-omitted past m u n t h = rw (h, and-false (nat_eq (w.arrival n m t) u), and-false (not (nat_eq n m))) refl
 
@@ -124,7 +124,7 @@ module _ {State Note Fact : Type 0} (w : World State Note Fact) (faults : List P
   unfolding letter
   letter-silent past m u n t h = rw h (simp cond-same)
 
-  pub letter-comes : (past : Past State Note) (m u n t : ℕ) → (n ≡ m → ⊥) → w.arrival n m t ≡ u → is_omitted faults n m t ≡ false
+  pub letter-comes : (past : Past State Note) (m u n t : ℕ) → (n ≡ m → ⊥) → w.arrival n m t ≡ u → set_omits faults n m t ≡ false
       → letter w faults past m u n t ≡ option_map (λ note. record { from = n; sent = t; note = note }) (note_to (past n t).out m)
   unfolding letter
   letter-comes past m u n t h e k = rw (ne_eqb n m h, eq-eqb (w.arrival n m t) u e, k) refl
@@ -173,7 +173,7 @@ module _ {State Note Fact : Type 0} (w : World State Note Fact) (faults : List P
       ap (cells out) here ∙ ap (λ o. cells o (did w faults n t)) none ∙ sym (did-down n t down)
 
   -- a letter, as code finds it
-  pub letter_is : (m u n t : ℕ) (cell : Stepped State Note) (told : Option Note) → (n ≡ m → ⊥) → w.arrival n m t ≡ u → is_omitted faults n m t ≡ false → cell ≡ did w faults n t → told ≡ note_to cell.out m
+  pub letter_is : (m u n t : ℕ) (cell : Stepped State Note) (told : Option Note) → (n ≡ m → ⊥) → w.arrival n m t ≡ u → set_omits faults n m t ≡ false → cell ≡ did w faults n t → told ≡ note_to cell.out m
       → option_map (λ note. record { from = n; sent = t; note = note }) told ≡ letter w faults (did w faults) m u n t
   letter_is m u n t cell told other arrives kept here is =
       rw (letter-comes (did w faults) m u n t other arrives kept, ← here, ← is) refl
@@ -182,7 +182,7 @@ module _ {State Note Fact : Type 0} (w : World State Note Fact) (faults : List P
   pub record Comes (past : Past State Note) (m u n t : ℕ) (x : Letter Note) : Type 0 where
     pub other : n ≢ m
     pub arrives : w.arrival n m t ≡ u
-    pub kept : is_omitted faults n m t ≡ false
+    pub kept : set_omits faults n m t ≡ false
     pub from : x.from ≡ n
     pub sent : x.sent ≡ t
     pub note : note_to (past n t).out m ≡ Some x.note
@@ -207,20 +207,20 @@ module _ {State Note Fact : Type 0} (w : World State Note Fact) (faults : List P
   pub Comes-letter : (past : Past State Note) (m u n t : ℕ) (x : Letter Note) → letter w faults past m u n t ≡ Some x → Comes w faults past m u n t x
   unfolding letter
   Comes-letter past m u n t x h =
-      let tests = cond-Some (not (nat_eq n m) && (nat_eq (w.arrival n m t) u && not (is_omitted faults n m t))) _ x h in
-      let p = and_parts (not (nat_eq n m)) (nat_eq (w.arrival n m t) u && not (is_omitted faults n m t)) tests.0 in
-      let q = and_parts (nat_eq (w.arrival n m t) u) (not (is_omitted faults n m t)) p.1 in
+      let tests = cond-Some (not (nat_eq n m) && (nat_eq (w.arrival n m t) u && not (set_omits faults n m t))) _ x h in
+      let p = and_parts (not (nat_eq n m)) (nat_eq (w.arrival n m t) u && not (set_omits faults n m t)) tests.0 in
+      let q = and_parts (nat_eq (w.arrival n m t) u) (not (set_omits faults n m t)) p.1 in
       let made = letter-made n t (note_to (past n t).out m) x tests.1 in
       record {
         other = eq-from n m p.0;
         arrives = eqb-true (w.arrival n m t) u q.0;
-        kept = not-true (is_omitted faults n m t) q.1;
+        kept = not-true (set_omits faults n m t) q.1;
         from = made.0;
         sent = made.1;
         note = made.2;
       }
 
-  pub letter-Comes : (past : Past State Note) (m u n t : ℕ) (note : Note) → n ≢ m → w.arrival n m t ≡ u → is_omitted faults n m t ≡ false → note_to (past n t).out m ≡ Some note
+  pub letter-Comes : (past : Past State Note) (m u n t : ℕ) (note : Note) → n ≢ m → w.arrival n m t ≡ u → set_omits faults n m t ≡ false → note_to (past n t).out m ≡ Some note
       → letter w faults past m u n t ≡ Some (record { from = n; sent = t; note = note })
   letter-Comes past m u n t note other arrives kept sends =
       letter-comes w faults past m u n t other arrives kept ∙ rw sends refl
@@ -239,6 +239,6 @@ is_up_by w faults nodes horizon pause_length n t a b c = rw (a, b, c) refl
 
 -- where a point is one of the run, a node is up unless a fault takes it out
 pub is_up_from : {State Note Fact : Type 0} (w : World State Note Fact) (faults : List Parts) (length n t : ℕ) (left : Bool) → n < w.rules.nodes → 1 ≤ t → t ≤ w.horizon → length ≡ w.pause_length
-    → left ≡ (not (is_crashed faults n t) && not (is_paused length faults n t)) → is_up w faults n t ≡ left
+    → left ≡ (not (set_crashes faults n t) && not (set_pauses length faults n t)) → is_up w faults n t ≡ left
 unfolding is_up
 is_up_from w faults length n t left node first last e is = rw (lt-ltb n w.rules.nodes node, le-leb 1 t first, le-leb t w.horizon last, is, e) refl

@@ -3,7 +3,7 @@ use Rattle.std.specs.Prelude.{◌≡◌, ℕ, ◌+◌, ◌*◌, ◌<◌, ◌≤�
 use Rattle.std.specs.List.{list_any}
 use Rattle.lf_faults.specs.declared.fault.Parts.{Parts}
 use Rattle.lf_faults.specs.declared.fault.Parts.TheVariants.{Omit, Crash, Pause}
-use Rattle.lf_faults.specs.Faults.{is_crashed}
+use Rattle.lf_faults.specs.Faults.{set_crashes}
 use Rattle.lf_faults.specs.Allowed.{is_pause_of}
 
 -- the place of a link
@@ -23,7 +23,7 @@ AreLosing faults losing =
 
 -- by node, the step from which it has crashed
 abbrev pub AreCrashes : List Parts → List ℕ → Type 0
-AreCrashes faults crashes = (n t : ℕ) → n < 8 → t ≤ 48 → nat_le (slice_index crashes n) t ≡ is_crashed faults n t
+AreCrashes faults crashes = (n t : ℕ) → n < 8 → t ≤ 48 → nat_le (slice_index crashes n) t ≡ set_crashes faults n t
 
 -- by node, whether it is ever paused
 abbrev pub ArePausing : List Parts → List Bool → Type 0

@@ -3,7 +3,7 @@
 use Rattle.std.specs.Prelude.{ℕ, zero, suc, Bool, not, ◌&&◌, ◌==◌, nat_lt, nat_le, if◌then◌else◌, List, [], ◌++◌, Option, None}
 use Rattle.std.specs.Option.{option_map, option_to_list}
 use Rattle.lf_faults.specs.declared.fault.Parts.{Parts}
-use Rattle.lf_faults.specs.Faults.{is_omitted, is_crashed, is_paused, is_woken}
+use Rattle.lf_faults.specs.Faults.{set_omits, set_crashes, set_pauses, set_wakes}
 use Rattle.lf_sim.specs.declared.letter.Letter.{Letter}
 use Rattle.lf_sim.specs.declared.out.Stepped.{Stepped}
 use Rattle.lf_sim.specs.Machines.{Rules}
@@ -33,16 +33,16 @@ module _ {State Note Fact : Type 0} (w : World State Note Fact) (faults : List P
   unfoldable pub is_up : ℕ → ℕ → Bool
   is_up n t =
       nat_lt n w.rules.nodes && (nat_le 1 t && (nat_le t w.horizon
-      && (not (is_crashed faults n t) && not (is_paused w.pause_length faults n t))))
+      && (not (set_crashes faults n t) && not (set_pauses w.pause_length faults n t))))
 
   -- the state from which n's step at t starts: its last one, or what it wakes with where a pause of it has just ended
   unfoldable pub before_step : ℕ → ℕ → State → State
-  before_step n t last = if is_woken w.pause_length faults n t then w.rules.wake n t last else last
+  before_step n t last = if set_wakes w.pause_length faults n t then w.rules.wake n t last else last
 
   -- what n sent to m at t, as a letter, where that reaches m at u
   unfoldable pub letter : Past State Note → ℕ → ℕ → ℕ → ℕ → Option (Letter Note)
   letter past m u n t =
-      if not (n == m) && ((w.arrival n m t == u) && not (is_omitted faults n m t))
+      if not (n == m) && ((w.arrival n m t == u) && not (set_omits faults n m t))
       then option_map (λ note. record { from = n; sent = t; note = note }) (note_to (past n t).out m)
       else None
 

@@ -2,7 +2,7 @@
 use Rattle.std.specs.Prelude.{◌≡◌, ℕ, ◌+◌, ◌*◌, ◌<◌, ◌≤◌, Bool, not, ◌&&◌, nat_lt, nat_le, List, slice_get, Option, Some}
 use Rattle.std.specs.Option.{option_map}
 use Rattle.lf_faults.specs.declared.fault.Parts.{Parts}
-use Rattle.lf_faults.specs.Faults.{is_crashed, is_paused}
+use Rattle.lf_faults.specs.Faults.{set_crashes, set_pauses}
 use Rattle.lf_latency.specs.Arrivals.{arrival_of}
 use Rattle.lf_sim.specs.declared.machine.Machine.{Ghosts}
 use Rattle.lf_sim.specs.declared.out.Stepped.{Stepped}
@@ -33,7 +33,7 @@ horizon_of run = run.grid.horizon
 -- n takes step t: `is_up`, of plain numbers
 abbrev pub takes_step : ℕ → ℕ → ℕ → List Parts → ℕ → ℕ → Bool
 takes_step nodes horizon pause_length faults n t =
-    nat_lt n nodes && (nat_le 1 t && (nat_le t horizon && (not (is_crashed faults n t) && not (is_paused pause_length faults n t))))
+    nat_lt n nodes && (nat_le 1 t && (nat_le t horizon && (not (set_crashes faults n t) && not (set_pauses pause_length faults n t))))
 
 -- what n did at t, by the run
 abbrev pub cell_of : {M State Note Fact : Type 0} → Run M State Note Fact → ℕ → ℕ → Option (Stepped State Note)

@@ -1,7 +1,7 @@
 //! What a set of faults does, in tables to look it up.
 
 ghost use Rattle.std.specs.Prelude.{◌≡◌, ◌<◌, ◌≤◌, ◌&&◌, not, length};
-ghost use Rattle.lf_faults.specs.Faults.{is_omitted, is_crashed, is_paused, is_woken};
+ghost use Rattle.lf_faults.specs.Faults.{set_omits, set_crashes, set_pauses, set_wakes};
 ghost use Rattle.lf_sim.specs.Effects.{AreLosing, AreCrashes, ArePausing};
 
 use lf_faults::{FaultSet, Parts};
@@ -44,7 +44,7 @@ impl Effects {
     pub(crate) fn omits(&self, from: u32, to: u32, step: u32) -> bool
         requires from { from < 8 }
         requires to { to < 8 }
-        ensures { result ≡ is_omitted self.now.set from to step }
+        ensures { result ≡ set_omits self.now.set from to step }
     {
         if self.losing[(from * 8 + to) as usize] {
             self.set.omits(from, to, step)
@@ -58,7 +58,7 @@ impl Effects {
         requires node { node < 8 }
         requires step { step ≤ 48 }
         requires length { length ≤ 8 }
-        ensures { result ≡ (not (is_crashed self.now.set node step) && not (is_paused length self.now.set node step)) }
+        ensures { result ≡ (not (set_crashes self.now.set node step) && not (set_pauses length self.now.set node step)) }
     {
         if self.crashes[node as usize] <= step {
             return false;
@@ -73,7 +73,7 @@ impl Effects {
     pub(crate) fn wakes(&self, node: u32, step: u32, length: u32) -> bool
         requires node { node < 8 }
         requires length { length ≤ 8 }
-        ensures { result ≡ is_woken length self.now.set node step }
+        ensures { result ≡ set_wakes length self.now.set node step }
     {
         if self.pausing[node as usize] {
             self.set.wakes(node, step, length)

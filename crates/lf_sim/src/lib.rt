@@ -22,5 +22,5 @@ pub use machine::Machine;
 pub use out::{Out, Stepped};
 pub use points::{by_points, same_until};
 pub use record::Run;
-pub use runs::{rerun, run, runs_agree};
+pub use runs::{run_reusing, run, runs_agree};
 pub use setting::Setting;

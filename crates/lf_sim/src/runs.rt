@@ -36,7 +36,7 @@ pub fn run<M: Machine>(
 }
 
 /// The same, in the memory of a run that is no longer needed. It takes none itself.
-pub fn rerun<M: Machine>(setting: &Setting<M>, set: &FaultSet, spent: Run<M>) -> Run<M>
+pub fn run_reusing<M: Machine>(setting: &Setting<M>, set: &FaultSet, spent: Run<M>) -> Run<M>
     ensures run { IsRun (world_of setting.now) result }
     ensures set { set_of result ≡ set.now }
 {

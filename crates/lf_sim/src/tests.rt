@@ -399,7 +399,7 @@ fn plain_runs<M: Machine>(alloc: Global, setting: &Setting<M>) -> Result<u32, Al
     for set in sets() {
         let cells = plain(alloc, setting, &set)?;
         let found = run(alloc, setting, &set)?;
-        spent = rerun(setting, &set, spent);
+        spent = run_reusing(setting, &set, spent);
         runs_agree(setting, &found, &spent);
         if is_plain(setting, &set, &found, &cells) && is_plain(setting, &set, &spent, &cells) {
             count = count.saturating_add(1);

@@ -2,7 +2,7 @@
 use Rattle.std.specs.Prelude.{ℕ, suc, not, ◌||◌, ◌==◌, nat_lt, if◌then◌else◌, List, [], ◌++◌, codes, Option, Some, None}
 use Rattle.std.specs.Fmt.{decimal}
 use Rattle.lf_faults.specs.declared.fault.Parts.{Parts}
-use Rattle.lf_faults.specs.Faults.{is_omitted}
+use Rattle.lf_faults.specs.Faults.{set_omits}
 use Rattle.lf_protocols.specs.declared.fact.Fact.{Fact}
 use Rattle.lf_protocols.specs.declared.note.Note.{Note}
 use Rattle.lf_protocols.specs.declared.state.State.{State}
@@ -30,7 +30,7 @@ module _ (w : World State Note Fact) (faults : List Parts) where
 
   -- what becomes of the note that n sends to m at t: an omission loses it, else nobody receives it, else it arrives
   abbrev pub fate : ℕ → ℕ → ℕ → List ℕ
-  fate t n m = if is_omitted faults n m t then codes "omitted" else fate_at m (w.arrival n m t)
+  fate t n m = if set_omits faults n m t then codes "omitted" else fate_at m (w.arrival n m t)
 
   -- `N>M NOTE ARRIVAL`
   abbrev pub note_line : ℕ → ℕ → ℕ → Note → List ℕ

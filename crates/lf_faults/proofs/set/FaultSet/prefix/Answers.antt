@@ -1,7 +1,7 @@
 use Rattle.std.proofs.Common.{subst}
 use Rattle.lf_faults.specs.Faults.{IsAscending}
 use Rattle.lf_faults.proofs.PlacesLemmas.{first_fills, first_ascending}
-use Rattle.lf_faults.proofs.set.FaultSet.first.Goals as goal
+use Rattle.lf_faults.proofs.set.FaultSet.prefix.Goals as goal
 
 pub invariant_of-result : goal.invariant_of-result
 invariant_of-result c =
