@@ -1,7 +1,6 @@
 -- Nobody tells itself, or a number that isn't a node.
 use Rattle.std.proofs.Common.{◌≡◌, ℕ, ◌≤◌, Bool, true, false, cond, nat_eq}
 use Rattle.std.specs.Prelude.{◌⊎◌, None}
-use Rattle.lf_sim.specs.declared.out.Out.{Out}
 use Rattle.lf_sim.specs.Outs.{note_to, nothing, to_others}
 use Rattle.lf_sim.specs.OutsLemmas.{note_to-nothing, to_others-silent}
 use Rattle.own_machine.specs.Gossip.{told}

@@ -110,25 +110,26 @@ fn keeps(alloc: Global, faults: &[Option<Fault>]) -> Result<Option<bool>, AllocE
     Ok(Some(holds(&setting, &formula, &played)))
 }
 
-/// The word of a verdict.
-fn word(verdict: Result<Option<bool>, AllocError>) -> &'static str {
-    match verdict {
+/// Prints whether node 2 learns the number under these faults.
+fn tell(rt: &HostRuntime, name: &str, faults: &[Option<Fault>]) {
+    let verdict = match keeps(rt.alloc(), faults) {
         Ok(Some(true)) => "reaches",
         Ok(Some(false)) => "misses",
         Ok(None) => "no such setting",
         Err(_) => "out of memory",
-    }
+    };
+    let _printed = println!(rt; "{name}: {verdict}").is_ok();
 }
 
 fn main(rt: HostRuntime) -> ExitCode {
-    let direct = Fault::omit(0, 2, 1);
-    let again = Fault::omit(0, 2, 2);
-    let relayed = Fault::omit(1, 2, 2);
-    let calm = keeps(rt.alloc(), &[]);
-    let lossy = keeps(rt.alloc(), &[direct, again]);
-    let cut_off = keeps(rt.alloc(), &[direct, again, relayed]);
-    for (faults, verdict) in [("no fault", calm), ("two faults", lossy), ("three faults", cut_off)] {
-        let _printed = println!(rt; "{faults}: {}", word(verdict)).is_ok();
-    }
+    // twice the direct note, and then the one that node 1 sends on
+    let lost = [
+        Fault::omit(0, 2, 1),
+        Fault::omit(0, 2, 2),
+        Fault::omit(1, 2, 2),
+    ];
+    tell(&rt, "no fault", &lost[..0]);
+    tell(&rt, "two faults", &lost[..2]);
+    tell(&rt, "three faults", &lost);
     ExitCode::SUCCESS
 }
