@@ -1,5 +1,7 @@
 pub mod Allowing
 pub mod Counts
+mod Deciding
+mod Ending
 pub mod Filling
 pub mod Members
 pub mod Nexts
