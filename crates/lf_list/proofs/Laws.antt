@@ -35,8 +35,3 @@ each-in P (y ∷ ys) a x h = elim (cases_in y ys x h) [
 pub each-from : {X : Type 0} (P : X → Type 0) (xs : List X) → ((x : X) → Contains xs x → P x) → AllByRecursion P xs
 each-from P [] h = tt
 each-from P (y ∷ ys) h = (h y (Contains-first y ys), each-from P ys (λ x k. h x (Contains-more y ys x k)))
-
--- what holds of each element holds of each in a weaker form
-pub each-weaker : {X : Type 0} (P Q : X → Type 0) → ((x : X) → P x → Q x) → (xs : List X) → AllByRecursion P xs → AllByRecursion Q xs
-each-weaker P Q h [] a = tt
-each-weaker P Q h (x ∷ xs) a = (h x a.0, each-weaker P Q h xs a.1)
