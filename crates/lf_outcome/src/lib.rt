@@ -6,6 +6,7 @@ mod formula;
 mod measure;
 mod outcome;
 mod point;
+mod reach;
 mod truth;
 
 pub use equal::same;
@@ -16,6 +17,7 @@ pub use outcome::{
     unblocked_by_nodes,
 };
 pub use point::Point;
+pub use reach::Reach;
 pub use truth::{by_cases, holds};
 
 #[cfg(test)]

@@ -1,5 +1,6 @@
 //! Runs walked by hand, and small formulas.
 
+mod reaches;
 mod traces;
 
 use crate::{
