@@ -8,6 +8,7 @@ mod outcome;
 mod point;
 mod reach;
 mod truth;
+mod words;
 
 pub use equal::same;
 pub use formula::{Formula, Formulas};
@@ -19,6 +20,7 @@ pub use outcome::{
 pub use point::Point;
 pub use reach::Reach;
 pub use truth::{by_cases, holds};
+pub use words::outcome_named;
 
 #[cfg(test)]
 mod tests;

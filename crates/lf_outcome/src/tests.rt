@@ -2,6 +2,7 @@
 
 mod reaches;
 mod traces;
+mod words;
 
 use crate::{
     Formula, Formulas, Outcome, agreement_by_nodes, atoms, delivered_by_nodes, depth,
