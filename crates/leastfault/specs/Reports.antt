@@ -7,10 +7,7 @@ use Rattle.lf_scenario.specs.declared.key.Key.{Key}
 use Rattle.lf_scenario.specs.declared.error.ScenarioError.{ScenarioError}
 use Rattle.lf_scenario.specs.Keys.{key_name}
 use Rattle.lf_scenario.specs.Refusals.{number_of, key_of}
-
--- a line feed ends each line
-abbrev pub line : List ℕ → List ℕ
-line words = words ++ codes "\n"
+use Rattle.lf_trace.specs.Lines.{line}
 
 -- the faults, one on each line
 abbrev pub fault_lines : List Parts → List ℕ

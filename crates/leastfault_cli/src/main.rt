@@ -1,11 +1,11 @@
 //! The program `leastfault`: it reads a scenario and prints the fewest faults that defeat its outcome, or one run.
 //!
-//!     leastfault_cli search FILE
-//!     leastfault_cli run FILE FAULTS
+//!     leastfault search FILE
+//!     leastfault run FILE FAULTS
 //!
 //! FILE is a scenario, and `-` is standard input. FAULTS are faults joined by single commas, and the empty word is none.
 //! With no words it is `search -`. The status is 0 where no allowed set of faults defeats the outcome, where the run
-//! reaches it, and after help; 1 where a set defeats it or the run misses it; 2 where the scenario, the faults or the words
+//! reaches it, and after help or the version; 1 where a set defeats it or the run misses it; 2 where the scenario, the faults or the words
 //! are refused; and 3 where memory ran out or a device failed: standard error then has the line `memory`, `read` or `write`.
 #![tactic(auto)]
 
@@ -54,7 +54,7 @@ fn status(rt: &HostRuntime) -> Result<u8, BytesFault> {
     }
 }
 
-/// Tells why the words ask for nothing: help on standard output, and anything else on standard error.
+/// Tells why the words ask for nothing: help and the version on standard output, and anything else on standard error.
 fn told(rt: &HostRuntime, unasked: &Unasked) -> Result<u8, BytesFault> {
     if unasked.status() == 3 {
         return Err(BytesFault::Memory);

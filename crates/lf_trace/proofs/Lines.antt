@@ -2,6 +2,7 @@
 use Rattle.std.proofs.Common.{◌≡◌, ℕ, ◌+◌, List, ◌++◌, sym, ap, ◌∙◌, codes, append_assoc}
 use Rattle.std.specs.Fmt.{decimal}
 use Rattle.lf_sim.specs.Runs.{each_below}
+use Rattle.lf_trace.specs.Lines.{line}
 use Rattle.lf_sim.proofs.ListsLemmas.{each_below-add-one}
 
 -- one line more
@@ -9,8 +10,15 @@ pub more_lines : (old text new : List ℕ) (f : ℕ → List ℕ) (n : ℕ) → 
 more_lines old text new f n so next =
     next ∙ ap (λ t. t ++ f n) so ∙ append_assoc old (each_below f n) (f n) ∙ ap (λ lines. old ++ lines) (sym (each_below-add-one f n))
 
+-- the last line after all steps
+pub trace_told : (text new word said : List ℕ) (f : ℕ → List ℕ) (n m : ℕ) → text ≡ each_below f n → n ≡ m → new ≡ text ++ line word → word ≡ said
+    → new ≡ each_below f m ++ line said
+trace_told text new word said f n m so all next is =
+    next ∙ ap (λ t. t ++ line word) (so ∙ ap (each_below f) all) ∙ ap (λ last. each_below f m ++ line last) is
+
 -- the three parts of a step
-pub step_told : (old first second new head nodes notes : List ℕ) → first ≡ old ++ head → second ≡ first ++ nodes → new ≡ second ++ notes → new ≡ old ++ (head ++ nodes ++ notes)
+pub step_told : (old first second new head nodes notes : List ℕ) → first ≡ old ++ head → second ≡ first ++ nodes → new ≡ second ++ notes
+    → new ≡ old ++ (head ++ nodes ++ notes)
 step_told old first second new head nodes notes a b c =
     c ∙ ap (λ t. t ++ notes) (b ∙ ap (λ t. t ++ nodes) a ∙ append_assoc old head nodes) ∙ append_assoc old (head ++ nodes) notes
 

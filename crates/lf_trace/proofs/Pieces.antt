@@ -1,5 +1,6 @@
 -- A set of faults, read piece by piece.
-use Rattle.std.proofs.Common.{◌≡◌, ◌≢◌, ℕ, ◌+◌, ◌<◌, ◌≤◌, true, false, eqb, ne_eqb, List, [], ◌∷◌, length, map, Option, Some, None, IsSome, IfSome, length-append, refl, sym, ap, subst, ◌∙◌, inl, inr, arith}
+use Rattle.std.proofs.Common.{◌≡◌, ◌≢◌, ℕ, ◌+◌, ◌<◌, ◌≤◌, true, false, eqb, ne_eqb, List, [], ◌∷◌, length, map, Option, Some, None, IsSome, IfSome}
+use Rattle.std.proofs.Common.{length-append, refl, sym, ap, subst, ◌∙◌, inl, inr, arith}
 use Rattle.std.specs.Prelude.{◌⊎◌}
 use Rattle.std.specs.List.{All, AllByRecursion, Contains, join_with_byte, slice_split}
 use Rattle.std.specs.Iterator.{AlwaysYields}
@@ -49,7 +50,8 @@ later_in f g fs gs a heads x there here = elim (cases_in g gs x here) [
   | inr later ↦ later
 ]
 
-same_members : (fs gs : List Parts) → IsAscending fs → IsAscending gs → ((x : Parts) → Contains fs x → Contains gs x) → ((x : Parts) → Contains gs x → Contains fs x) → fs ≡ gs
+same_members : (fs gs : List Parts) → IsAscending fs → IsAscending gs → ((x : Parts) → Contains fs x → Contains gs x)
+    → ((x : Parts) → Contains gs x → Contains fs x) → fs ≡ gs
 same_members [] [] a b to from = refl
 same_members [] (g ∷ gs) a b to from = absurd (none-in g (from g (Contains-first g gs)))
 same_members (f ∷ fs) [] a b to from = absurd (none-in f (to f (Contains-first f fs)))
@@ -69,12 +71,15 @@ from_inserted f set x h =
 no_cut : (f : Parts) → IsFault f → All (λ b. eqb b 44 ≡ false) (spelling f)
 no_cut f h = All-weaker (λ b. (b ≢ 44) × (b ≢ 10)) (λ b. eqb b 44 ≡ false) (λ b plain. ne_eqb b 44 plain.0) (spelling f) (spelling_bytes f h)
 
-split_joined : (f : Parts) (fs : List Parts) → AllByRecursion IsFault (f ∷ fs) → slice_split (λ b. eqb b 44) (join_with_byte 44 (map spelling (f ∷ fs))) ≡ map spelling (f ∷ fs)
+split_joined : (f : Parts) (fs : List Parts) → AllByRecursion IsFault (f ∷ fs)
+    → slice_split (λ b. eqb b 44) (join_with_byte 44 (map spelling (f ∷ fs))) ≡ map spelling (f ∷ fs)
 split_joined f [] h = slice_split_none (λ b. eqb b 44) (spelling f) (no_cut f h.0)
 split_joined f (g ∷ gs) h =
-    slice_split_at (λ b. eqb b 44) (spelling f) 44 (join_with_byte 44 (map spelling (g ∷ gs))) (no_cut f h.0) refl ∙ ap (λ ps. spelling f ∷ ps) (split_joined g gs h.1)
+    slice_split_at (λ b. eqb b 44) (spelling f) 44 (join_with_byte 44 (map spelling (g ∷ gs))) (no_cut f h.0) refl
+    ∙ ap (λ ps. spelling f ∷ ps) (split_joined g gs h.1)
 
-split_named : (words : List ℕ) (fs : List Parts) → 0 < length words → AllByRecursion IsFault fs → words ≡ join_with_byte 44 (map spelling fs) → slice_split (λ b. eqb b 44) words ≡ map spelling fs
+split_named : (words : List ℕ) (fs : List Parts) → 0 < length words → AllByRecursion IsFault fs → words ≡ join_with_byte 44 (map spelling fs)
+    → slice_split (λ b. eqb b 44) words ≡ map spelling fs
 split_named words [] some h joined = absurd (omega (arith, some, ap length joined))
 split_named words (f ∷ fs) some h joined = ap (slice_split (λ b. eqb b 44)) joined ∙ split_joined f fs h
 

@@ -10,10 +10,7 @@ use Rattle.lf_protocols.specs.Words.{note_word, state_text}
 use Rattle.lf_sim.specs.Runs.{World, each_below, is_up, sent, view}
 use Rattle.lf_outcome.specs.declared.formula.Formula.{Formula}
 use Rattle.lf_outcome.specs.Truth.{reaches}
-
--- a line feed ends each line
-abbrev pub line : List ℕ → List ℕ
-line words = words ++ codes "\n"
+use Rattle.lf_trace.specs.Lines.{line}
 
 module _ (w : World State Note Fact) (faults : List Parts) where
   -- a node's state after the step, or `down` where it isn't up
@@ -46,11 +43,17 @@ module _ (w : World State Note Fact) (faults : List Parts) where
   abbrev pub slot_line : ℕ → ℕ → ℕ → List ℕ
   slot_line t n m = if n == m then [] else sent_line t n m (sent w faults n m t)
 
+  -- the lines of what n sends at t, by receiver
+  abbrev pub sender_lines : ℕ → ℕ → List ℕ
+  sender_lines t n = each_below (slot_line t n) w.rules.nodes
+
+  -- the lines of what is sent at t, by sender
+  abbrev pub note_lines : ℕ → List ℕ
+  note_lines t = each_below (sender_lines t) w.rules.nodes
+
   -- `step T`; then the nodes, in order; then the notes, by sender and then by receiver
   abbrev pub step_lines : ℕ → List ℕ
-  step_lines t =
-      codes "step " ++ line (decimal t) ++ each_below (node_line t) w.rules.nodes
-      ++ each_below (λ n. each_below (slot_line t n) w.rules.nodes) w.rules.nodes
+  step_lines t = codes "step " ++ line (decimal t) ++ each_below (node_line t) w.rules.nodes ++ note_lines t
 
   abbrev pub end_word : Formula Fact → List ℕ
   end_word formula = if reaches w faults formula then codes "reaches" else codes "misses"

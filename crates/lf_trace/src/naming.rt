@@ -27,5 +27,6 @@ pub fn read_faults(words: &str) -> Option<FaultSet>
 fn added(set: &FaultSet, piece: &str) -> Option<FaultSet>
     ensures { (larger : List Parts) → ((result ≡ Some larger) ↔ Adds piece.now set.now larger) }
 {
-    set.insert(read_fault(piece)?)
+    let fault = read_fault(piece)?;
+    set.insert(fault)
 }

@@ -1,5 +1,6 @@
 -- A list of texts in the order of the words: one word on.
-use Rattle.std.proofs.Common.{◌≡◌, ◌≢◌, ◌↔◌, ◌⊎◌, ◌<◌, ◌≤◌, ◌+◌, ℕ, List, [], ◌∷◌, Bor, String, Global, inl, inr, subst, map, drop, length, slice_index_or, zero, suc, IsTrue, nat_eq, arith}
+use Rattle.std.proofs.Common.{◌≡◌, ◌≢◌, ◌↔◌, ◌⊎◌, ◌<◌, ◌≤◌, ◌+◌, ℕ, List, [], ◌∷◌, Bor, String, Global, inl, inr, subst, map, drop, length}
+use Rattle.std.proofs.Common.{slice_index_or, zero, suc, IsTrue, nat_eq, arith}
 use Rattle.std.proofs.lemmas.Bool.Decides.{nat_tests}
 use Rattle.std.specs.String.{string_bytes}
 use Rattle.std.proofs.lemmas.List.{drop_more}

@@ -75,6 +75,14 @@ pub short_help_fault : (words : List Text) → fault_of program (codes "-h" ∷ 
 unfolding clap_on_literals
 short_help_fault words = refl
 
+pub version_fault : (words : List Text) → fault_of program (codes "--version" ∷ words) ≡ kind.DisplayVersion ∷ []
+unfolding clap_on_literals
+version_fault words = refl
+
+pub short_version_fault : (words : List Text) → fault_of program (codes "-V" ∷ words) ≡ kind.DisplayVersion ∷ []
+unfolding clap_on_literals
+short_version_fault words = refl
+
 pub unknown_fault : (word : Text) (words : List Text) → IsTaken word → bytes_eq (codes "search") word ≡ false → bytes_eq (codes "run") word ≡ false
     → fault_of program (word ∷ words) ≡ kind.UnknownArgument ∷ kind.InvalidSubcommand ∷ []
 unfolding clap_on_literals

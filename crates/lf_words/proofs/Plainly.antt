@@ -1,5 +1,6 @@
 -- Plain words ask for just what they say.
-use Rattle.std.proofs.Common.{◌≡◌, ◌<◌, ◌&&◌, ◌||◌, not, ◌∙◌, ℕ, List, [], ◌∷◌, Option, Some, None, String, Global, inl, inr, refl, sym, ap, subst, true, false, codes, map, option_map, slice_index, arith}
+use Rattle.std.proofs.Common.{◌≡◌, ◌<◌, ◌&&◌, ◌||◌, not, ◌∙◌, ℕ, List, [], ◌∷◌, Option, Some, None, String, Global, inl, inr, refl, sym, ap, subst}
+use Rattle.std.proofs.Common.{true, false, codes, map, option_map, slice_index, arith}
 use Rattle.std.specs.Prelude.{Bool, unwrap_or, ◌⊎◌}
 use Rattle.std.specs.Str.{bytes_eq}
 use Rattle.std.specs.String.{string_bytes}
@@ -8,11 +9,13 @@ use Rattle.clap.specs.declared.error.kind.ErrorKind.{ErrorKind}
 use Rattle.clap.specs.declared.error.kind.ErrorKind.TheVariants as kind
 use Rattle.clap.specs.Words.{Kinds, Row, Text, fault_of, subcommand_of}
 use Rattle.lf_words.specs.Commands.{program}
-use Rattle.lf_words.specs.Plain.{asks_help, is_plain, is_plain_command, is_unknown}
+use Rattle.lf_words.specs.Plain.{asks_help, asks_version, is_plain, is_plain_command, is_unknown}
+use Rattle.lf_words.specs.Statuses.{status_of}
 use Rattle.lf_words.specs.Words.{Asks, HasStatus, IsAskedIn, IsRefusal, texts_of}
 use Rattle.lf_words.specs.declared.types.Asked.{Asked}
 use Rattle.lf_words.specs.declared.types.Asked.TheVariants as asked
-use Rattle.lf_words.proofs.Plain.{IsTaken, is_taken, named_both, named_file, run_fault, run_names, search_fault, search_names, help_fault, short_help_fault, unknown_fault}
+use Rattle.lf_words.proofs.Plain.{IsTaken, is_taken, named_both, named_file, run_fault, run_names, search_fault, search_names, help_fault}
+use Rattle.lf_words.proofs.Plain.{short_help_fault, short_version_fault, unknown_fault, version_fault}
 
 abbrev Both : Type 0
 Both = Text × Option Text × Option Text
@@ -147,6 +150,13 @@ help_is (word ∷ words) help = elim (either (bytes_eq word (codes "--help")) (b
   | inr short ↦ rw ((bytes_eq-Decides word (codes "-h")).0 short) (short_help_fault words)
 ]
 
+pub version_is : (words : List Text) → asks_version words ≡ true → fault_of program words ≡ kind.DisplayVersion ∷ []
+version_is [] version = absurd (no_truth version)
+version_is (word ∷ words) version = elim (either (bytes_eq word (codes "--version")) (bytes_eq word (codes "-V")) version) [
+  | inl long ↦ rw ((bytes_eq-Decides word (codes "--version")).0 long) (version_fault words)
+  | inr short ↦ rw ((bytes_eq-Decides word (codes "-V")).0 short) (short_version_fault words)
+]
+
 pub unknown_is : (words : List Text) → is_unknown words ≡ true → fault_of program words ≡ kind.UnknownArgument ∷ kind.InvalidSubcommand ∷ []
 unknown_is [] unknown = absurd (no_truth unknown)
 unknown_is (word ∷ words) unknown =
@@ -161,13 +171,14 @@ kinds_count (kind ∷ kinds) = 1
 pub takes_none : (k : ErrorKind) (ks : Kinds) (kinds : Kinds) → kinds ≡ k ∷ ks → kinds ≡ [] → ⊥
 takes_none k ks kinds some none = apart 0 1 (omega arith) (ap kinds_count (sym none ∙ some))
 
-pub help_status : (words : List Text) (n : ℕ) → asks_help words ≡ true → IsRefusal words n → (n ≡ 0) ⊎ (n ≡ 3)
-help_status words n help (inl three) = inr three
-help_status words n help (inr (inl kind)) = elim (subst (λ (kinds : Kinds). HasStatus kinds n) (help_is words help) kind) [
+-- words that are refused for one thing alone have its status
+pub one_status : (words : List Text) (k : ErrorKind) (n : ℕ) → fault_of program words ≡ k ∷ [] → IsRefusal words n → (n ≡ status_of k) ⊎ (n ≡ 3)
+one_status words k n alone (inl three) = inr three
+one_status words k n alone (inr (inl kind)) = elim (subst (λ (kinds : Kinds). HasStatus kinds n) alone kind) [
   | inl is ↦ inl is
   | inr none ↦ absurd none
 ]
-help_status words n help (inr (inr nothing)) = absurd (takes_none _ _ _ (help_is words help) nothing.1)
+one_status words k n alone (inr (inr nothing)) = absurd (takes_none _ _ _ alone nothing.1)
 
 pub unknown_status : (words : List Text) (n : ℕ) → is_unknown words ≡ true → IsRefusal words n → (n ≡ 2) ⊎ (n ≡ 3)
 unknown_status words n unknown (inl three) = inr three

@@ -19,10 +19,14 @@ faults = record (new_rule (codes "faults")) { required = true; value_names = 1 }
 abbrev pub run : App
 run = with_rule (with_rule (new_app (codes "run")) file) faults
 
--- the words are all after the program's name, there is no command `help`, and one command has to be named
+-- the words are all after the program's name, there is a version and no command `help`, and one command has to be named
 abbrev pub plain : App
-plain = on_top (λ s. record s { no_binary_name = true; disable_help_subcommand = true; subcommand_required = true })
-    (new_app (codes "leastfault"))
+plain = on_top (λ s. record s {
+  has_version = true;
+  no_binary_name = true;
+  disable_help_subcommand = true;
+  subcommand_required = true;
+}) (new_app (codes "leastfault"))
 
 abbrev pub program : App
 program = with_subcommand (with_subcommand plain search.top) run.top

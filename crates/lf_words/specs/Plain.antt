@@ -20,6 +20,11 @@ abbrev pub asks_help : List Text → Bool
 asks_help [] = false
 asks_help (word ∷ words) = bytes_eq word (codes "--help") || bytes_eq word (codes "-h")
 
+-- the first word asks for the version
+abbrev pub asks_version : List Text → Bool
+asks_version [] = false
+asks_version (word ∷ words) = bytes_eq word (codes "--version") || bytes_eq word (codes "-V")
+
 -- the first word is no command, and is plain
 abbrev pub is_unknown : List Text → Bool
 is_unknown [] = false

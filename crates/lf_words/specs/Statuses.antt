@@ -3,7 +3,7 @@ use Rattle.std.specs.Prelude.{◌==◌, ◌||◌, ℕ, Bool}
 use Rattle.clap.specs.declared.error.kind.ErrorKind.{ErrorKind}
 use Rattle.clap.specs.declared.error.kind.ErrorKind.TheVariants as kind
 
--- help, wrong words, want of memory
+-- help or the version, wrong words, want of memory
 abbrev pub is_status : ℕ → Bool
 is_status n = n == 0 || n == 2 || n == 3
 

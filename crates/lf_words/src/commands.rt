@@ -3,10 +3,13 @@
 ghost use Rattle.std.specs.Prelude.{◌≡◌, IfOk, false};
 ghost use Rattle.clap.specs.Words.{app_of, rule_of};
 ghost use Rattle.clap.specs.declared.builder.command.Command.TheViews.{out-Command};
-ghost use Rattle.lf_words.specs.Commands.{file, program, run, search};
+ghost use Rattle.lf_words.specs.Commands.{file, plain, program, run, search};
 
 use clap::{Arg, Command};
 use std::alloc::{AllocError, Global};
+
+/// The version of the program.
+const VERSION: &str = "0.1.0";
 
 /// What the program does.
 const ABOUT: &str =
@@ -18,7 +21,7 @@ const WORDS: &str = "Words:
   FAULTS  faults joined by commas, as in 'omit 0>1 @2,crash 2 @3'; the empty word '' for none
 
 Exit status:
-  0  no allowed set of faults misses the outcome, or the run reaches it, or help was asked for
+  0  no allowed set of faults misses the outcome, or the run reaches it, or help or the version was asked for
   1  a set of faults that misses the outcome was found, or the run misses it
   2  the scenario or the faults were refused, or the words were wrong
   3  memory was wanting, or a device failed";
@@ -34,14 +37,22 @@ pub(crate) fn program<'a>(alloc: Global) -> Result<Command<'a>, AllocError>
 fn unnamed<'a>(alloc: Global) -> Result<Command<'a>, AllocError>
     ensures { IfOk result (λ c. app_of c ≡ program) }
 {
+    plain(alloc)
+        .subcommand(search(alloc)?)?
+        .subcommand(run(alloc)?)
+}
+
+/// The command line without its commands.
+fn plain<'a>(alloc: Global) -> Command<'a>
+    ensures { app_of result ≡ plain }
+{
     Command::new(alloc, "leastfault")
+        .version(VERSION)
         .no_binary_name(true)
         .disable_help_subcommand(true)
         .subcommand_required(true)
         .about(ABOUT)
         .after_help(WORDS)
-        .subcommand(search(alloc)?)?
-        .subcommand(run(alloc)?)
 }
 
 /// The command `search FILE`.
@@ -49,7 +60,7 @@ fn search<'a>(alloc: Global) -> Result<Command<'a>, AllocError>
     ensures { IfOk result (λ c. (app_of c ≡ search) × ((out-Command c).has_globals ≡ false)) }
 {
     Command::new(alloc, "search")
-        .about("Prints the fewest faults that miss the outcome of the scenario FILE, or none")
+        .about("Prints the fewest faults with which the scenario FILE misses its outcome, or none")
         .arg(file(alloc))
 }
 

@@ -107,9 +107,8 @@ fn wrong_words_are_refused(rt: HostRuntime) {
         ["run", "a", "-x"].as_slice(),
         ["search", "--file", "a"].as_slice(),
         ["search", "a", "--workers", "2"].as_slice(),
-        ["--version"].as_slice(),
-        ["-V"].as_slice(),
         ["search", "--version"].as_slice(),
+        ["run", "-V"].as_slice(),
     ] {
         match read(rt.alloc(), words) {
             Ok(asked) => assert!(rt; false, "{words:?} ask for {asked:?}"),
@@ -140,6 +139,24 @@ fn help_is_no_error(rt: HostRuntime) {
                 assert_eq!(rt; unasked.status(), 0, "of {words:?}");
                 assert!(rt; !unasked.is_error());
                 assert!(rt; unasked.text().contains("Usage: leastfault "));
+            }
+        }
+    }
+}
+
+#[test]
+fn the_version_is_no_error(rt: HostRuntime) {
+    for words in [
+        ["--version"].as_slice(),
+        ["-V"].as_slice(),
+        ["--version", "search"].as_slice(),
+    ] {
+        match read(rt.alloc(), words) {
+            Ok(asked) => assert!(rt; false, "{words:?} ask for {asked:?}"),
+            Err(unasked) => {
+                assert_eq!(rt; unasked.status(), 0, "of {words:?}");
+                assert!(rt; !unasked.is_error());
+                assert_eq!(rt; unasked.text(), "leastfault 0.1.0\n");
             }
         }
     }

@@ -17,7 +17,7 @@ pub struct Unasked {
 impl Unasked {
     ghost use Rattle.lf_words.specs.Texts.{text_of};
 
-    /// The status to exit with: 0 where help was asked for, 2 for wrong words, 3 for want of memory.
+    /// The status to exit with: 0 where help or the version was asked for, 2 for wrong words, 3 for want of memory.
     pub fn status(&self) -> u8
         ensures value { result ≡ self.now.status }
         ensures known { is_status result ≡ true }
@@ -36,7 +36,7 @@ impl Unasked {
         }
     }
 
-    /// Whether the text goes to standard error. Help goes to standard output.
+    /// Whether the text goes to standard error. Help and the version go to standard output.
     pub fn is_error(&self) -> bool
         ensures { IsTrue result ↔ (self.now.status ≢ 0) }
     {

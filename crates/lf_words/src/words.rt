@@ -3,7 +3,7 @@
 ghost use Rattle.std.specs.Prelude.{◌≡◌, ◌≢◌, ◌↔◌, ◌⊎◌, IsTrue, IfOk, IfErr, IsErrAnd, MatchResult, [], ◌∷◌, map, option_map, codes, true};
 ghost use Rattle.std.specs.String.{string_bytes};
 ghost use Rattle.clap.specs.Words.{first_of, found_of, kind_of, rows_of, subcommand_rows_of};
-ghost use Rattle.lf_words.specs.Plain.{asks_help, is_plain_command, is_unknown};
+ghost use Rattle.lf_words.specs.Plain.{asks_help, asks_version, is_plain_command, is_unknown};
 ghost use Rattle.lf_words.specs.Statuses.{is_status, status_of};
 ghost use Rattle.lf_words.specs.Words.{Asks, IsAnswer, IsAskedBy, IsAskedIn, IsPartOf, IsRefusal, texts_of};
 
@@ -23,6 +23,8 @@ pub fn asked(alloc: Global, words: &[String]) -> Result<Asked, Unasked>
     ensures plain { is_plain_command (map string_bytes words.now) ≡ true → MatchResult result
         (λ a. texts_of a ≡ map string_bytes words.now) (λ u. u.status ≡ 3) }
     ensures help { asks_help (map string_bytes words.now) ≡ true → IsErrAnd result
+        (λ u. (u.status ≡ 0) ⊎ (u.status ≡ 3)) }
+    ensures version { asks_version (map string_bytes words.now) ≡ true → IsErrAnd result
         (λ u. (u.status ≡ 0) ⊎ (u.status ≡ 3)) }
     ensures unknown { is_unknown (map string_bytes words.now) ≡ true → IsErrAnd result
         (λ u. (u.status ≡ 2) ⊎ (u.status ≡ 3)) }

@@ -2,7 +2,8 @@ use Rattle.std.proofs.Common.{◌≡◌, ◌++◌, sym, ap, ◌∙◌, string_by
 use Rattle.std.specs.Fmt.{decimal}
 use Rattle.std.proofs.lemmas.Result.{IfOk-weaker}
 use Rattle.lf_scenario.specs.Refusals.{number_of}
-use Rattle.leastfault.specs.Reports.{key_words, line, refusal_of}
+use Rattle.lf_trace.specs.Lines.{line}
+use Rattle.leastfault.specs.Reports.{key_words, refusal_of}
 use Rattle.leastfault.proofs.replies.refusal.Goals as goal
 
 pub returns-in-None : goal.returns-in-None

@@ -2,7 +2,8 @@ use Rattle.std.proofs.Common.{◌≡◌, ◌≢◌, ◌+◌, rules, arith, slice
 use Rattle.std.specs.String.{string_bytes}
 use Rattle.lf_words.proofs.Parts.{met, other, over, chain, at_end}
 use Rattle.lf_words.proofs.words.are_part_of.Goals as goal
-use Rattle.lf_words.proofs.words.are_part_of.Goals.{then-met-texts+then-eq, else-met-texts, else-met-texts-via-then-met-texts+else-eq, else-met-texts-via-else-met-texts}
+use Rattle.lf_words.proofs.words.are_part_of.Goals.{then-met-texts+then-eq, else-met-texts, else-met-texts-via-then-met-texts+else-eq}
+use Rattle.lf_words.proofs.words.are_part_of.Goals.{else-met-texts-via-else-met-texts}
 
 abbrev none : Bor (List ℕ)
 none = record { ref_ptr = (0, 0); now = [] }

@@ -1,7 +1,8 @@
 use Rattle.std.proofs.Common.{map, inr, rules}
 use Rattle.std.specs.String.{string_bytes}
+use Rattle.clap.specs.declared.error.kind.ErrorKind.TheVariants as kind
 use Rattle.clap.specs.Words.{app_of, kind_of, subcommand_rows_of}
-use Rattle.lf_words.proofs.Plainly.{asks_plainly, refused_plainly, help_is, help_status, takes_none, unknown_is, unknown_status}
+use Rattle.lf_words.proofs.Plainly.{asks_plainly, refused_plainly, help_is, one_status, takes_none, unknown_is, unknown_status, version_is}
 use Rattle.lf_words.proofs.Reading.{asks, asks_nothing, command_is, fault_is_none, is_refusal, kinds_are}
 use Rattle.lf_words.proofs.words.asked.Goals as goal
 
@@ -55,12 +56,28 @@ returns-in-Some-clause-unknown c unknown =
 
 pub returns-in-Ok-clause-help : goal.returns-in-Ok-clause-help
 returns-in-Ok-clause-help c help =
-    help_status (map string_bytes c.args.words.now) c.in_ok-unread-in-None.field-0.status help (returns-in-Ok-clause-words c (search rules))
+    one_status (map string_bytes c.args.words.now) kind.DisplayHelp c.in_ok-unread-in-None.field-0.status (help_is (map string_bytes c.args.words.now) help)
+    (returns-in-Ok-clause-words c (search rules))
 
 pub returns-clause-help : goal.returns-clause-help
 returns-clause-help c help =
-    help_status (map string_bytes c.args.words.now) c.in_ok-refused-in-Err.field-0.status help (returns-clause-words c (search rules))
+    one_status (map string_bytes c.args.words.now) kind.DisplayHelp c.in_ok-refused-in-Err.field-0.status (help_is (map string_bytes c.args.words.now) help)
+    (returns-clause-words c (search rules))
 
 pub returns-clause-unknown : goal.returns-clause-unknown
 returns-clause-unknown c unknown =
     unknown_status (map string_bytes c.args.words.now) c.in_ok-refused-in-Err.field-0.status unknown (returns-clause-words c (search rules))
+
+pub returns-in-Some-clause-version : goal.returns-in-Some-clause-version
+returns-in-Some-clause-version c version =
+    takes_none _ _ _ (version_is (map string_bytes c.args.words.now) version) (returns-in-Some-clause-words c (search rules)).0
+
+pub returns-in-Ok-clause-version : goal.returns-in-Ok-clause-version
+returns-in-Ok-clause-version c version =
+    one_status (map string_bytes c.args.words.now) kind.DisplayVersion c.in_ok-unread-in-None.field-0.status (version_is (map string_bytes c.args.words.now) version)
+    (returns-in-Ok-clause-words c (search rules))
+
+pub returns-clause-version : goal.returns-clause-version
+returns-clause-version c version =
+    one_status (map string_bytes c.args.words.now) kind.DisplayVersion c.in_ok-refused-in-Err.field-0.status (version_is (map string_bytes c.args.words.now) version)
+    (returns-clause-words c (search rules))

@@ -2,10 +2,10 @@ use Rattle.std.proofs.Common.{◌≡◌, ◌++◌, string_bytes}
 use Rattle.lf_sim.specs.Runs.{each_below}
 use Rattle.lf_sim.specs.Settings.{set_of, world_of}
 use Rattle.lf_trace.specs.Traces.{slot_line}
-use Rattle.lf_trace.proofs.telling.push_notes_of.Given as goal
+use Rattle.lf_trace.proofs.telling.Step.push_notes_of.Given as goal
 
 -- the lines of the receivers so far
 abbrev pub invariant-receivers : goal.invariant-receivers
 invariant-receivers l =
     string_bytes l.text
-    ≡ string_bytes l.initial.text ++ each_below (slot_line (world_of l.setting) (set_of l.run) l.step l.from) l.to
+    ≡ string_bytes l.initial.text ++ each_below (slot_line (world_of l.self.setting.now) (set_of l.self.run.now) l.self.number l.from) l.to
