@@ -2,7 +2,7 @@
 use Rattle.std.proofs.Common.{◌≡◌, ℕ, ◌+◌, ◌<◌, ◌≤◌, Bool, true, false, cond, List, [], ◌∷◌, refl, ◌∙◌, ap, arith, inl, inr, nat_eq, eq-eqb}
 use Rattle.std.specs.Prelude.{◌⊎◌, ◌≢◌, ◌↔◌, ◌&&◌, nat_le, Some}
 use Rattle.std.proofs.lemmas.List.Folds.{fold_stays}
-use Rattle.std.proofs.lemmas.Bool.{cases_lt, ne_eqb, lt-ltb, le-ltb, le-leb, leb-true, eqb-true}
+use Rattle.std.proofs.lemmas.Bool.{and_parts, cases_lt, ne_eqb, lt-ltb, le-ltb, le-leb, leb-true, eqb-true}
 use Rattle.lf_sim.specs.declared.letter.Letter.{Letter}
 use Rattle.lf_sim.specs.Outs.{note_to, nothing, to_others, note_to_other}
 use Rattle.lf_sim.specs.OutsLemmas.{note_to-nothing, note_to-notes_by, to_others-silent}
@@ -53,14 +53,18 @@ retry_hear_all-had : (before : Holding) (xs : List (Letter Note)) → before ≡
 retry_hear_all-had before xs e = ap (λ state. retry_hear_all state xs) e ∙ retry_hear_all-Has xs
 
 pub retry_hear_all-has : (before : Holding) (xs : List (Letter Note)) → (retry_hear_all before xs ≡ holdings.Has) ↔ ((before ≡ holdings.Has) ⊎ BringsData xs)
-retry_hear_all-has before xs = (retry_hear_all-from before xs, λ h. elim h [ inl had ↦ retry_hear_all-had before xs had | inr b ↦ retry_hear_all-brings before xs b ])
+retry_hear_all-has before xs = (
+  retry_hear_all-from before xs,
+  λ h. elim h [ inl had ↦ retry_hear_all-had before xs had | inr b ↦ retry_hear_all-brings before xs b ],
+)
 
 -- redundant: letters change nothing at a node that has the data, and the first that brings it to another counts
 redundant_hear-Has : (sent : ℕ) (note : Note) → redundant_hear (relays.Has sent) note ≡ relays.Has sent
 redundant_hear-Has sent note = refl
 
 pub redundant_hear_all-Has : (sent : ℕ) (xs : List (Letter Note)) → redundant_hear_all (relays.Has sent) xs ≡ relays.Has sent
-redundant_hear_all-Has sent xs = fold_stays (λ before (letter : Letter Note). redundant_hear before letter.note) (relays.Has sent) (λ letter. redundant_hear-Has sent letter.note) xs
+redundant_hear_all-Has sent xs =
+    fold_stays (λ before (letter : Letter Note). redundant_hear before letter.note) (relays.Has sent) (λ letter. redundant_hear-Has sent letter.note) xs
 
 redundant_hear-Payload : (note : Note) → note ≡ Payload → redundant_hear relays.Lacks note ≡ relays.Has 0
 redundant_hear-Payload note e = ap (redundant_hear relays.Lacks) e
@@ -88,10 +92,6 @@ redundant_hear_all-waits (x ∷ xs) never = elim (redundant_hear-cases x.note) [
 ]
 
 -- retry: who sends
-and_parts : (a b : Bool) → (a && b) ≡ true → (a ≡ true) × (b ≡ true)
-and_parts true b e = (refl, e)
-and_parts false b e = absurd (cc)
-
 chosen-parts : (nodes node to : ℕ) (sends : Bool) → note_to (cond sends (to_others nodes node Payload) nothing) to ≡ Some Payload →
     (sends ≡ true) × (note_to (to_others nodes node Payload) to ≡ Some Payload)
 chosen-parts nodes node to true e = (refl, e)

@@ -1,5 +1,4 @@
 mod LettersLemmas
 mod DeliveriesLemmas
 mod BlocksLemmas
-mod NodesLemmas
 mod WordsLemmas

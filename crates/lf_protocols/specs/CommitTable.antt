@@ -1,5 +1,6 @@
 -- The rules that two_phase and three_phase have in common. Node 0 asks, and the nodes from 1 on, the participants, vote.
-use Rattle.std.specs.Prelude.{ℕ, Bool, true, false, not, ◌==◌, if◌then◌else◌}
+use Rattle.std.specs.Prelude.{ℕ, Bool, true, false, not, ◌==◌, if◌then◌else◌, List, fold, slice_index_or}
+use Rattle.lf_sim.specs.declared.letter.Letter.{Letter}
 use Rattle.lf_sim.specs.declared.out.Stepped.{Stepped}
 use Rattle.lf_protocols.specs.declared.note.Note.{Note}
 use Rattle.lf_protocols.specs.declared.note.Note.TheVariants as notes
@@ -74,6 +75,15 @@ commit_participate t phases.Prepared notes.Commit vote turn = in_phase phases.Co
 commit_participate t phases.Idle notes.Abort vote turn = in_phase phases.Aborted turn
 commit_participate t phases.Prepared notes.Abort vote turn = in_phase phases.Aborted turn
 commit_participate t phase note vote turn = turn
+
+-- a step of a commit, with each node's vote in its place. Node 0 does what it does by the step's number, hears the letters
+-- in inbox order, and ends; a participant hears them and waits. How they hear, end and wait is each protocol's own
+abbrev pub commit_step : (Turn → Letter Note → Turn) → (Turn → Turn) → (Bool → Turn → Letter Note → Turn) → (Turn → Turn) →
+    ℕ → List Bool → ℕ → ℕ → Progress → List (Letter Note) → Turn
+commit_step hear end join wait nodes votes node t own inbox =
+    if node == 0
+    then end (fold hear (commit_open nodes t own) inbox)
+    else wait (fold (join (slice_index_or votes node true)) (begin own) inbox)
 
 abbrev pub is_committed : Phase → Bool
 is_committed phases.Committed = true

@@ -1,5 +1,5 @@
 -- The table of three_phase, rule by rule. The rules that it shares with two_phase stand in CommitTable.
-use Rattle.std.specs.Prelude.{ℕ, Bool, true, ◌==◌, ◌||◌, if◌then◌else◌, List, fold, slice_index_or}
+use Rattle.std.specs.Prelude.{ℕ, Bool, ◌||◌, if◌then◌else◌, List}
 use Rattle.lf_sim.specs.declared.letter.Letter.{Letter}
 use Rattle.lf_protocols.specs.declared.note.Note.{Note}
 use Rattle.lf_protocols.specs.declared.note.Note.TheVariants as notes
@@ -7,8 +7,8 @@ use Rattle.lf_protocols.specs.declared.state.Progress.{Progress}
 use Rattle.lf_protocols.specs.declared.state.Phase.{Phase}
 use Rattle.lf_protocols.specs.declared.state.Phase.TheVariants as phases
 use Rattle.lf_protocols.specs.NodeSets.{no_nodes, with_node, has_participants}
-use Rattle.lf_protocols.specs.Turns.{begin, tell, tell_all, is_time_out}
-use Rattle.lf_protocols.specs.CommitTable.{Turn, in_phase, commit_enter, commit_announce, commit_open, commit_poll, commit_end_poll, commit_participate}
+use Rattle.lf_protocols.specs.Turns.{tell, tell_all, is_time_out}
+use Rattle.lf_protocols.specs.CommitTable.{Turn, in_phase, commit_enter, commit_announce, commit_poll, commit_end_poll, commit_participate, commit_step}
 
 -- node 0 and a letter, by phase, sender and note
 abbrev pub three_phase_hear : Phase → ℕ → Note → Turn → Turn
@@ -49,21 +49,10 @@ three_phase_wait patience t phases.Precommitted turn =
     if is_time_out patience t turn.state.since then in_phase phases.Committed turn else turn
 three_phase_wait patience t phase turn = turn
 
--- a step of node 0: what it does by the step's number, the letters in inbox order, and then what comes after the inbox
-abbrev pub three_phase_lead : ℕ → ℕ → ℕ → Progress → List (Letter Note) → Turn
-three_phase_lead nodes patience t own inbox =
-    let heard = fold (λ turn letter. three_phase_hear turn.state.phase letter.from letter.note turn) (commit_open nodes t own) inbox in
-    three_phase_end nodes patience t heard.state.phase heard
-
--- a step of a participant: the letters in inbox order, and then what comes after the inbox
-abbrev pub three_phase_follow : ℕ → ℕ → Bool → Progress → List (Letter Note) → Turn
-three_phase_follow patience t vote own inbox =
-    let heard = fold (λ turn letter. three_phase_join t turn.state.phase letter.note vote turn) (begin own) inbox in
-    three_phase_wait patience t heard.state.phase heard
-
--- a step, with each node's vote in its place
+-- a step
 abbrev pub three_phase_step : ℕ → ℕ → List Bool → ℕ → ℕ → Progress → List (Letter Note) → Turn
 three_phase_step nodes patience votes node t own inbox =
-    if node == 0
-    then three_phase_lead nodes patience t own inbox
-    else three_phase_follow patience t (slice_index_or votes node true) own inbox
+    commit_step
+    (λ turn letter. three_phase_hear turn.state.phase letter.from letter.note turn) (λ turn. three_phase_end nodes patience t turn.state.phase turn)
+    (λ vote turn letter. three_phase_join t turn.state.phase letter.note vote turn) (λ turn. three_phase_wait patience t turn.state.phase turn)
+    nodes votes node t own inbox

@@ -1,7 +1,8 @@
 //! What two_phase and three_phase have in common.
 
 ghost use Rattle.std.specs.Prelude.{◌≡◌};
-ghost use Rattle.lf_protocols.specs.CommitTable.{commit_start, commit_wake, commit_open, commit_announce, commit_enter, commit_poll, commit_participate, commit_end_poll, commit_shows};
+ghost use Rattle.lf_protocols.specs.CommitTable.{commit_start, commit_wake, commit_open, commit_announce, commit_enter};
+ghost use Rattle.lf_protocols.specs.CommitTable.{commit_poll, commit_participate, commit_end_poll, commit_shows};
 
 use crate::{Fact, Nodes, Note, Phase, Progress, turns};
 use lf_sim::{Out, Stepped};

@@ -1,6 +1,7 @@
 use Rattle.std.proofs.Common.{ap, ◌∙◌}
 use Rattle.lf_protocols.specs.RedundantTable.{redundant_send}
-use Rattle.lf_protocols.proofs.DeliveriesLemmas.{redundant_hear_all-Has, redundant_hear_all-brings, redundant_hear_all-waits, redundant_send-more, redundant_send-stops, IsCounted-step}
+use Rattle.lf_protocols.proofs.DeliveriesLemmas.{redundant_hear_all-Has, redundant_hear_all-brings, redundant_hear_all-waits}
+use Rattle.lf_protocols.proofs.DeliveriesLemmas.{redundant_send-more, redundant_send-stops, IsCounted-step}
 use Rattle.lf_protocols.proofs.laws.redundant_delivers.Goals as goal
 
 pub returns-clause-relays : goal.returns-clause-relays
