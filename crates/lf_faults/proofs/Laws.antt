@@ -94,12 +94,14 @@ admitted-fault = stepping.fault-from_admitted
 -- two crashes of one node in one are one,
 pub one_crash : (b : Bounds) (fs : List Parts) (n t u : ℕ) → IsAllowed b fs → Contains fs (Crash n t) → Contains fs (Crash n u) → Crash n t ≡ Crash n u
 one_crash b fs n t u allowed here there =
-    members.counted_once (is_crash_of n) fs (allowed.crash_once n (in_allowed-admitted b fs (Crash n t) allowed here).0) (Crash n t) (Crash n u) here there (eq-eqb n n refl) (eq-eqb n n refl)
+    members.counted_once (is_crash_of n) fs (allowed.crash_once n (in_allowed-admitted b fs (Crash n t) allowed here).0) (Crash n t) (Crash n u) here there
+    (eq-eqb n n refl) (eq-eqb n n refl)
 
 -- and two pauses of one node
 pub one_pause : (b : Bounds) (fs : List Parts) (n t u : ℕ) → IsAllowed b fs → Contains fs (Pause n t) → Contains fs (Pause n u) → Pause n t ≡ Pause n u
 one_pause b fs n t u allowed here there =
-    members.counted_once (is_pause_of n) fs (allowed.pause_once n (in_allowed-admitted b fs (Pause n t) allowed here).0) (Pause n t) (Pause n u) here there (eq-eqb n n refl) (eq-eqb n n refl)
+    members.counted_once (is_pause_of n) fs (allowed.pause_once n (in_allowed-admitted b fs (Pause n t) allowed here).0) (Pause n t) (Pause n u) here there
+    (eq-eqb n n refl) (eq-eqb n n refl)
 
 -- The walk over allowed sets: from each there is one,
 pub walk : (b : Bounds) (here : List Parts) → IsInLimits b → IsAllowed b here → (sets : List (List Parts)) × IsWalkFrom b here sets
