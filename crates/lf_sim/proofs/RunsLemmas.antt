@@ -11,10 +11,9 @@ use Rattle.lf_sim.specs.declared.letter.Letter.{Letter}
 use Rattle.lf_sim.specs.declared.out.Out.{Out}
 use Rattle.lf_sim.specs.declared.out.Stepped.{Stepped}
 use Rattle.lf_sim.specs.Outs.{note_to, nothing}
-use Rattle.lf_sim.specs.Runs.{World, Past, each_below, is_up, before_step, letter, letters, letters_from, turn, history, did, view, sent, inbox}
+use Rattle.lf_sim.specs.Runs.{World, Past, each_below, takes_step, is_up, before_step, letter, letters, letters_from, turn, history, did, view, sent, inbox}
 use Rattle.lf_sim.proofs.ListsLemmas.{each_below-same, more_some, more_none, none_from_not}
 use Rattle.lf_sim.specs.OutsLemmas.{cond-same, note_to-nothing}
-use Rattle.lf_sim.specs.Settings.{takes_step}
 
 module _ {State Note Fact : Type 0} (w : World State Note Fact) (faults : List Parts) where
   -- what happens at t + 1 depends on what happened up to t
