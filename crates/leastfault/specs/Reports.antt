@@ -15,14 +15,14 @@ fault_lines [] = []
 fault_lines (f ∷ fs) = line (spelling f) ++ fault_lines fs
 
 -- `none`, and the budget; or `least`, how many faults there are, and then the faults
-abbrev pub report_of : ℕ → Option (List Parts) → List ℕ
-report_of budget None = line (codes "none " ++ decimal budget)
-report_of budget (Some faults) = line (codes "least " ++ decimal (length faults)) ++ fault_lines faults
+abbrev pub report : ℕ → Option (List Parts) → List ℕ
+report budget None = line (codes "none " ++ decimal budget)
+report budget (Some faults) = line (codes "least " ++ decimal (length faults)) ++ fault_lines faults
 
 -- 0 where no set defeats the outcome, and 1 where one does
-abbrev pub status_of : Option (List Parts) → ℕ
-status_of None = 0
-status_of (Some faults) = 1
+abbrev pub search_status : Option (List Parts) → ℕ
+search_status None = 0
+search_status (Some faults) = 1
 
 -- 0 where the run reaches the outcome, and 1 where it misses
 abbrev pub run_status : Bool → ℕ
@@ -39,5 +39,5 @@ key_words None = []
 key_words (Some key) = codes " " ++ key_name key
 
 -- `refused`, the number of the refusal, and its key
-abbrev pub refusal_of : ScenarioError → List ℕ
-refusal_of e = codes "refused " ++ (decimal (number_of e) ++ line (key_words (key_of e)))
+abbrev pub refusal : ScenarioError → List ℕ
+refusal e = codes "refused " ++ (decimal (number_of e) ++ line (key_words (key_of e)))

@@ -5,10 +5,10 @@ ghost use Rattle.lf_faults.specs.declared.fault.Parts.{Parts};
 ghost use Rattle.lf_faults.specs.Allowed.{IsAllowed};
 ghost use Rattle.lf_sim.specs.Settings.{world_of};
 ghost use Rattle.lf_trace.specs.Namings.{Names};
-ghost use Rattle.lf_trace.specs.Traces.{trace_of};
+ghost use Rattle.lf_trace.specs.Traces.{trace};
 ghost use Rattle.leastfault.specs.Answers.{reaches_in};
 ghost use Rattle.leastfault.specs.Replies.{IsRunReply, IsSearchReply};
-ghost use Rattle.leastfault.specs.Reports.{no_set_line, refusal_of, run_status, status_of};
+ghost use Rattle.leastfault.specs.Reports.{no_set_line, refusal, run_status, search_status};
 
 use crate::{plain_answer, refusal, report};
 use lf_faults::{FaultSet, admits};
@@ -36,7 +36,7 @@ pub(crate) fn search_reply(alloc: Global, text: &[u8]) -> Result<Reply, AllocErr
     let answer = plain_answer(alloc, &scenario)?;
     Ok(Reply {
         text: report(alloc, scenario.setting().spec.budget(), &answer)?,
-        status: status(&answer),
+        status: search_status(&answer),
     })
 }
 
@@ -69,7 +69,7 @@ fn allowed_set(scenario: &Scenario, faults: &str) -> Option<FaultSet>
 /// The reply that tells the run of a set of faults.
 fn traced(alloc: Global, scenario: &Scenario, set: &FaultSet) -> Result<Reply, AllocError>
     ensures { IfOk result (λ reply.
-        (string_bytes reply.text ≡ trace_of (world_of scenario.now.setting) set.now scenario.now.formula)
+        (string_bytes reply.text ≡ trace (world_of scenario.now.setting) set.now scenario.now.formula)
         × (reply.status ≡ run_status (reaches_in scenario.now set.now))) }
 {
     let setting = scenario.setting();
@@ -77,11 +77,7 @@ fn traced(alloc: Global, scenario: &Scenario, set: &FaultSet) -> Result<Reply, A
     let played = run(alloc, setting, set)?;
     Ok(Reply {
         text: trace(alloc, setting, formula, &played)?,
-        status: if holds(setting, formula, &played) {
-            0
-        } else {
-            1
-        },
+        status: run_status(holds(setting, formula, &played)),
     })
 }
 
@@ -97,7 +93,7 @@ fn no_set(alloc: Global) -> Result<Reply, AllocError>
 /// The reply to a text that is refused. The error is that memory has run out, here or in the reading.
 fn refused(alloc: Global, error: ScenarioError) -> Result<Reply, AllocError>
     ensures { IfOk result (λ reply. (error ≢ ScenarioError.Memory)
-        × (string_bytes reply.text ≡ refusal_of error) × (reply.status ≡ 2)) }
+        × (string_bytes reply.text ≡ refusal error) × (reply.status ≡ 2)) }
 {
     if error == ScenarioError::Memory {
         return Err(AllocError);
@@ -108,9 +104,16 @@ fn refused(alloc: Global, error: ScenarioError) -> Result<Reply, AllocError>
     })
 }
 
+/// The status of a run: 0 where it reaches the outcome, 1 where it misses.
+fn run_status(reaches: bool) -> u8
+    ensures { result ≡ run_status reaches }
+{
+    if reaches { 0 } else { 1 }
+}
+
 /// The status of an answer: 0 where there is no set that defeats the outcome, 1 where there is one.
-fn status(answer: &Option<FaultSet>) -> u8
-    ensures { result ≡ status_of answer.now }
+fn search_status(answer: &Option<FaultSet>) -> u8
+    ensures { result ≡ search_status answer.now }
 {
     match answer {
         None => 0,

@@ -2,7 +2,7 @@
 
 ghost use Rattle.std.specs.Prelude.{◌≡◌, ◌≢◌, ℕ, ◌<◌, length, take, Err, false, string_bytes, IfOk, IfErr, IfSome};
 ghost use Rattle.std.specs.Io.KnownBytes.{Appends};
-ghost use Rattle.leastfault.specs.Replies.{IsRunReply, IsSearchReply, TookLittle, WrotePart, WroteReply, tells_read, tells_write};
+ghost use Rattle.leastfault.specs.Replies.{IsRunReply, IsSearchReply, TookLittle, WrotePart, WroteReply, most_taken, tells_read, tells_write};
 
 use crate::answering::{Reply, run_reply, search_reply};
 use lf_scenario::LONGEST;
@@ -105,7 +105,7 @@ pub fn run_bytes<R: Source, W: Sink>(
 fn read_text<R: Source>(alloc: Global, reader: &mut R) -> Result<Vec<u8>, BytesFault>
     requires { R.has_failed reader.old ≡ false }
     ensures text { IfOk result (λ text.
-        IfSome (R.left reader.old) (λ held. text.items ≡ take 65537 held)) }
+        IfSome (R.left reader.old) (λ held. text.items ≡ take most_taken held)) }
     ensures fault { IfErr result (λ e. e ≢ BytesFault.Write) }
     ensures source { R.has_failed reader.new ≡ tells_read result }
     ensures taken { TookLittle (R.left reader.old) (R.left reader.new) }

@@ -48,7 +48,15 @@ fn the_last_vote_and_the_time_out_at_one_step(rt: HostRuntime) -> Result<(), Fai
         rt.alloc(),
         text,
         "",
-        "step 1\n0 voting\n1 idle\n0>1 prepare 2\nstep 2\n0 voting\n1 prepared\n1>0 yes 3\nstep 3\n0 precommitting\n1 prepared\n0>1 precommit 4\nstep 4\n0 precommitting\n1 precommitted\n1>0 ack 5\nstep 5\n0 committed\n1 precommitted\n0>1 commit 6\nstep 6\n0 committed\n1 committed\nreaches\n",
+        concat!(
+            "step 1\n0 voting\n1 idle\n0>1 prepare 2\n",
+            "step 2\n0 voting\n1 prepared\n1>0 yes 3\n",
+            "step 3\n0 precommitting\n1 prepared\n0>1 precommit 4\n",
+            "step 4\n0 precommitting\n1 precommitted\n1>0 ack 5\n",
+            "step 5\n0 committed\n1 precommitted\n0>1 commit 6\n",
+            "step 6\n0 committed\n1 committed\n",
+            "reaches\n",
+        ),
         0,
     )?;
     Ok(())
@@ -63,7 +71,13 @@ fn the_last_vote_commits_at_the_time_out(rt: HostRuntime) -> Result<(), Fail> {
         rt.alloc(),
         text,
         "",
-        "step 1\n0 voting\n1 idle\n0>1 prepare 2\nstep 2\n0 voting\n1 prepared\n1>0 yes 3\nstep 3\n0 committed\n1 prepared\n0>1 commit 4\nstep 4\n0 committed\n1 committed\nreaches\n",
+        concat!(
+            "step 1\n0 voting\n1 idle\n0>1 prepare 2\n",
+            "step 2\n0 voting\n1 prepared\n1>0 yes 3\n",
+            "step 3\n0 committed\n1 prepared\n0>1 commit 4\n",
+            "step 4\n0 committed\n1 committed\n",
+            "reaches\n",
+        ),
         0,
     )?;
     Ok(())
@@ -71,14 +85,24 @@ fn the_last_vote_commits_at_the_time_out(rt: HostRuntime) -> Result<(), Fail> {
 
 #[test]
 fn prepare_and_abort_in_one_inbox(rt: HostRuntime) -> Result<(), Fail> {
-    let text =
-        "nodes = 2\nhorizon = 5\nlast_omission = 0\ncrashes = 0\nbudget = 0\nprotocol = \"two_phase\"\npatience = 1\noutcome = \"agreement\"\nspread = 1\nseed = \"0505050505050505050505050505050505050505050505050505050505050505\"\n";
+    let text = concat!(
+        "nodes = 2\nhorizon = 5\nlast_omission = 0\ncrashes = 0\nbudget = 0\n",
+        "protocol = \"two_phase\"\npatience = 1\noutcome = \"agreement\"\n",
+        "spread = 1\nseed = \"0505050505050505050505050505050505050505050505050505050505050505\"\n",
+    );
     runs(
         &rt,
         rt.alloc(),
         text,
         "",
-        "step 1\n0 voting\n1 idle\n0>1 prepare 3\nstep 2\n0 aborted\n1 idle\n0>1 abort 3\nstep 3\n0 aborted\n1 aborted\n1>0 yes 4\nstep 4\n0 aborted\n1 aborted\nstep 5\n0 aborted\n1 aborted\nreaches\n",
+        concat!(
+            "step 1\n0 voting\n1 idle\n0>1 prepare 3\n",
+            "step 2\n0 aborted\n1 idle\n0>1 abort 3\n",
+            "step 3\n0 aborted\n1 aborted\n1>0 yes 4\n",
+            "step 4\n0 aborted\n1 aborted\n",
+            "step 5\n0 aborted\n1 aborted\n",
+            "reaches\n",
+        ),
         0,
     )?;
     Ok(())
@@ -86,14 +110,21 @@ fn prepare_and_abort_in_one_inbox(rt: HostRuntime) -> Result<(), Fail> {
 
 #[test]
 fn a_paused_client_never_writes(rt: HostRuntime) -> Result<(), Fail> {
-    let text =
-        "nodes = 3\nhorizon = 3\nlast_omission = 0\ncrashes = 0\nbudget = 1\npauses = 1\nprotocol = \"primary_backup\"\npatience = 2\noutcome = \"one_primary\"\n";
+    let text = concat!(
+        "nodes = 3\nhorizon = 3\nlast_omission = 0\ncrashes = 0\nbudget = 1\npauses = 1\n",
+        "protocol = \"primary_backup\"\npatience = 2\noutcome = \"one_primary\"\n",
+    );
     runs(
         &rt,
         rt.alloc(),
         text,
         "pause 2 @1",
-        "step 1\n0 empty not_done primary unclaimed\n1 empty not_done backup unclaimed\n2 down\n0>1 beat 2\nstep 2\n0 empty not_done primary unclaimed\n1 empty not_done backup unclaimed\n2 empty not_done backup unclaimed\n0>1 beat 3\nstep 3\n0 empty not_done primary unclaimed\n1 empty not_done backup unclaimed\n2 empty not_done backup unclaimed\n0>1 beat lost\nreaches\n",
+        concat!(
+            "step 1\n0 empty not_done primary unclaimed\n1 empty not_done backup unclaimed\n2 down\n0>1 beat 2\n",
+            "step 2\n0 empty not_done primary unclaimed\n1 empty not_done backup unclaimed\n2 empty not_done backup unclaimed\n0>1 beat 3\n",
+            "step 3\n0 empty not_done primary unclaimed\n1 empty not_done backup unclaimed\n2 empty not_done backup unclaimed\n0>1 beat lost\n",
+            "reaches\n",
+        ),
         0,
     )?;
     Ok(())
@@ -101,14 +132,24 @@ fn a_paused_client_never_writes(rt: HostRuntime) -> Result<(), Fail> {
 
 #[test]
 fn waking_starts_the_wait_anew(rt: HostRuntime) -> Result<(), Fail> {
-    let text =
-        "nodes = 2\nhorizon = 6\nlast_omission = 2\ncrashes = 0\nbudget = 2\npauses = 1\npause_length = 2\nprotocol = \"three_phase\"\npatience = 2\noutcome = \"unblocked\"\n";
+    let text = concat!(
+        "nodes = 2\nhorizon = 6\nlast_omission = 2\ncrashes = 0\nbudget = 2\npauses = 1\npause_length = 2\n",
+        "protocol = \"three_phase\"\npatience = 2\noutcome = \"unblocked\"\n",
+    );
     runs(
         &rt,
         rt.alloc(),
         text,
         "pause 1 @3",
-        "step 1\n0 voting\n1 idle\n0>1 prepare 2\nstep 2\n0 voting\n1 prepared\n1>0 yes 3\nstep 3\n0 precommitting\n1 down\n0>1 precommit lost\nstep 4\n0 precommitting\n1 down\nstep 5\n0 committed\n1 prepared\n0>1 commit 6\nstep 6\n0 committed\n1 committed\nreaches\n",
+        concat!(
+            "step 1\n0 voting\n1 idle\n0>1 prepare 2\n",
+            "step 2\n0 voting\n1 prepared\n1>0 yes 3\n",
+            "step 3\n0 precommitting\n1 down\n0>1 precommit lost\n",
+            "step 4\n0 precommitting\n1 down\n",
+            "step 5\n0 committed\n1 prepared\n0>1 commit 6\n",
+            "step 6\n0 committed\n1 committed\n",
+            "reaches\n",
+        ),
         0,
     )?;
     Ok(())
@@ -116,14 +157,24 @@ fn waking_starts_the_wait_anew(rt: HostRuntime) -> Result<(), Fail> {
 
 #[test]
 fn a_write_its_copy_and_a_claim(rt: HostRuntime) -> Result<(), Fail> {
-    let text =
-        "nodes = 3\nhorizon = 6\nlast_omission = 2\ncrashes = 0\nbudget = 2\nprotocol = \"primary_backup\"\npatience = 3\noutcome = \"one_primary\"\n";
+    let text = concat!(
+        "nodes = 3\nhorizon = 6\nlast_omission = 2\ncrashes = 0\nbudget = 2\n",
+        "protocol = \"primary_backup\"\npatience = 3\noutcome = \"one_primary\"\n",
+    );
     runs(
         &rt,
         rt.alloc(),
         text,
         "",
-        "step 1\n0 empty not_done primary unclaimed\n1 empty not_done backup unclaimed\n2 empty not_done backup unclaimed\n0>1 beat 2\n2>0 write 2\nstep 2\n0 holds not_done primary unclaimed\n1 empty not_done backup unclaimed\n2 empty not_done backup unclaimed\n0>1 repl 3\nstep 3\n0 holds not_done primary unclaimed\n1 holds not_done backup unclaimed\n2 empty not_done backup unclaimed\n0>1 beat 4\n1>0 ack 4\nstep 4\n0 holds not_done primary unclaimed\n1 holds not_done backup unclaimed\n2 empty not_done backup unclaimed\n0>1 beat 5\n0>2 done 5\nstep 5\n0 holds not_done primary unclaimed\n1 holds not_done backup unclaimed\n2 empty done backup unclaimed\n0>1 beat 6\nstep 6\n0 holds not_done primary unclaimed\n1 holds not_done backup unclaimed\n2 empty done backup unclaimed\n0>1 beat lost\nreaches\n",
+        concat!(
+            "step 1\n0 empty not_done primary unclaimed\n1 empty not_done backup unclaimed\n2 empty not_done backup unclaimed\n0>1 beat 2\n2>0 write 2\n",
+            "step 2\n0 holds not_done primary unclaimed\n1 empty not_done backup unclaimed\n2 empty not_done backup unclaimed\n0>1 repl 3\n",
+            "step 3\n0 holds not_done primary unclaimed\n1 holds not_done backup unclaimed\n2 empty not_done backup unclaimed\n0>1 beat 4\n1>0 ack 4\n",
+            "step 4\n0 holds not_done primary unclaimed\n1 holds not_done backup unclaimed\n2 empty not_done backup unclaimed\n0>1 beat 5\n0>2 done 5\n",
+            "step 5\n0 holds not_done primary unclaimed\n1 holds not_done backup unclaimed\n2 empty done backup unclaimed\n0>1 beat 6\n",
+            "step 6\n0 holds not_done primary unclaimed\n1 holds not_done backup unclaimed\n2 empty done backup unclaimed\n0>1 beat lost\n",
+            "reaches\n",
+        ),
         0,
     )?;
     runs(
@@ -131,7 +182,15 @@ fn a_write_its_copy_and_a_claim(rt: HostRuntime) -> Result<(), Fail> {
         rt.alloc(),
         text,
         "omit 0>1 @1,omit 0>1 @2",
-        "step 1\n0 empty not_done primary unclaimed\n1 empty not_done backup unclaimed\n2 empty not_done backup unclaimed\n0>1 beat omitted\n2>0 write 2\nstep 2\n0 holds not_done primary unclaimed\n1 empty not_done backup unclaimed\n2 empty not_done backup unclaimed\n0>1 repl omitted\nstep 3\n0 holds not_done primary unclaimed\n1 empty not_done primary unclaimed\n2 empty not_done backup unclaimed\n0>1 beat 4\n1>2 claim 4\nstep 4\n0 holds not_done primary unclaimed\n1 empty not_done primary unclaimed\n2 empty not_done backup claimed\n0>1 beat 5\nstep 5\n0 holds not_done primary unclaimed\n1 empty not_done primary unclaimed\n2 empty not_done backup claimed\n0>1 beat 6\nstep 6\n0 holds not_done primary unclaimed\n1 empty not_done primary unclaimed\n2 empty not_done backup claimed\n0>1 beat lost\nmisses\n",
+        concat!(
+            "step 1\n0 empty not_done primary unclaimed\n1 empty not_done backup unclaimed\n2 empty not_done backup unclaimed\n0>1 beat omitted\n2>0 write 2\n",
+            "step 2\n0 holds not_done primary unclaimed\n1 empty not_done backup unclaimed\n2 empty not_done backup unclaimed\n0>1 repl omitted\n",
+            "step 3\n0 holds not_done primary unclaimed\n1 empty not_done primary unclaimed\n2 empty not_done backup unclaimed\n0>1 beat 4\n1>2 claim 4\n",
+            "step 4\n0 holds not_done primary unclaimed\n1 empty not_done primary unclaimed\n2 empty not_done backup claimed\n0>1 beat 5\n",
+            "step 5\n0 holds not_done primary unclaimed\n1 empty not_done primary unclaimed\n2 empty not_done backup claimed\n0>1 beat 6\n",
+            "step 6\n0 holds not_done primary unclaimed\n1 empty not_done primary unclaimed\n2 empty not_done backup claimed\n0>1 beat lost\n",
+            "misses\n",
+        ),
         1,
     )?;
     Ok(())
@@ -139,14 +198,22 @@ fn a_write_its_copy_and_a_claim(rt: HostRuntime) -> Result<(), Fail> {
 
 #[test]
 fn two_phase_commits_and_blocks(rt: HostRuntime) -> Result<(), Fail> {
-    let text =
-        "nodes = 2\nhorizon = 4\nlast_omission = 0\ncrashes = 1\nbudget = 1\nprotocol = \"two_phase\"\npatience = 3\nvotes = [true]\noutcome = \"unblocked\"\n";
+    let text = concat!(
+        "nodes = 2\nhorizon = 4\nlast_omission = 0\ncrashes = 1\nbudget = 1\n",
+        "protocol = \"two_phase\"\npatience = 3\nvotes = [true]\noutcome = \"unblocked\"\n",
+    );
     runs(
         &rt,
         rt.alloc(),
         text,
         "",
-        "step 1\n0 voting\n1 idle\n0>1 prepare 2\nstep 2\n0 voting\n1 prepared\n1>0 yes 3\nstep 3\n0 committed\n1 prepared\n0>1 commit 4\nstep 4\n0 committed\n1 committed\nreaches\n",
+        concat!(
+            "step 1\n0 voting\n1 idle\n0>1 prepare 2\n",
+            "step 2\n0 voting\n1 prepared\n1>0 yes 3\n",
+            "step 3\n0 committed\n1 prepared\n0>1 commit 4\n",
+            "step 4\n0 committed\n1 committed\n",
+            "reaches\n",
+        ),
         0,
     )?;
     runs(
@@ -154,7 +221,13 @@ fn two_phase_commits_and_blocks(rt: HostRuntime) -> Result<(), Fail> {
         rt.alloc(),
         text,
         "crash 0 @3",
-        "step 1\n0 voting\n1 idle\n0>1 prepare 2\nstep 2\n0 voting\n1 prepared\n1>0 yes lost\nstep 3\n0 down\n1 prepared\nstep 4\n0 down\n1 prepared\nmisses\n",
+        concat!(
+            "step 1\n0 voting\n1 idle\n0>1 prepare 2\n",
+            "step 2\n0 voting\n1 prepared\n1>0 yes lost\n",
+            "step 3\n0 down\n1 prepared\n",
+            "step 4\n0 down\n1 prepared\n",
+            "misses\n",
+        ),
         1,
     )?;
     Ok(())
@@ -162,14 +235,22 @@ fn two_phase_commits_and_blocks(rt: HostRuntime) -> Result<(), Fail> {
 
 #[test]
 fn a_no_aborts(rt: HostRuntime) -> Result<(), Fail> {
-    let text =
-        "nodes = 2\nhorizon = 4\nlast_omission = 0\ncrashes = 1\nbudget = 1\nprotocol = \"two_phase\"\npatience = 3\nvotes = [false]\noutcome = \"unblocked\"\n";
+    let text = concat!(
+        "nodes = 2\nhorizon = 4\nlast_omission = 0\ncrashes = 1\nbudget = 1\n",
+        "protocol = \"two_phase\"\npatience = 3\nvotes = [false]\noutcome = \"unblocked\"\n",
+    );
     runs(
         &rt,
         rt.alloc(),
         text,
         "",
-        "step 1\n0 voting\n1 idle\n0>1 prepare 2\nstep 2\n0 voting\n1 aborted\n1>0 no 3\nstep 3\n0 aborted\n1 aborted\n0>1 abort 4\nstep 4\n0 aborted\n1 aborted\nreaches\n",
+        concat!(
+            "step 1\n0 voting\n1 idle\n0>1 prepare 2\n",
+            "step 2\n0 voting\n1 aborted\n1>0 no 3\n",
+            "step 3\n0 aborted\n1 aborted\n0>1 abort 4\n",
+            "step 4\n0 aborted\n1 aborted\n",
+            "reaches\n",
+        ),
         0,
     )?;
     Ok(())
@@ -177,14 +258,22 @@ fn a_no_aborts(rt: HostRuntime) -> Result<(), Fail> {
 
 #[test]
 fn a_coordinator_that_wakes_waits_anew(rt: HostRuntime) -> Result<(), Fail> {
-    let text =
-        "nodes = 2\nhorizon = 4\nlast_omission = 0\ncrashes = 1\nbudget = 1\nprotocol = \"two_phase\"\npatience = 3\nvotes = [true]\noutcome = \"unblocked\"\npauses = 1\n";
+    let text = concat!(
+        "nodes = 2\nhorizon = 4\nlast_omission = 0\ncrashes = 1\nbudget = 1\n",
+        "protocol = \"two_phase\"\npatience = 3\nvotes = [true]\noutcome = \"unblocked\"\npauses = 1\n",
+    );
     runs(
         &rt,
         rt.alloc(),
         text,
         "pause 0 @3",
-        "step 1\n0 voting\n1 idle\n0>1 prepare 2\nstep 2\n0 voting\n1 prepared\n1>0 yes lost\nstep 3\n0 down\n1 prepared\nstep 4\n0 voting\n1 prepared\nmisses\n",
+        concat!(
+            "step 1\n0 voting\n1 idle\n0>1 prepare 2\n",
+            "step 2\n0 voting\n1 prepared\n1>0 yes lost\n",
+            "step 3\n0 down\n1 prepared\n",
+            "step 4\n0 voting\n1 prepared\n",
+            "misses\n",
+        ),
         1,
     )?;
     Ok(())
@@ -192,14 +281,20 @@ fn a_coordinator_that_wakes_waits_anew(rt: HostRuntime) -> Result<(), Fail> {
 
 #[test]
 fn the_copy_takes_the_place_of_a_beat(rt: HostRuntime) -> Result<(), Fail> {
-    let text =
-        "nodes = 3\nhorizon = 2\nlast_omission = 0\ncrashes = 0\nbudget = 0\nprotocol = \"primary_backup\"\npatience = 3\noutcome = \"one_primary\"\n";
+    let text = concat!(
+        "nodes = 3\nhorizon = 2\nlast_omission = 0\ncrashes = 0\nbudget = 0\n",
+        "protocol = \"primary_backup\"\npatience = 3\noutcome = \"one_primary\"\n",
+    );
     runs(
         &rt,
         rt.alloc(),
         text,
         "",
-        "step 1\n0 empty not_done primary unclaimed\n1 empty not_done backup unclaimed\n2 empty not_done backup unclaimed\n0>1 beat 2\n2>0 write 2\nstep 2\n0 holds not_done primary unclaimed\n1 empty not_done backup unclaimed\n2 empty not_done backup unclaimed\n0>1 repl lost\nreaches\n",
+        concat!(
+            "step 1\n0 empty not_done primary unclaimed\n1 empty not_done backup unclaimed\n2 empty not_done backup unclaimed\n0>1 beat 2\n2>0 write 2\n",
+            "step 2\n0 holds not_done primary unclaimed\n1 empty not_done backup unclaimed\n2 empty not_done backup unclaimed\n0>1 repl lost\n",
+            "reaches\n",
+        ),
         0,
     )?;
     Ok(())
@@ -210,28 +305,40 @@ fn pauses_split_the_primary(rt: HostRuntime) -> Result<(), Fail> {
     searches(
         &rt,
         rt.alloc(),
-        "nodes = 3\nhorizon = 6\nlast_omission = 0\ncrashes = 0\nbudget = 1\npauses = 1\npause_length = 2\nprotocol = \"primary_backup\"\npatience = 3\noutcome = \"one_primary\"\n",
+        concat!(
+            "nodes = 3\nhorizon = 6\nlast_omission = 0\ncrashes = 0\nbudget = 1\npauses = 1\npause_length = 2\n",
+            "protocol = \"primary_backup\"\npatience = 3\noutcome = \"one_primary\"\n",
+        ),
         "least 1\npause 0 @1\n",
         1,
     )?;
     searches(
         &rt,
         rt.alloc(),
-        "nodes = 3\nhorizon = 6\nlast_omission = 0\ncrashes = 0\nbudget = 1\npauses = 1\npause_length = 1\nprotocol = \"primary_backup\"\npatience = 3\noutcome = \"one_primary\"\n",
+        concat!(
+            "nodes = 3\nhorizon = 6\nlast_omission = 0\ncrashes = 0\nbudget = 1\npauses = 1\npause_length = 1\n",
+            "protocol = \"primary_backup\"\npatience = 3\noutcome = \"one_primary\"\n",
+        ),
         "none 1\n",
         0,
     )?;
     searches(
         &rt,
         rt.alloc(),
-        "nodes = 3\nhorizon = 6\nlast_omission = 0\ncrashes = 0\nbudget = 1\npauses = 4\npause_length = 2\nprotocol = \"primary_backup\"\npatience = 3\noutcome = \"one_primary\"\n",
+        concat!(
+            "nodes = 3\nhorizon = 6\nlast_omission = 0\ncrashes = 0\nbudget = 1\npauses = 4\npause_length = 2\n",
+            "protocol = \"primary_backup\"\npatience = 3\noutcome = \"one_primary\"\n",
+        ),
         "refused 6 pauses\n",
         2,
     )?;
     searches(
         &rt,
         rt.alloc(),
-        "nodes = 3\nhorizon = 6\nlast_omission = 0\ncrashes = 0\nbudget = 1\npauses = 1\npause_length = 9\nprotocol = \"primary_backup\"\npatience = 3\noutcome = \"one_primary\"\n",
+        concat!(
+            "nodes = 3\nhorizon = 6\nlast_omission = 0\ncrashes = 0\nbudget = 1\npauses = 1\npause_length = 9\n",
+            "protocol = \"primary_backup\"\npatience = 3\noutcome = \"one_primary\"\n",
+        ),
         "refused 6 pause_length\n",
         2,
     )?;
@@ -240,8 +347,10 @@ fn pauses_split_the_primary(rt: HostRuntime) -> Result<(), Fail> {
 
 #[test]
 fn two_pauses_of_a_node_are_refused(rt: HostRuntime) -> Result<(), Fail> {
-    let text =
-        "nodes = 3\nhorizon = 6\nlast_omission = 0\ncrashes = 0\nbudget = 1\npauses = 1\npause_length = 2\nprotocol = \"primary_backup\"\npatience = 3\noutcome = \"one_primary\"\n";
+    let text = concat!(
+        "nodes = 3\nhorizon = 6\nlast_omission = 0\ncrashes = 0\nbudget = 1\npauses = 1\npause_length = 2\n",
+        "protocol = \"primary_backup\"\npatience = 3\noutcome = \"one_primary\"\n",
+    );
     runs(
         &rt,
         rt.alloc(),
@@ -289,7 +398,10 @@ fn a_backup_takes_over_too_early(rt: HostRuntime) -> Result<(), Fail> {
     searches(
         &rt,
         rt.alloc(),
-        "nodes = 3\nhorizon = 6\nlast_omission = 2\ncrashes = 0\nbudget = 2\nprotocol = \"primary_backup\"\npatience = 3\noutcome = \"one_primary\"\n",
+        concat!(
+            "nodes = 3\nhorizon = 6\nlast_omission = 2\ncrashes = 0\nbudget = 2\n",
+            "protocol = \"primary_backup\"\npatience = 3\noutcome = \"one_primary\"\n",
+        ),
         "least 2\nomit 0>1 @1\nomit 0>1 @2\n",
         1,
     )?;
@@ -313,21 +425,30 @@ fn refused_settings(rt: HostRuntime) -> Result<(), Fail> {
     searches(
         &rt,
         rt.alloc(),
-        "nodes = 3\nhorizon = 4\nlast_omission = 0\ncrashes = 0\nbudget = 0\nprotocol = \"two_phase\"\npatience = 1\nvotes = [true]\noutcome = \"agreement\"\n",
+        concat!(
+            "nodes = 3\nhorizon = 4\nlast_omission = 0\ncrashes = 0\nbudget = 0\n",
+            "protocol = \"two_phase\"\npatience = 1\nvotes = [true]\noutcome = \"agreement\"\n",
+        ),
         "refused 6 votes\n",
         2,
     )?;
     searches(
         &rt,
         rt.alloc(),
-        "nodes = 3\nhorizon = 4\nlast_omission = 0\ncrashes = 0\nbudget = 0\nprotocol = \"two_phase\"\npatience = 1\nvotes = [true, 1]\noutcome = \"agreement\"\n",
+        concat!(
+            "nodes = 3\nhorizon = 4\nlast_omission = 0\ncrashes = 0\nbudget = 0\n",
+            "protocol = \"two_phase\"\npatience = 1\nvotes = [true, 1]\noutcome = \"agreement\"\n",
+        ),
         "refused 5 votes\n",
         2,
     )?;
     searches(
         &rt,
         rt.alloc(),
-        "nodes = 3\nhorizon = 4\nlast_omission = 0\ncrashes = 0\nbudget = 0\nprotocol = \"two_phase\"\npatience = 1\nvotes = [1]\noutcome = \"agreement\"\n",
+        concat!(
+            "nodes = 3\nhorizon = 4\nlast_omission = 0\ncrashes = 0\nbudget = 0\n",
+            "protocol = \"two_phase\"\npatience = 1\nvotes = [1]\noutcome = \"agreement\"\n",
+        ),
         "refused 5 votes\n",
         2,
     )?;
@@ -341,7 +462,10 @@ fn refused_settings(rt: HostRuntime) -> Result<(), Fail> {
     searches(
         &rt,
         rt.alloc(),
-        "nodes = 3\nhorizon = 4\nlast_omission = 0\ncrashes = 0\nbudget = 0\nprotocol = \"two_phase\"\npatience = 1\ntries = 1\noutcome = \"agreement\"\n",
+        concat!(
+            "nodes = 3\nhorizon = 4\nlast_omission = 0\ncrashes = 0\nbudget = 0\n",
+            "protocol = \"two_phase\"\npatience = 1\ntries = 1\noutcome = \"agreement\"\n",
+        ),
         "refused 4 tries\n",
         2,
     )?;
@@ -357,15 +481,24 @@ fn refused_settings(rt: HostRuntime) -> Result<(), Fail> {
 
 #[test]
 fn a_crash_while_the_votes_are_on_their_way_blocks_all(rt: HostRuntime) -> Result<(), Fail> {
-    let text =
-        "nodes = 3\nhorizon = 5\nlast_omission = 0\ncrashes = 1\nbudget = 1\nprotocol = \"two_phase\"\npatience = 3\nvotes = [true, true]\noutcome = \"unblocked\"\n";
+    let text = concat!(
+        "nodes = 3\nhorizon = 5\nlast_omission = 0\ncrashes = 1\nbudget = 1\n",
+        "protocol = \"two_phase\"\npatience = 3\nvotes = [true, true]\noutcome = \"unblocked\"\n",
+    );
     searches(&rt, rt.alloc(), text, "least 1\ncrash 0 @2\n", 1)?;
     runs(
         &rt,
         rt.alloc(),
         text,
         "crash 0 @2",
-        "step 1\n0 voting\n1 idle\n2 idle\n0>1 prepare 2\n0>2 prepare 2\nstep 2\n0 down\n1 prepared\n2 prepared\n1>0 yes lost\n2>0 yes lost\nstep 3\n0 down\n1 prepared\n2 prepared\nstep 4\n0 down\n1 prepared\n2 prepared\nstep 5\n0 down\n1 prepared\n2 prepared\nmisses\n",
+        concat!(
+            "step 1\n0 voting\n1 idle\n2 idle\n0>1 prepare 2\n0>2 prepare 2\n",
+            "step 2\n0 down\n1 prepared\n2 prepared\n1>0 yes lost\n2>0 yes lost\n",
+            "step 3\n0 down\n1 prepared\n2 prepared\n",
+            "step 4\n0 down\n1 prepared\n2 prepared\n",
+            "step 5\n0 down\n1 prepared\n2 prepared\n",
+            "misses\n",
+        ),
         1,
     )?;
     Ok(())

@@ -1,7 +1,7 @@
 //! The lines of replies.
 
 ghost use Rattle.std.specs.Prelude.{◌≡◌, ◌++◌, IfOk, string_bytes};
-ghost use Rattle.leastfault.specs.Reports.{fault_lines, refusal_of, report_of};
+ghost use Rattle.leastfault.specs.Reports.{fault_lines, refusal, report};
 
 use lf_faults::{FaultSet, fault_text};
 use lf_scenario::ScenarioError;
@@ -10,7 +10,7 @@ use std::alloc::{AllocError, Global};
 /// The report of an answer: `least K` and the K faults in their order, or `none B` with the budget B, each on a line of
 /// its own.
 pub fn report(alloc: Global, budget: u32, answer: &Option<FaultSet>) -> Result<String, AllocError>
-    ensures { IfOk result (λ text. string_bytes text ≡ report_of budget answer.now) }
+    ensures { IfOk result (λ text. string_bytes text ≡ report budget answer.now) }
 {
     match answer {
         None => format!(in alloc; "none {budget}\n"),
@@ -35,7 +35,7 @@ fn push_faults(alloc: Global, set: &FaultSet, text: &mut String) -> Result<(), A
 
 /// The line of a refused scenario: `refused NUMBER KEY`, or `refused NUMBER` where no key is named.
 pub fn refusal(alloc: Global, error: ScenarioError) -> Result<String, AllocError>
-    ensures { IfOk result (λ text. string_bytes text ≡ refusal_of error) }
+    ensures { IfOk result (λ text. string_bytes text ≡ refusal error) }
 {
     match error.key() {
         Some(key) => format!(in alloc; "refused {} {}\n", error.number(), key.name()),

@@ -237,7 +237,16 @@ fn six_faults_in_any_order(rt: HostRuntime) -> Result<(), Fail> {
             rt.alloc(),
             &tried,
             faults,
-            "step 1\n0 has\n1 lacks\n0>1 data omitted\nstep 2\n0 has\n1 lacks\n0>1 data omitted\nstep 3\n0 has\n1 lacks\n0>1 data omitted\nstep 4\n0 has\n1 lacks\n0>1 data omitted\nstep 5\n0 has\n1 lacks\n0>1 data omitted\nstep 6\n0 has\n1 lacks\n0>1 data omitted\nstep 7\n0 has\n1 lacks\n0>1 data lost\nmisses\n",
+            concat!(
+                "step 1\n0 has\n1 lacks\n0>1 data omitted\n",
+                "step 2\n0 has\n1 lacks\n0>1 data omitted\n",
+                "step 3\n0 has\n1 lacks\n0>1 data omitted\n",
+                "step 4\n0 has\n1 lacks\n0>1 data omitted\n",
+                "step 5\n0 has\n1 lacks\n0>1 data omitted\n",
+                "step 6\n0 has\n1 lacks\n0>1 data omitted\n",
+                "step 7\n0 has\n1 lacks\n0>1 data lost\n",
+                "misses\n",
+            ),
             1,
         )?;
     }

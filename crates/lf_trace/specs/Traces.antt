@@ -59,5 +59,5 @@ module _ (w : World State Note Fact) (faults : List Parts) where
   end_word formula = if reaches w faults formula then codes "reaches" else codes "misses"
 
   -- the steps 1 to the last, and then whether the faults reach the outcome
-  abbrev pub trace_of : Formula Fact → List ℕ
-  trace_of formula = each_below (λ past. step_lines (suc past)) w.horizon ++ line (end_word formula)
+  abbrev pub trace : Formula Fact → List ℕ
+  trace formula = each_below (λ past. step_lines (suc past)) w.horizon ++ line (end_word formula)

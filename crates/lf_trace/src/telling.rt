@@ -3,7 +3,7 @@
 ghost use Rattle.std.specs.Prelude.{◌≡◌, ◌≢◌, ◌++◌, ◌<◌, ◌≤◌, IfOk, Some, string_bytes};
 ghost use Rattle.lf_sim.specs.Settings.{IsRun, set_of, world_of};
 ghost use Rattle.lf_trace.specs.Lines.{line};
-ghost use Rattle.lf_trace.specs.Traces.{end_word, fate, node_line, note_line, note_lines, sender_lines, slot_line, standing, step_lines, trace_of};
+ghost use Rattle.lf_trace.specs.Traces.{end_word, fate, node_line, note_line, note_lines, sender_lines, slot_line, standing, step_lines, trace};
 
 use lf_outcome::{Formula, holds};
 use lf_protocols::{Fact, Note, Protocol};
@@ -35,7 +35,7 @@ pub fn trace(
 ) -> Result<String, AllocError>
     requires { IsRun (world_of setting.now) run.now }
     ensures { IfOk result (λ text.
-        string_bytes text ≡ trace_of (world_of setting.now) (set_of run.now) formula.now) }
+        string_bytes text ≡ trace (world_of setting.now) (set_of run.now) formula.now) }
 {
     let mut text = String::new(alloc);
     'steps: for past in 0..run.horizon() {

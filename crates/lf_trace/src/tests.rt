@@ -142,7 +142,11 @@ fn notes_stand_after_the_nodes_by_sender_and_then_receiver(rt: HostRuntime) -> R
         rt.alloc(),
         &three,
         "",
-        "step 1\n0 has\n1 lacks\n2 lacks\n0>1 data 2\n0>2 data 2\nstep 2\n0 has\n1 has\n2 has\n0>1 data lost\n0>2 data lost\n1>0 data lost\n1>2 data lost\n2>0 data lost\n2>1 data lost\nreaches\n",
+        concat!(
+            "step 1\n0 has\n1 lacks\n2 lacks\n0>1 data 2\n0>2 data 2\n",
+            "step 2\n0 has\n1 has\n2 has\n0>1 data lost\n0>2 data lost\n1>0 data lost\n1>2 data lost\n2>0 data lost\n2>1 data lost\n",
+            "reaches\n",
+        ),
     )
 }
 

@@ -21,7 +21,8 @@ met_back : (text : Text) (texts : List Text) (word : Text) (words : List Text) �
 met_back text texts word words (inl part) = part.1
 met_back text texts word words (inr part) = later text texts words part
 
-other_back : (text : Text) (texts : List Text) (word : Text) (words : List Text) → text ≢ word → IsPartOf (text ∷ texts) (word ∷ words) → IsPartOf (text ∷ texts) words
+other_back : (text : Text) (texts : List Text) (word : Text) (words : List Text) → text ≢ word
+    → IsPartOf (text ∷ texts) (word ∷ words) → IsPartOf (text ∷ texts) words
 other_back text texts word words other (inl part) = absurd (other part.0)
 other_back text texts word words other (inr part) = part
 
@@ -66,4 +67,6 @@ at_end ts ws k i within past same = (
 
     ended : (k < length ts) ⊎ (k ≡ length ts) → IsLeft ts ws k i → IsTrue (nat_eq k (length ts))
     ended (inr is) part = grind (arith, nat_tests)
-    ended (inl less) part = absurd (none_left ts k less (subst (λ (rest : List (String Global)). IsPartOf (map (λ t. t.now) (drop k ts)) (map string_bytes rest)) (drop_of_length-le ws past) part))
+    ended (inl less) part =
+        let Left : List (String Global) → Type 0 = λ rest. IsPartOf (map (λ t. t.now) (drop k ts)) (map string_bytes rest) in
+        absurd (none_left ts k less (subst Left (drop_of_length-le ws past) part))

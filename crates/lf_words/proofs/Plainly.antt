@@ -61,14 +61,16 @@ search_of words (Some p) file (asked.Run own faults) names asked =
     let pair : named_file p ≡ (codes "search", Some file) = some_is _ _ names in
     absurd (no_command p.0 (ap (λ (q : Text × Option Text). q.0) pair) asked.0.0)
 
-asks_search : (words : List Text) (o : Option (Text × List Row)) (file : String Global) → option_map named_file o ≡ Some (codes "search", Some (string_bytes file))
+asks_search : (words : List Text) (o : Option (Text × List Row)) (file : String Global)
+    → option_map named_file o ≡ Some (codes "search", Some (string_bytes file))
     → words ≡ codes "search" ∷ string_bytes file ∷ [] → IsAskedIn words o (asked.Search file)
 asks_search words None file names is = absurd (no_thing _ names)
 asks_search words (Some p) file names is =
     let pair : named_file p ≡ (codes "search", Some (string_bytes file)) = some_is _ _ names in
     ((ap (λ (q : Text × Option Text). q.0) pair, ap (λ (q : Text × Option Text). q.1) pair), rw (is) (inl (refl, inl (refl, tt))))
 
-run_of : (words : List Text) (o : Option (Text × List Row)) (file faults : Text) (a : Asked) → option_map named_both o ≡ Some (codes "run", Some file, Some faults)
+run_of : (words : List Text) (o : Option (Text × List Row)) (file faults : Text) (a : Asked)
+    → option_map named_both o ≡ Some (codes "run", Some file, Some faults)
     → IsAskedIn words o a → texts_of a ≡ codes "run" ∷ file ∷ faults ∷ []
 run_of words None file faults a names asked = elim asked [ ]
 run_of words (Some p) file faults (asked.Search own) names asked =

@@ -31,15 +31,21 @@ is_refusal words k n status (inr among) = inr (inl (has_status (fault_of program
 
 pub fault_is_none : (app : App) (words : List Text) (m : ArgMatches) → app ≡ program
     → (is_simple_and_free app ≡ true → fault_of app words ≡ []) → fault_of program words ≡ []
-fault_is_none app words m is kinds = subst (λ (a : App). (is_simple_and_free a ≡ true → fault_of a words ≡ []) → fault_of program words ≡ []) (sym is) (λ h. h program_is_free) kinds
+fault_is_none app words m is kinds =
+    let Follows : App → Type 0 = λ a. (is_simple_and_free a ≡ true → fault_of a words ≡ []) → fault_of program words ≡ [] in
+    subst Follows (sym is) (λ h. h program_is_free) kinds
 
 pub command_is : (app : App) (words : List Text) (m : ArgMatches) → app ≡ program → HasMatchesOf app words m
     → subcommand_rows_of m ≡ subcommand_of program words
-command_is app words m is matches = subst (λ (a : App). HasMatchesOf a words m → subcommand_rows_of m ≡ subcommand_of program words) (sym is) (λ h. (h program_is_simple).1) matches
+command_is app words m is matches =
+    let Follows : App → Type 0 = λ a. HasMatchesOf a words m → subcommand_rows_of m ≡ subcommand_of program words in
+    subst Follows (sym is) (λ h. (h program_is_simple).1) matches
 
 pub kinds_are : (app : App) (words : List Text) (e : Error) → app ≡ program
     → (is_simple_and_free app ≡ true → HasKind (fault_of app words) e) → HasKind (fault_of program words) e
-kinds_are app words e is kinds = subst (λ (a : App). (is_simple_and_free a ≡ true → HasKind (fault_of a words) e) → HasKind (fault_of program words) e) (sym is) (λ h. h program_is_free) kinds
+kinds_are app words e is kinds =
+    let Follows : App → Type 0 = λ a. (is_simple_and_free a ≡ true → HasKind (fault_of a words) e) → HasKind (fault_of program words) e in
+    subst Follows (sym is) (λ h. h program_is_free) kinds
 
 pub asks : (words : List Text) (command : Option (Text × List Row)) (o : Option Asked) (a : Asked) → fault_of program words ≡ []
     → command ≡ subcommand_of program words → IsAnswer (IsAskedIn words command) o → o ≡ Some a → Asks words a

@@ -13,7 +13,8 @@ const VERSION: &str = "0.1.0";
 
 /// What the program does.
 const ABOUT: &str =
-    "Looks for the fewest faults (lost messages, crashes, pauses) with which a protocol misses the outcome that it promises.\nWith no words it reads a scenario from standard input and searches, as `search -` does.";
+    "Looks for the fewest faults (lost messages, crashes, pauses) with which a protocol misses the outcome that it promises.
+With no words it reads a scenario from standard input and searches, as `search -` does.";
 
 /// What the words of the commands stand for, and the statuses that the program exits with.
 const WORDS: &str = "Words:

@@ -2,33 +2,41 @@ use Rattle.std.proofs.Common.{◌≡◌, ◌≢◌, inl, string_bytes}
 use Rattle.std.proofs.lemmas.Result.{IfOk-weaker}
 use Rattle.lf_sim.specs.Settings.{world_of}
 use Rattle.lf_scenario.specs.declared.error.ScenarioError.{ScenarioError}
-use Rattle.lf_trace.specs.Traces.{trace_of}
+use Rattle.lf_trace.specs.Traces.{trace}
 use Rattle.leastfault.specs.Answers.{reaches_in}
 use Rattle.leastfault.specs.Replies.{IsRunReply}
-use Rattle.leastfault.specs.Reports.{no_set_line, refusal_of, run_status}
+use Rattle.leastfault.specs.Reports.{no_set_line, refusal, run_status}
 use Rattle.leastfault.proofs.ReplyLemmas.{run_of_set, run_without_set}
 use Rattle.leastfault.proofs.answering.run_reply.Goals as goal
 
 pub returns-in-Some : goal.returns-in-Some
 returns-in-Some c =
+    let words = c.args.faults.now in
+    let text = c.args.text.now in
+    let s = c.in-Ok.scenario in
+    let set = c.in-Some.set in
     IfOk-weaker c.traced.result
-    (λ reply. (string_bytes reply.text ≡ trace_of (world_of c.in-Ok.scenario.setting) c.in-Some.set c.in-Ok.scenario.formula) × (reply.status ≡ run_status (reaches_in c.in-Ok.scenario c.in-Some.set)))
-    (λ reply. IsRunReply c.args.faults.now c.args.text.now (string_bytes reply.text) reply.status)
-    (λ reply told. run_of_set c.args.faults.now c.args.text.now (string_bytes reply.text) reply.status c.in-Ok.scenario c.in-Some.set c.in-Ok.ensures.reading
-    ((c.allowed_set.ensures c.in-Some.set).0 c.in-Some.is) told.0 told.1)
+    (λ reply. (string_bytes reply.text ≡ trace (world_of s.setting) set s.formula) × (reply.status ≡ run_status (reaches_in s set)))
+    (λ reply. IsRunReply words text (string_bytes reply.text) reply.status)
+    (λ reply told. run_of_set words text (string_bytes reply.text) reply.status s set c.in-Ok.ensures.reading
+    ((c.allowed_set.ensures set).0 c.in-Some.is) told.0 told.1)
     c.traced.ensures
 
 pub returns-in-Ok : goal.returns-in-Ok
 returns-in-Ok c =
+    let words = c.args.faults.now in
+    let text = c.args.text.now in
     IfOk-weaker c.no_set.result (λ reply. (string_bytes reply.text ≡ no_set_line) × (reply.status ≡ 2))
-    (λ reply. IsRunReply c.args.faults.now c.args.text.now (string_bytes reply.text) reply.status)
-    (λ reply told. run_without_set c.args.faults.now c.args.text.now (string_bytes reply.text) reply.status c.in-Ok.scenario c.allowed_set.result
+    (λ reply. IsRunReply words text (string_bytes reply.text) reply.status)
+    (λ reply told. run_without_set words text (string_bytes reply.text) reply.status c.in-Ok.scenario c.allowed_set.result
     c.in-Ok.ensures.reading c.allowed_set.ensures c.in-None.is told.0 told.1)
     c.no_set.ensures
 
 pub returns : goal.returns
 returns c =
-    IfOk-weaker c.refused.result (λ reply. (c.in-Err.error ≢ ScenarioError.Memory) × (string_bytes reply.text ≡ refusal_of c.in-Err.error) × (reply.status ≡ 2))
+    let error = c.in-Err.error in
+    IfOk-weaker c.refused.result
+    (λ reply. (error ≢ ScenarioError.Memory) × (string_bytes reply.text ≡ refusal error) × (reply.status ≡ 2))
     (λ reply. IsRunReply c.args.faults.now c.args.text.now (string_bytes reply.text) reply.status)
-    (λ reply told. inl (c.in-Err.error, c.in-Err.ensures.reading told.0, told.1, told.2))
+    (λ reply told. inl (error, c.in-Err.ensures.reading told.0, told.1, told.2))
     c.refused.ensures

@@ -11,7 +11,8 @@ returns-clause-reply g c =
     let held = g.R.Source.left c.args.reader.now in
     let old = g.W.Sink.written c.args.writer.now in
     let new = g.W.Sink.written c.send.new.writer in
-    IfOk-weaker c.send.result (λ status. (status ≡ c.in-Ok.reply.status) × Appends old new (string_bytes c.in-Ok.reply.text)) (WroteReply (IsRunReply c.args.faults.now) held old new)
+    IfOk-weaker c.send.result (λ status. (status ≡ c.in-Ok.reply.status) × Appends old new (string_bytes c.in-Ok.reply.text))
+    (WroteReply (IsRunReply c.args.faults.now) held old new)
     (λ status told. wrote_reply (IsRunReply c.args.faults.now) (run_by_front c.args.faults.now) held old new c.in_ok-text.text.items c.as_slice.result.now
     (string_bytes c.in-Ok.reply.text) c.in-Ok.reply.status c.in_ok-text.ensures.text c.as_slice.ensures.value c.in-Ok.ensures status told.0 told.1)
     c.send.ensures.whole

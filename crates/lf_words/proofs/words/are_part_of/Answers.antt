@@ -28,4 +28,6 @@ loop-word-preserved c = elim c.if-met-texts.branch [
 ]
 
 pub returns : goal.returns
-returns c = at_end c.args.texts.now c.args.words.now c.loop-word.met c.loop-word.word-index c.loop-word.invariant.within c.loop-word-test.false c.loop-word.invariant.same
+returns c =
+    at_end c.args.texts.now c.args.words.now c.loop-word.met c.loop-word.word-index c.loop-word.invariant.within c.loop-word-test.false
+    c.loop-word.invariant.same

@@ -56,13 +56,13 @@ returns-in-Some-clause-unknown c unknown =
 
 pub returns-in-Ok-clause-help : goal.returns-in-Ok-clause-help
 returns-in-Ok-clause-help c help =
-    one_status (map string_bytes c.args.words.now) kind.DisplayHelp c.in_ok-unread-in-None.field-0.status (help_is (map string_bytes c.args.words.now) help)
-    (returns-in-Ok-clause-words c (search rules))
+    let words = map string_bytes c.args.words.now in
+    one_status words kind.DisplayHelp c.in_ok-unread-in-None.field-0.status (help_is words help) (returns-in-Ok-clause-words c (search rules))
 
 pub returns-clause-help : goal.returns-clause-help
 returns-clause-help c help =
-    one_status (map string_bytes c.args.words.now) kind.DisplayHelp c.in_ok-refused-in-Err.field-0.status (help_is (map string_bytes c.args.words.now) help)
-    (returns-clause-words c (search rules))
+    let words = map string_bytes c.args.words.now in
+    one_status words kind.DisplayHelp c.in_ok-refused-in-Err.field-0.status (help_is words help) (returns-clause-words c (search rules))
 
 pub returns-clause-unknown : goal.returns-clause-unknown
 returns-clause-unknown c unknown =
@@ -74,10 +74,10 @@ returns-in-Some-clause-version c version =
 
 pub returns-in-Ok-clause-version : goal.returns-in-Ok-clause-version
 returns-in-Ok-clause-version c version =
-    one_status (map string_bytes c.args.words.now) kind.DisplayVersion c.in_ok-unread-in-None.field-0.status (version_is (map string_bytes c.args.words.now) version)
-    (returns-in-Ok-clause-words c (search rules))
+    let words = map string_bytes c.args.words.now in
+    one_status words kind.DisplayVersion c.in_ok-unread-in-None.field-0.status (version_is words version) (returns-in-Ok-clause-words c (search rules))
 
 pub returns-clause-version : goal.returns-clause-version
 returns-clause-version c version =
-    one_status (map string_bytes c.args.words.now) kind.DisplayVersion c.in_ok-refused-in-Err.field-0.status (version_is (map string_bytes c.args.words.now) version)
-    (returns-clause-words c (search rules))
+    let words = map string_bytes c.args.words.now in
+    one_status words kind.DisplayVersion c.in_ok-refused-in-Err.field-0.status (version_is words version) (returns-clause-words c (search rules))
