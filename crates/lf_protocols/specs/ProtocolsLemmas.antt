@@ -1,6 +1,6 @@
 -- No node of a protocol sends to itself, or past the nodes. The machine cites this where it shows its law `silent`, and may
 -- cite nothing of `proofs`, so it stands here.
-use Rattle.std.proofs.Common.{◌≡◌, ℕ, ◌+◌, ◌<◌, ◌≤◌, Bool, true, false, not, ◌||◌, cond, nat_eq, List, [], ◌∷◌, refl, sym, ◌∙◌, subst, arith, inl, inr}
+use Rattle.std.proofs.Common.{◌≡◌, ℕ, ◌+◌, ◌<◌, ◌≤◌, Bool, true, false, not, ◌||◌, cond, nat_eq, List, sym, ◌∙◌, subst, arith, inl, inr}
 use Rattle.std.specs.Prelude.{◌⊎◌, ◌≢◌, ◌&&◌, nat_le, nat_lt, Option, None, fold, slice_index_or}
 use Rattle.std.proofs.lemmas.Bool.{cases_lt, cond_both, eqb-false, eqb-true, leb-true}
 use Rattle.std.proofs.lemmas.List.Folds.{fold_along}
@@ -29,7 +29,7 @@ use Rattle.lf_protocols.specs.CommitTable.{Turn, in_phase, commit_enter, commit_
 use Rattle.lf_protocols.specs.CommitTable.{commit_open, commit_poll, commit_end_poll, commit_participate}
 use Rattle.lf_protocols.specs.TwoPhaseTable.{two_phase_end}
 use Rattle.lf_protocols.specs.ThreePhaseTable.{three_phase_hear, three_phase_end, three_phase_join, three_phase_wait}
-use Rattle.lf_protocols.specs.PrimaryBackupTable.{primary_hear, primary_end, is_repl, backup_hear, backup_end, claim, client_open, client_hear}
+use Rattle.lf_protocols.specs.PrimaryBackupTable.{primary_hear, is_repl, backup_hear, claim, client_open, client_hear}
 use Rattle.lf_protocols.specs.PrimaryBackupTable.{primary_step, backup_step, client_step, primary_backup_step}
 use Rattle.lf_protocols.specs.Protocols.{nodes_of, wrapped, ignored, step_of}
 

@@ -2,7 +2,8 @@
 
 ghost use Rattle.std.specs.Prelude.{◌≡◌, ℕ, false};
 ghost use Rattle.lf_protocols.specs.PrimaryBackupTable.{primary_backup_start, primary_backup_wake, primary_backup_step, primary_backup_shows};
-ghost use Rattle.lf_protocols.specs.PrimaryBackupTable.{primary_hear, primary_end, backup_hear, backup_end, claim, client_open, client_hear, primary_step, backup_step, client_step};
+ghost use Rattle.lf_protocols.specs.PrimaryBackupTable.{primary_hear, primary_end, backup_hear, backup_end, primary_step, backup_step};
+ghost use Rattle.lf_protocols.specs.PrimaryBackupTable.{claim, client_open, client_hear, client_step};
 
 use crate::{Fact, Note, Replica, turns};
 use lf_sim::{Letter, Out, Stepped};
