@@ -1,8 +1,8 @@
 -- The tables of what a set of faults does, fault by fault.
 use Rattle.std.proofs.Common.{◌≡◌, ℕ, ◌+◌, ◌<◌, ◌≤◌, Bool, true, false, List, [], ◌∷◌, ◌++◌, length, take, slice_set, get_or, refl, sym, ap, ◌∙◌, subst, arith, inl, inr, eq-eqb, nat_eq, nat_le}
-use Rattle.std.specs.Prelude.{◌||◌, ◌&&◌, not, ◌⊎◌, slice_index, slice_index_or}
+use Rattle.std.specs.Prelude.{◌||◌, ◌&&◌, not, slice_index, slice_index_or}
 use Rattle.std.specs.List.{list_any}
-use Rattle.std.proofs.lemmas.Bool.{false_from_ne_true, false≢true, and_parts, eqb-true, leb-true, le-leb, lt-leb}
+use Rattle.std.proofs.lemmas.Bool.{false_from_ne_true, false≢true, and_parts, eqb-true, le-leb, lt-leb}
 use Rattle.std.proofs.lemmas.Bool.Decides.{eqb_tells, leb_tells}
 use Rattle.std.proofs.lemmas.List.{take_more, append-nil, take-append-drop, get_or-set_other, get_or-set_same}
 use Rattle.std.proofs.lemmas.List.Folds.{list_any-append}

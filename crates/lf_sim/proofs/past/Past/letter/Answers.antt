@@ -1,4 +1,4 @@
-use Rattle.std.proofs.Common.{Some, None, ◌+◌, sym, ◌∙◌, arith}
+use Rattle.std.proofs.Common.{Some, None, ◌+◌, sym, ◌∙◌}
 use Rattle.lf_sim.specs.Runs.{did}
 use Rattle.lf_sim.specs.Settings.{world_of}
 use Rattle.lf_sim.proofs.RunsLemmas.{letter-omitted, letter_is}
