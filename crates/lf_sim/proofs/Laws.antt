@@ -1,13 +1,11 @@
 -- What crates above may build on, in the words of specs/.
-use Rattle.std.proofs.Common.{◌≡◌, ℕ, ◌+◌, ◌<◌, ◌≤◌, true, false, List, ◌++◌}
+use Rattle.std.proofs.Common.{◌≡◌, ℕ, ◌+◌, ◌<◌, true, false, List, ◌++◌}
 use Rattle.std.specs.Prelude.{None}
 use Rattle.std.specs.Option.{option_map}
 use Rattle.std.specs.List.{Contains}
 use Rattle.lf_faults.specs.declared.fault.Parts.{Parts}
 use Rattle.lf_faults.specs.declared.fault.Parts.TheVariants.{Omit, Pause}
 use Rattle.lf_faults.specs.Faults.{set_omits, set_wakes}
-use Rattle.lf_sim.specs.declared.letter.Letter.{Letter}
-use Rattle.lf_sim.specs.declared.out.Stepped.{Stepped}
 use Rattle.lf_sim.specs.Outs.{note_to, nothing}
 use Rattle.lf_sim.specs.Points.{IsRunning}
 use Rattle.lf_sim.specs.Runs.{World, Past, each_below, is_up, before_step, letter, letters, turn, did, view, sent, inbox}

@@ -1,7 +1,7 @@
 -- The notes of one step, read back. A machine cites these where it shows its law `silent`, and can cite only what stands in
 -- specs/. A reader of contracts may pass by.
 use Rattle.std.proofs.Common.{◌≡◌, ℕ, zero, suc, ◌<◌, ◌≤◌, Bool, true, false, cond, refl, sym, ◌∙◌, arith, inl, inr, nat_eq, eq-eqb}
-use Rattle.std.specs.Prelude.{◌⊎◌, ◌≢◌, nat_lt, ◌&&◌, Option, None, Some}
+use Rattle.std.specs.Prelude.{◌⊎◌, ◌≢◌, nat_lt, Option, None, Some}
 use Rattle.std.proofs.lemmas.Bool.{cases_lt, ne_eqb, le-ltb}
 use Rattle.std.proofs.Math.Bool.{and-false}
 use Rattle.lf_sim.specs.declared.out.Out.{Out}
