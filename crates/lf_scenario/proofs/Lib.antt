@@ -1,4 +1,5 @@
-pub mod LinkSteps
-pub mod NamedRanges
-pub mod VotesLemmas
-pub mod Refusing
+pub mod Laws
+mod FormulaLemmas
+mod LinkSteps
+mod NamedRanges
+mod VotesLemmas

@@ -1,5 +1,5 @@
 -- One table more among those of links.
-use Rattle.std.proofs.Common.{◌≡◌, ℕ, ◌+◌, ◌<◌, ◌==◌, ◌&&◌, cond, List, [], ◌∷◌, ◌++◌, length, get_or, drop, fold, Ok, String, BTreeMap, Global, inl, inr, sym, ap, ◌∙◌}
+use Rattle.std.proofs.Common.{◌≡◌, ℕ, ◌+◌, ◌<◌, ◌==◌, ◌&&◌, cond, List, [], ◌∷◌, ◌++◌, length, get_or, drop, fold, map, Ok, String, BTreeMap, Global, inl, inr, sym, ap, ◌∙◌}
 use Rattle.std.proofs.lemmas.Bool.{cases_eq, eq-eqb, ne_eqb, and_right}
 use Rattle.std.proofs.lemmas.List.{drop_more}
 use Rattle.toml.specs.Data.{item, table, Items}
@@ -8,7 +8,10 @@ use Rattle.toml.specs.declared.value.Value.{Value, Table}
 use Rattle.toml.proofs.Views.{items_view-drop, view-Table}
 use Rattle.lf_scenario.specs.declared.links.Link.{Link}
 use Rattle.lf_scenario.specs.Values.{◌>>=◌}
-use Rattle.lf_scenario.specs.LinkTables.{link_in, links_from}
+use Rattle.lf_scenario.specs.LinkTables.{link_in, links_from, table_by}
+use Rattle.std.specs.List.{range_with_len}
+use Rattle.std.proofs.lemmas.List.FromFn.{fill_by_all}
+use Rattle.lf_latency.specs.Links.{entry_at}
 
 -- the first of the items is a table
 shape : (vs : List Value) (i : ℕ) (v : Value) (t : BTreeMap (String Global) Value) → i < length vs → v ≡ get_or vs i v → v ≡ Table t
@@ -53,3 +56,10 @@ pub own_delay : (from to n m own old new : ℕ) (delay : ℕ → ℕ → ℕ) �
     → cond ((from == n) && (to == m)) own old ≡ new
 own_delay from to n m own old new delay is here others =
     chosen from to n m own old new (λ same equal. sym is ∙ ap (λ k. delay k m) same ∙ ap (delay from) equal ∙ here) others
+
+-- a table of eight rows of eight, by its entries
+pub table-by : (rows : List (List ℕ)) (entry : ℕ → ℕ → ℕ) → length rows ≡ 8 → ((n : ℕ) → n < 8 → length (get_or rows n []) ≡ 8)
+    → ((n m : ℕ) → n < 8 → m < 8 → entry_at rows n m ≡ entry n m) → rows ≡ table_by entry
+table-by rows entry eight long each =
+    fill_by_all (λ n. map (entry n) (range_with_len 0 8)) rows 8 [] eight
+    (λ n low. fill_by_all (entry n) (get_or rows n []) 8 0 (long n low) (λ m below. each n m low below))

@@ -11,17 +11,18 @@
 -- A key is refused as one of another protocol, then as missing, then for its kind, then for its value.
 use Rattle.std.specs.Prelude.{ℕ, ◌-◌, Bool, true, false, ◌&&◌, nat_le, if◌then◌else◌, List, replicate, codes, Ok, Err}
 use Rattle.std.specs.Str.{bytes_eq}
-use Rattle.toml.specs.Data.{Data, string, array, Members}
+use Rattle.toml.specs.Data.{Data, string, Members}
 use Rattle.lf_faults.specs.Allowed.{Bounds}
 use Rattle.lf_protocols.specs.declared.protocol.Kind.{Kind}
 use Rattle.lf_protocols.specs.declared.protocol.Kind.TheVariants as kinds
 use Rattle.lf_scenario.specs.declared.key.Key.{Key}
-use Rattle.lf_scenario.specs.declared.key.Key.TheVariants.{Nodes, Horizon, LastOmission, Crashes, Budget, Pauses, PauseLength, MaxSets, Seed, Least, Spread, Protocol, Tries, Patience, Votes, Outcome}
+use Rattle.lf_scenario.specs.declared.key.Key.TheVariants.{Nodes, Horizon, LastOmission, Crashes, Budget, Pauses, PauseLength, MaxSets, Seed, Least, Spread, Protocol, Tries, Patience, Votes}
 use Rattle.lf_scenario.specs.declared.error.ScenarioError.TheVariants as refusals
 use Rattle.lf_scenario.specs.declared.names.ProtocolName.{ProtocolName}
 use Rattle.lf_scenario.specs.declared.names.ProtocolName.TheVariants as protocols
 use Rattle.lf_outcome.specs.declared.outcome.Outcome.{Outcome as OutcomeName}
 use Rattle.lf_outcome.specs.declared.outcome.Outcome.TheVariants as outcomes
+use Rattle.lf_scenario.specs.declared.limits.TheConstants.{MOST_SETS, USUAL_SETS}
 use Rattle.lf_scenario.specs.declared.reading.Delays.{Delays}
 use Rattle.lf_scenario.specs.declared.reading.Described.{Described}
 use Rattle.lf_scenario.specs.Values.{Reading, ◌>>=◌, whole, seed_in, required, optional, owned, chosen, known}
@@ -126,12 +127,6 @@ abbrev pub protocol_in : ℕ → Key → Data → Reading ProtocolName
 protocol_in nodes key (string name) = protocol_of nodes name
 protocol_in nodes key _ = Err (refusals.WrongKind key)
 
--- the text of an outcome's name, or a list
-abbrev pub outcome_in : Kind → Key → Data → Reading OutcomeName
-outcome_in k key (string name) = outcome_of k name
-outcome_in k key (array parts) = Err refusals.Formula
-outcome_in k key _ = Err (refusals.WrongKind key)
-
 -- nodes, steps, and bounds on faults
 unfoldable pub bounds_in : Members → Reading Bounds
 bounds_in ms = do
@@ -161,13 +156,12 @@ kind_in nodes ms = do
   votes ← chosen (has_votes name) ms Votes (votes_in nodes) all_agree
   Ok (kind_of name nodes tries patience votes)
 
--- all that a scenario says but its links
+-- all that a scenario says but its outcome and its links
 unfoldable pub described_in : Members → Reading Described
 described_in ms = do
   all ← known ms
   bounds ← bounds_in ms
-  max_sets ← optional ms MaxSets (whole 1 1000000) 100000
+  max_sets ← optional ms MaxSets (whole 1 MOST_SETS) USUAL_SETS
   delays ← delays_in ms
   kind ← kind_in bounds.nodes ms
-  outcome ← required ms Outcome (outcome_in kind)
-  Ok (record { bounds = bounds; max_sets = max_sets; delays = delays; protocol = kind; outcome = outcome })
+  Ok (record { bounds = bounds; max_sets = max_sets; delays = delays; protocol = kind })

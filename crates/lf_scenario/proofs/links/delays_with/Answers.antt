@@ -3,7 +3,7 @@ use Rattle.lf_latency.specs.Links.{least_of, spread_of}
 use Rattle.lf_scenario.specs.declared.links.Link.{Link}
 use Rattle.lf_scenario.specs.LinkTables.{least_after, spread_after}
 use Rattle.lf_scenario.proofs.LinkSteps.{given-step, own_delay}
-use Rattle.lf_scenario.proofs.links.all_delays.Goals as goal
+use Rattle.lf_scenario.proofs.links.delays_with.Goals as goal
 
 pub links-preserved : goal.links-preserved
 links-preserved c =
@@ -16,7 +16,7 @@ links-preserved c =
     let new = c.with-delays.result in
     let put = c.with-delays.ensures in
     record {
-      form = put.form c.args.nodes c.links.invariant.form (c.requires.links i d within).pair;
+      form = put.form c.args.usual.nodes c.links.invariant.form (c.requires i d within).pair;
       least = λ n m pair. given-step (least_after n m) (least_of old n m) (least_of new n m) _ links i d within
           (own_delay link.from link.to n m link.least (least_of old n m) (least_of new n m) (least_of new) refl put.least_here (λ other. (put.others n m other).0))
           (c.links.invariant.least n m pair);
