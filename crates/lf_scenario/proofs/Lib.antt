@@ -1,5 +1,7 @@
 pub mod Laws
+mod AskedLemmas
 mod FormulaLemmas
 mod LinkSteps
 mod NamedRanges
+mod ReadRanges
 mod VotesLemmas

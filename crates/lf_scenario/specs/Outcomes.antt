@@ -18,12 +18,13 @@ use Rattle.lf_outcome.specs.declared.formula.Formula.{Formula}
 use Rattle.lf_outcome.specs.declared.formula.Formula.TheVariants as kind
 use Rattle.lf_outcome.specs.Measures.{depth_of, atoms_of}
 use Rattle.lf_outcome.specs.Named.{formula_of}
+use Rattle.lf_outcome.specs.Outcomes.{outcome_named}
+use Rattle.lf_outcome.specs.declared.outcome.Outcome.{Outcome as Named}
 use Rattle.lf_scenario.specs.declared.key.Key.{Key}
 use Rattle.lf_scenario.specs.declared.key.Key.TheVariants.{Outcome}
 use Rattle.lf_scenario.specs.declared.limits.TheConstants.{DEEPEST, MOST_ATOMS}
 use Rattle.lf_scenario.specs.declared.error.ScenarioError.TheVariants as refusals
 use Rattle.lf_scenario.specs.Values.{Reading, ◌>>=◌, whole}
-use Rattle.lf_scenario.specs.Reading.{outcome_of}
 
 -- within a formula, whatever is refused makes it no formula
 abbrev pub in_formula : {A : Type 0} → Reading A → Reading A
@@ -44,21 +45,27 @@ abbrev pub fact_in : Kind → Data → Reading Fact
 fact_in k (string word) = found_fact (fact_named k word)
 fact_in k _ = Err refusals.Formula
 
--- the items after the word `down`
-abbrev pub down_in : Bounds → Items → Reading (Formula Fact)
-down_in b (item n (item t no_items)) = do
+abbrev pub down_of : Bounds → Data → Data → Reading (Formula Fact)
+down_of b n t = do
   node ← node_in b n
   step ← step_in b t
   Ok (kind.Down node step)
-down_in b _ = Err refusals.Formula
 
--- the items after the word `shows`
-abbrev pub shows_in : Kind → Bounds → Items → Reading (Formula Fact)
-shows_in k b (item n (item t (item f no_items))) = do
+abbrev pub shows_of : Kind → Bounds → Data → Data → Data → Reading (Formula Fact)
+shows_of k b n t f = do
   node ← node_in b n
   step ← step_in b t
   fact ← fact_in k f
   Ok (kind.Shows node step fact)
+
+-- the items after the word `down`
+abbrev pub down_in : Bounds → Items → Reading (Formula Fact)
+down_in b (item n (item t no_items)) = down_of b n t
+down_in b _ = Err refusals.Formula
+
+-- the items after the word `shows`
+abbrev pub shows_in : Kind → Bounds → Items → Reading (Formula Fact)
+shows_in k b (item n (item t (item f no_items))) = shows_of k b n t f
 shows_in k b _ = Err refusals.Formula
 
 -- a list by its first word, with what is read of the other items as parts, as those after `down`, and as those after
@@ -89,8 +96,13 @@ abbrev pub limited : Formula Fact → Reading (Formula Fact)
 limited formula =
     if nat_le (depth_of formula) DEEPEST && nat_le (atoms_of formula) MOST_ATOMS then Ok formula else Err refusals.Formula
 
+-- the formula of the outcome that a name finds
+abbrev pub named_in : Bounds → Option Named → Reading (Formula Fact)
+named_in b (Some outcome) = Ok (formula_of outcome b.nodes b.horizon)
+named_in b None = Err refusals.Outcome
+
 -- what the key `outcome` takes: a name, or a list
 abbrev pub outcome_in : Kind → Bounds → Key → Data → Reading (Formula Fact)
-outcome_in k b key (string name) = outcome_of k name >>= (λ outcome. Ok (formula_of outcome b.nodes b.horizon))
+outcome_in k b key (string name) = named_in b (outcome_named k name)
 outcome_in k b key (array ds) = formula_in k b (array ds) >>= limited
 outcome_in k b key _ = Err (refusals.WrongKind key)

@@ -1,5 +1,6 @@
 -- The ranges of what is read.
 use Rattle.std.specs.Prelude.{◌≡◌, ℕ, ◌≤◌, Bool, List}
+use Rattle.lf_faults.specs.Allowed.{IsInLimits}
 use Rattle.lf_protocols.specs.Limits.{IsCommit, IsWithinLimits}
 use Rattle.lf_protocols.specs.Protocols.{nodes_of}
 use Rattle.lf_scenario.specs.declared.limits.TheConstants.{MOST_SETS}
@@ -15,6 +16,7 @@ abbrev pub AreVotes : ℕ → List Bool → Type 0
 AreVotes nodes votes = (patience : ℕ) → 1 ≤ patience → patience ≤ 48 → IsCommit nodes patience votes
 
 pub record IsInRange (described : Described) : Type 0 where
+  pub bounds : IsInLimits described.bounds
   pub delays : AreDelays described.delays
   pub limits : IsWithinLimits described.protocol
   pub nodes : nodes_of described.protocol ≡ described.bounds.nodes

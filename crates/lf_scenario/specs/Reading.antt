@@ -20,8 +20,6 @@ use Rattle.lf_scenario.specs.declared.key.Key.TheVariants.{Nodes, Horizon, LastO
 use Rattle.lf_scenario.specs.declared.error.ScenarioError.TheVariants as refusals
 use Rattle.lf_scenario.specs.declared.names.ProtocolName.{ProtocolName}
 use Rattle.lf_scenario.specs.declared.names.ProtocolName.TheVariants as protocols
-use Rattle.lf_outcome.specs.declared.outcome.Outcome.{Outcome as OutcomeName}
-use Rattle.lf_outcome.specs.declared.outcome.Outcome.TheVariants as outcomes
 use Rattle.lf_scenario.specs.declared.limits.TheConstants.{MOST_SETS, USUAL_SETS}
 use Rattle.lf_scenario.specs.declared.reading.Delays.{Delays}
 use Rattle.lf_scenario.specs.declared.reading.Described.{Described}
@@ -67,60 +65,6 @@ kind_of protocols.Redundant nodes tries patience votes = kinds.Redundant nodes t
 kind_of protocols.TwoPhase nodes tries patience votes = kinds.TwoPhase nodes patience votes
 kind_of protocols.ThreePhase nodes tries patience votes = kinds.ThreePhase nodes patience votes
 kind_of protocols.PrimaryBackup nodes tries patience votes = kinds.PrimaryBackup nodes patience
-
--- the outcomes of a delivery, of a commit, and of a primary with its backup, by their names
-abbrev pub delivery_named : List ℕ → Reading OutcomeName
-delivery_named name = if bytes_eq name (codes "delivered") then Ok outcomes.Delivered else Err refusals.Outcome
-
-abbrev pub commit_named : List ℕ → Reading OutcomeName
-commit_named name =
-    if bytes_eq name (codes "agreement") then Ok outcomes.Agreement
-    else if bytes_eq name (codes "unblocked") then Ok outcomes.Unblocked
-    else Err refusals.Outcome
-
-abbrev pub replica_named : List ℕ → Reading OutcomeName
-replica_named name =
-    if bytes_eq name (codes "one_primary") then Ok outcomes.OnePrimary
-    else if bytes_eq name (codes "durable") then Ok outcomes.Durable
-    else Err refusals.Outcome
-
--- those of a protocol
-abbrev pub outcome_of : Kind → List ℕ → Reading OutcomeName
-outcome_of (kinds.Retry nodes tries) name = delivery_named name
-outcome_of (kinds.Redundant nodes tries) name = delivery_named name
-outcome_of (kinds.TwoPhase nodes patience votes) name = commit_named name
-outcome_of (kinds.ThreePhase nodes patience votes) name = commit_named name
-outcome_of (kinds.PrimaryBackup nodes patience) name = replica_named name
-
--- whether it is an outcome of a delivery, of a commit, or of a primary with its backup
-abbrev pub is_of_delivery : OutcomeName → Bool
-is_of_delivery outcomes.Delivered = true
-is_of_delivery outcomes.Agreement = false
-is_of_delivery outcomes.Unblocked = false
-is_of_delivery outcomes.OnePrimary = false
-is_of_delivery outcomes.Durable = false
-
-abbrev pub is_of_commit : OutcomeName → Bool
-is_of_commit outcomes.Delivered = false
-is_of_commit outcomes.Agreement = true
-is_of_commit outcomes.Unblocked = true
-is_of_commit outcomes.OnePrimary = false
-is_of_commit outcomes.Durable = false
-
-abbrev pub is_of_replica : OutcomeName → Bool
-is_of_replica outcomes.Delivered = false
-is_of_replica outcomes.Agreement = false
-is_of_replica outcomes.Unblocked = false
-is_of_replica outcomes.OnePrimary = true
-is_of_replica outcomes.Durable = true
-
--- whether the protocol has the outcome
-abbrev pub is_outcome_of : Kind → OutcomeName → Bool
-is_outcome_of (kinds.Retry nodes tries) outcome = is_of_delivery outcome
-is_outcome_of (kinds.Redundant nodes tries) outcome = is_of_delivery outcome
-is_outcome_of (kinds.TwoPhase nodes patience votes) outcome = is_of_commit outcome
-is_outcome_of (kinds.ThreePhase nodes patience votes) outcome = is_of_commit outcome
-is_outcome_of (kinds.PrimaryBackup nodes patience) outcome = is_of_replica outcome
 
 -- the text of a protocol's name
 abbrev pub protocol_in : ℕ → Key → Data → Reading ProtocolName

@@ -1,6 +1,6 @@
 //! The tables of links.
 
-ghost use Rattle.std.specs.Prelude.{◌≡◌, ◌≢◌, ◌≤◌, [], All, IfOk, IfErr};
+ghost use Rattle.std.specs.Prelude.{ℕ, ◌≡◌, ◌≢◌, ◌<◌, ◌≤◌, [], All, length, slice_index_or, IfOk, IfErr};
 ghost use Rattle.toml.specs.View.{view, table_view, array_view};
 ghost use Rattle.lf_latency.specs.Links.{IsLinks};
 ghost use Rattle.lf_scenario.specs.Values.{optional};
@@ -190,7 +190,24 @@ fn delays_with(usual: Usual, given: &[Link]) -> Links
     'links: for link in given {
         delays = delays.with(link.from, link.to, link.least, link.spread);
     }
+    has_eight_rows(&delays.least);
+    has_eight_rows(&delays.spread);
     delays
+}
+
+/// The law that a row has eight entries.
+fn has_eight_entries(row: &[u32; 8])
+    ensures { length row.now ≡ 8 }
+{}
+
+/// The law that a table has eight rows of eight entries.
+fn has_eight_rows(table: &[[u32; 8]; 8])
+    ensures rows { length table.now ≡ 8 }
+    ensures entries { (n : ℕ) → n < 8 → length (slice_index_or table.now n []) ≡ 8 }
+{
+    'rows: for row in table {
+        has_eight_entries(row);
+    }
 }
 
 /// The delays of all links, by the table and the usual ones.

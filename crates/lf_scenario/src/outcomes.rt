@@ -1,76 +1,22 @@
 //! The outcome: a name, or a formula as a list.
 
-ghost use Rattle.std.specs.Prelude.{◌≡◌, ◌≢◌, ◌≤◌, true, IfOk, IfErr};
+ghost use Rattle.std.specs.Prelude.{◌≡◌, ◌≢◌, IfOk, IfErr};
 ghost use Rattle.toml.specs.View.{view, items_view, table_view};
-ghost use Rattle.lf_protocols.specs.Limits.{IsWithinLimits};
-ghost use Rattle.lf_protocols.specs.Protocols.{nodes_of};
+ghost use Rattle.lf_outcome.specs.Outcomes.{outcome_named};
 ghost use Rattle.lf_scenario.specs.Formulas.{IsFormulaOf};
 ghost use Rattle.lf_scenario.specs.Ranges.{IsInRange};
-ghost use Rattle.lf_scenario.specs.Reading.{delivery_named, commit_named, replica_named, outcome_of, is_of_delivery, is_of_commit, is_of_replica, is_outcome_of};
 ghost use Rattle.lf_scenario.specs.Values.{required};
-ghost use Rattle.lf_scenario.specs.Outcomes.{node_in, step_in, fact_in, down_in, shows_in, by_word, formula_in, parts_in, limited, outcome_in};
+ghost use Rattle.lf_scenario.specs.Outcomes.{node_in, step_in, fact_in, down_in, shows_of, shows_in, by_word, formula_in, parts_in, limited, named_in, outcome_in};
 
 use crate::limits::{DEEPEST, MOST_ATOMS};
 use crate::reading::Described;
 use crate::value::{at, whole};
 use crate::{Key, ScenarioError};
 use lf_list::Listed;
-use lf_outcome::{Formula, Formulas, Outcome, atoms, depth, named};
-use lf_protocols::{Fact, Kind, Protocol};
+use lf_outcome::{Formula, Formulas, atoms, depth, named, outcome_named};
+use lf_protocols::Fact;
 use std::alloc::Global;
 use toml::{Table, Value};
-
-/// The outcome of a delivery with this name.
-fn delivery_named(name: &str) -> Result<Outcome, ScenarioError>
-    ensures value { result ≡ delivery_named name.now }
-    ensures owned { IfOk result (λ outcome. is_of_delivery outcome ≡ true) }
-{
-    if name == "delivered" {
-        Ok(Outcome::Delivered)
-    } else {
-        Err(ScenarioError::Outcome)
-    }
-}
-
-/// The outcome of a commit with this name.
-fn commit_named(name: &str) -> Result<Outcome, ScenarioError>
-    ensures value { result ≡ commit_named name.now }
-    ensures owned { IfOk result (λ outcome. is_of_commit outcome ≡ true) }
-{
-    if name == "agreement" {
-        Ok(Outcome::Agreement)
-    } else if name == "unblocked" {
-        Ok(Outcome::Unblocked)
-    } else {
-        Err(ScenarioError::Outcome)
-    }
-}
-
-/// The outcome of a primary and its backup with this name.
-fn replica_named(name: &str) -> Result<Outcome, ScenarioError>
-    ensures value { result ≡ replica_named name.now }
-    ensures owned { IfOk result (λ outcome. is_of_replica outcome ≡ true) }
-{
-    if name == "one_primary" {
-        Ok(Outcome::OnePrimary)
-    } else if name == "durable" {
-        Ok(Outcome::Durable)
-    } else {
-        Err(ScenarioError::Outcome)
-    }
-}
-
-/// The outcome of the protocol with this name.
-fn outcome_name(name: &str, protocol: Protocol) -> Result<Outcome, ScenarioError>
-    ensures value { result ≡ outcome_of protocol name.now }
-    ensures owned { IfOk result (λ outcome. is_outcome_of protocol outcome ≡ true) }
-{
-    match protocol.kind() {
-        Kind::Retry { .. } | Kind::Redundant { .. } => delivery_named(name),
-        Kind::TwoPhase { .. } | Kind::ThreePhase { .. } => commit_named(name),
-        Kind::PrimaryBackup { .. } => replica_named(name),
-    }
-}
 
 /// A node of a formula.
 fn node(value: &Value, described: &Described) -> Result<u32, ScenarioError>
@@ -124,11 +70,23 @@ fn shows(items: &[Value], described: &Described) -> Result<Formula<Fact>, Scenar
     if items.len() != 3 {
         return Err(ScenarioError::Formula);
     }
-    Ok(Formula::Shows {
-        node: node(&items[0], described)?,
-        step: step(&items[1], described)?,
-        fact: fact(&items[2], described)?,
-    })
+    shows_of(&items[0], &items[1], &items[2], described)
+}
+
+/// The formula that a node shows a fact at a step.
+fn shows_of(
+    first: &Value,
+    second: &Value,
+    third: &Value,
+    described: &Described,
+) -> Result<Formula<Fact>, ScenarioError>
+    requires { IsInRange described.now }
+    ensures { result ≡ shows_of described.now.protocol described.now.bounds (view first.now) (view second.now) (view third.now) }
+{
+    let node = node(first, described)?;
+    let step = step(second, described)?;
+    let fact = fact(third, described)?;
+    Ok(Formula::Shows { node, step, fact })
 }
 
 /// The formula of a list.
@@ -188,7 +146,11 @@ fn by_word(
 
 /// The formulas of some lists.
 #[cycle(formula)]
-fn parts(alloc: Global, items: &[Value], described: &Described) -> Result<Formulas<Fact>, ScenarioError>
+fn parts(
+    alloc: Global,
+    items: &[Value],
+    described: &Described,
+) -> Result<Formulas<Fact>, ScenarioError>
     requires { IsInRange described.now }
     ensures ok { IfOk result (λ fs. parts_in described.now.protocol described.now.bounds (items_view items.now) ≡ Ok fs) }
     ensures err { IfErr result (λ e. e ≢ ScenarioError.Memory →
@@ -213,20 +175,38 @@ fn limited(formula: Formula<Fact>) -> Result<Formula<Fact>, ScenarioError>
     }
 }
 
+/// The formula of the protocol's outcome with this name.
+fn outcome_by_name(
+    alloc: Global,
+    name: &str,
+    described: &Described,
+) -> Result<Formula<Fact>, ScenarioError>
+    ensures ok { IfOk result (λ f. named_in described.now.bounds (outcome_named described.now.protocol name.now) ≡ Ok f) }
+    ensures err { IfErr result (λ e. e ≢ ScenarioError.Memory →
+        named_in described.now.bounds (outcome_named described.now.protocol name.now) ≡ Err e) }
+{
+    let Some(outcome) = outcome_named(&described.protocol, name) else {
+        return Err(ScenarioError::Outcome);
+    };
+    let nodes = described.bounds.nodes();
+    let horizon = described.bounds.horizon();
+    named(alloc, outcome, nodes, horizon).map_err(|_| ScenarioError::Memory)
+}
+
 /// The formula of a value: that of a named outcome, or the one of a list.
-fn outcome(alloc: Global, value: &Value, key: Key, described: &Described) -> Result<Formula<Fact>, ScenarioError>
+fn outcome(
+    alloc: Global,
+    value: &Value,
+    key: Key,
+    described: &Described,
+) -> Result<Formula<Fact>, ScenarioError>
     requires { IsInRange described.now }
     ensures ok { IfOk result (λ f. outcome_in described.now.protocol described.now.bounds key (view value.now) ≡ Ok f) }
     ensures err { IfErr result (λ e. e ≢ ScenarioError.Memory →
         outcome_in described.now.protocol described.now.bounds key (view value.now) ≡ Err e) }
 {
     match value {
-        Value::String(name) => {
-            let outcome = outcome_name(name.as_str(), described.protocol)?;
-            let nodes = described.bounds.nodes();
-            let horizon = described.bounds.horizon();
-            named(alloc, outcome, nodes, horizon).map_err(|_| ScenarioError::Memory)
-        }
+        Value::String(name) => outcome_by_name(alloc, name.as_str(), described),
         Value::Array(_) => limited(formula(alloc, value, described)?),
         _ => Err(ScenarioError::WrongKind(key)),
     }
@@ -234,7 +214,11 @@ fn outcome(alloc: Global, value: &Value, key: Key, described: &Described) -> Res
 
 /// The formula of the table.
 #[tactic(auto, unfolding(crate::specs::Values::required))]
-pub(crate) fn read_formula(alloc: Global, table: &Table, described: &Described) -> Result<Formula<Fact>, ScenarioError>
+pub(crate) fn read_formula(
+    alloc: Global,
+    table: &Table,
+    described: &Described,
+) -> Result<Formula<Fact>, ScenarioError>
     requires { IsInRange described.now }
     ensures ok { IfOk result (λ f. required (table_view table.now) Key.Outcome
         (outcome_in described.now.protocol described.now.bounds) ≡ Ok f) }
