@@ -1,5 +1,5 @@
 -- What a true formula rests on.
-use Rattle.std.proofs.Common.{◌≡◌, ℕ, ◌+◌, ◌<◌, ◌≤◌, Bool, true, false, ◌&&◌, ◌||◌, List, [], ◌∷◌, ◌++◌, length, get_or, take, drop, refl, sym, ap, ◌∙◌, subst, inl, inr, map, append_assoc, arith}
+use Rattle.std.proofs.Common.{◌≡◌, ℕ, ◌+◌, ◌<◌, ◌≤◌, Bool, true, false, ◌&&◌, ◌||◌, List, [], ◌∷◌, ◌++◌, length, get_or, take, drop, refl, sym, ap, ◌∙◌, subst, inl, inr, map, append_assoc}
 use Rattle.std.specs.Prelude.{Option, None, Some, IfSome, All, if◌then◌else◌}
 use Rattle.std.specs.List.{list_all, list_any, AllByRecursion}
 use Rattle.std.specs.Option.{is_some, option_map, option_and_then, unwrap_or}
@@ -13,7 +13,7 @@ use Rattle.lf_outcome.specs.declared.formula.Formula.TheOpen.{Formula-F}
 use Rattle.lf_outcome.specs.declared.point.Point.{Point}
 use Rattle.lf_outcome.specs.Truth.{truth}
 use Rattle.lf_outcome.specs.Evidence.{all_of, first_of, support, support_step}
-use Rattle.lf_outcome.proofs.Inductions.{Steps, by_induction}
+use Rattle.lf_outcome.proofs.Inductions.{by_induction}
 use Rattle.lf_outcome.proofs.TruthLemmas.{truth-All, truth-Any, truth-Down, truth-Shows}
 
 -- `support`, by the kind of the formula

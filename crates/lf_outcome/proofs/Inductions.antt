@@ -1,5 +1,5 @@
 -- Induction on formulas.
-use Rattle.std.proofs.Common.{◌≡◌, ℕ, List, [], ◌∷◌, sym, subst, map}
+use Rattle.std.proofs.Common.{ℕ, List, [], ◌∷◌, sym, subst, map}
 use Rattle.std.specs.List.{AllByRecursion}
 use Rattle.lf_outcome.specs.declared.formula.Formula.{Formula}
 use Rattle.lf_outcome.specs.declared.formula.Formula.TheVariants.{rolls-All, rolls-Any, rolls-Down, rolls-Shows}

@@ -1,5 +1,5 @@
 -- What crates above need of formulas, of their truth and of reaches.
-use Rattle.std.proofs.Common.{◌≡◌, ◌⊎◌, ℕ, ◌+◌, ◌≤◌, Bool, true, false, not, ◌&&◌, List, refl, sym, ap, ◌∙◌, map, max, sum}
+use Rattle.std.proofs.Common.{◌≡◌, ◌⊎◌, ℕ, ◌+◌, ◌≤◌, Bool, true, false, not, ◌&&◌, List, refl, ap, ◌∙◌, map, max, sum}
 use Rattle.std.specs.Prelude.{nat_le, Some}
 use Rattle.std.specs.List.{fold, list_all, list_any}
 use Rattle.std.proofs.lemmas.Bool.{and_parts, and_from, leb-true, false≢true}
@@ -9,7 +9,7 @@ use Rattle.lf_outcome.specs.declared.formula.Formula.{Formula}
 use Rattle.lf_outcome.specs.declared.formula.Formula.TheVariants as kind
 use Rattle.lf_outcome.specs.Measures.{depth_of, atoms_of}
 use Rattle.lf_outcome.specs.Reaches.{reach_at}
-use Rattle.lf_outcome.specs.Truth.{truth, counts, is_down, is_shown, is_shown_where, reaches, reaches_within}
+use Rattle.lf_outcome.specs.Truth.{truth, is_down, is_shown, is_shown_where, reaches, reaches_within}
 use Rattle.lf_outcome.proofs.EvidenceLemmas.{truth-more}
 use Rattle.lf_outcome.proofs.MeasuresLemmas as measures
 use Rattle.lf_outcome.proofs.TruthLemmas.{truth-All, truth-Any, truth-Down, truth-Shows}

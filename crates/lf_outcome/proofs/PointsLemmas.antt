@@ -1,6 +1,6 @@
 -- Where the points of an evidence lie, and which reaches suffice for it.
-use Rattle.std.proofs.Common.{◌≡◌, ℕ, ◌<◌, ◌≤◌, true, ◌&&◌, not, List, length}
-use Rattle.std.specs.Prelude.{nat_lt, nat_le, slice_index_or, Some, IfSome, All, Contains}
+use Rattle.std.proofs.Common.{◌≡◌, ℕ, ◌<◌, ◌≤◌, true, ◌&&◌, not, List}
+use Rattle.std.specs.Prelude.{nat_lt, nat_le, slice_index_or, Some, IfSome, All}
 use Rattle.std.proofs.lemmas.Bool.{and_parts, ltb-true, leb-true, le-leb}
 use Rattle.std.proofs.lemmas.List.Elements.{All-contains, All-contains_itself}
 use Rattle.lf_faults.specs.declared.fault.Parts.{Parts}

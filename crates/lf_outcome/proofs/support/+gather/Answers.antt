@@ -1,9 +1,9 @@
-use Rattle.std.proofs.Common.{◌≡◌, ◌<◌, ◌++◌, Bool, [], length, take, sym, ap, ◌∙◌, subst, arith, map}
-use Rattle.std.specs.Prelude.{Option, IfOk, Result}
+use Rattle.std.proofs.Common.{◌≡◌, ◌++◌, [], length, take, sym, ap, ◌∙◌, subst, arith}
+use Rattle.std.specs.Prelude.{IfOk}
 use Rattle.std.specs.Option.{is_some, unwrap_or}
 use Rattle.std.proofs.lemmas.List.{append-nil}
 use Rattle.lf_sim.specs.Settings.{set_of, world_of}
-use Rattle.lf_outcome.specs.Evidence.{evidence_of, all_of, first_of}
+use Rattle.lf_outcome.specs.Evidence.{evidence_of}
 use Rattle.lf_outcome.specs.Truth.{is_down, is_shown}
 use Rattle.lf_outcome.proofs.EvidenceLemmas.{support-from_all, support-from_any, gathered-none, gathered-more, gathered-missing, gathered-back, gathered-all, first-found, first-later, first-none, is_missing}
 use Rattle.lf_outcome.proofs.support.+gather.Goals as goal

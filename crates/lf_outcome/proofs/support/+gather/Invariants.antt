@@ -1,8 +1,6 @@
-use Rattle.std.proofs.Common.{◌≡◌, List, ◌++◌, drop, map}
-use Rattle.std.specs.Option.{option_map}
+use Rattle.std.proofs.Common.{◌≡◌, drop, map}
 use Rattle.lf_sim.specs.Settings.{world_of, set_of}
-use Rattle.lf_outcome.specs.declared.point.Point.{Point}
-use Rattle.lf_outcome.specs.Evidence.{evidence_of, all_of, first_of}
+use Rattle.lf_outcome.specs.Evidence.{evidence_of, first_of}
 use Rattle.lf_outcome.proofs.EvidenceLemmas.{IsGathered}
 use Rattle.lf_outcome.proofs.support.+gather.Given as goal
 
