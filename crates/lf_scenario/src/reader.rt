@@ -10,9 +10,9 @@ ghost use Rattle.lf_scenario.specs.Ranges.{IsInRange};
 ghost use Rattle.lf_scenario.specs.Scenarios.{IsDocument, IsScenario, IsAskedBy, IsRefused, IsText, asked_in};
 
 use crate::limits::LONGEST;
-use crate::links::{Usual, read_links};
+use crate::links::{Usual, all_links};
 use crate::outcomes::read_formula;
-use crate::reading::{Delays, Described, read_described};
+use crate::reading::{Delays, Described, described_in};
 use crate::{Scenario, ScenarioError};
 use lf_faults::FaultSpec;
 use lf_latency::{Links, Network};
@@ -50,7 +50,7 @@ fn read_table(alloc: Global, table: &Table) -> Result<Scenario, ScenarioError>
     ensures { MatchResult result (IsAskedBy (table_view table.now))
         (λ e. e ≢ ScenarioError.Memory → asked_in (table_view table.now) ≡ Err e) }
 {
-    let described = read_described(table)?;
+    let described = described_in(table)?;
     let formula = read_formula(alloc, table, &described)?;
     let Delays { least, spread, .. } = described.delays;
     let nodes = described.bounds.nodes();
@@ -59,7 +59,7 @@ fn read_table(alloc: Global, table: &Table) -> Result<Scenario, ScenarioError>
         least,
         spread,
     };
-    let links = read_links(alloc, table, usual)?;
+    let links = all_links(alloc, table, usual)?;
     Ok(assembled(described, formula, links))
 }
 
