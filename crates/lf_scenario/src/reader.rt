@@ -6,6 +6,7 @@ ghost use Rattle.toml.specs.View.{table_view};
 ghost use Rattle.lf_latency.specs.Links.{IsLinks};
 ghost use Rattle.lf_protocols.specs.Protocols.{nodes_of};
 ghost use Rattle.lf_scenario.specs.Formulas.{IsFormulaOf};
+ghost use Rattle.lf_scenario.specs.Limits.{longest};
 ghost use Rattle.lf_scenario.specs.Ranges.{IsInRange};
 ghost use Rattle.lf_scenario.specs.Scenarios.{IsDocument, IsScenario, IsAskedBy, IsRefused, IsText, asked_in};
 
@@ -27,10 +28,10 @@ use toml::Table;
 /// A text that is longer than `LONGEST` bytes is refused first, and then one that is no TOML document. What a table says
 /// is `asked_in`. The refusal `Memory` comes only where memory has run out.
 pub fn read(alloc: Global, text: &[u8]) -> Result<Scenario, ScenarioError>
-    ensures too_long { LONGEST < length text.now → result ≡ Err ScenarioError.TooLong }
-    ensures no_document { length text.now ≤ LONGEST → ((ms : Members) → IsDocument text.now ms → ⊥) →
+    ensures too_long { longest < length text.now → result ≡ Err ScenarioError.TooLong }
+    ensures no_document { length text.now ≤ longest → ((ms : Members) → IsDocument text.now ms → ⊥) →
         IsErrAnd result (λ e. e ≢ ScenarioError.Memory → e ≡ ScenarioError.NoDocument) }
-    ensures document { length text.now ≤ LONGEST → (ms : Members) → IsDocument text.now ms →
+    ensures document { length text.now ≤ longest → (ms : Members) → IsDocument text.now ms →
         MatchResult result (IsAskedBy ms) (λ e. e ≢ ScenarioError.Memory → asked_in ms ≡ Err e) }
     ensures reading { MatchResult result (λ s. IsText s text.now) (λ e. e ≢ ScenarioError.Memory → IsRefused text.now e) }
 {
