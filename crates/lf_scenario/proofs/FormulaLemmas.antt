@@ -1,5 +1,6 @@
 -- The lists that are read as formulas.
-use Rattle.std.proofs.Common.{◌≡◌, ℕ, ◌-◌, ◌≤◌, ◌<◌, Bool, true, false, ◌&&◌, cond, List, [], ◌∷◌, ◌++◌, length, get_or, drop, take, Option, Some, None, Ok, Err, String, Vec, Global, string_bytes, refl, sym, ap, ◌∙◌, subst, arith}
+use Rattle.std.proofs.Common.{◌≡◌, ℕ, ◌-◌, ◌≤◌, ◌<◌, Bool, true, false, ◌&&◌, cond, List, [], ◌∷◌, ◌++◌, length, get_or}
+use Rattle.std.proofs.Common.{drop, take, Option, Some, None, Ok, Err, String, Vec, Global, string_bytes, refl, sym, ap, ◌∙◌, subst, arith}
 use Rattle.std.specs.Prelude.{nat_le, nat_lt}
 use Rattle.std.specs.List.{list_all}
 use Rattle.std.proofs.lemmas.List.{length-drop, take_all}
@@ -27,7 +28,8 @@ shows_in-other k b (v ∷ w ∷ x ∷ []) h = absurd (h refl)
 shows_in-other k b (v ∷ w ∷ x ∷ y ∷ vs) h = refl
 
 -- a list that begins with a text
-pub formula_in-listed : (k : Kind) (b : Bounds) (v : Value) (items : Vec Value Global) (vs : List Value) (first : Value) (word : String Global) (bytes : List ℕ)
+pub formula_in-listed : (k : Kind) (b : Bounds) (v : Value) (items : Vec Value Global) (vs : List Value) (first : Value) (word : String Global)
+    (bytes : List ℕ)
     → v ≡ Array items → vs ≡ items.items → 1 ≤ length vs → first ≡ get_or vs 0 first → first ≡ Text word → bytes ≡ string_bytes word
     → by_word bytes (parts_in k b (items_view (take (length vs - 1) (drop 1 vs)))) (down_in b (items_view (take (length vs - 1) (drop 1 vs))))
     (shows_in k b (items_view (take (length vs - 1) (drop 1 vs)))) ≡ formula_in k b (view v)
