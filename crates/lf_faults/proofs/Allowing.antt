@@ -6,7 +6,8 @@ use Rattle.lf_faults.specs.declared.fault.Parts.{Parts}
 use Rattle.lf_faults.specs.declared.fault.Parts.TheVariants.{Omit, Crash, Pause}
 use Rattle.lf_faults.specs.Faults.{IsAscending, inserted}
 use Rattle.lf_faults.specs.Allowed.{Bounds, IsAdmitted, IsAllowed, IsSubset, CanAdd, HasRoom, is_omission, is_crash, is_pause, is_crash_of, is_pause_of}
-use Rattle.lf_faults.proofs.Members.{each-in, each-from, counted, uncounted, one-is, none-is, count-cons}
+use Rattle.lf_list.proofs.Laws.{each-in, each-from}
+use Rattle.lf_faults.proofs.Members.{counted, uncounted, one-is, none-is, count-cons}
 use Rattle.lf_faults.proofs.Orders.{each-inserted, each-from_inserted, inserted-ascending, ascending-from_inserted}
 use Rattle.lf_faults.proofs.Counts.{count-inserted, length-inserted, still-in, at_most, fresh, total, total-zero, total-one, total_less, count-total}
 

@@ -5,7 +5,8 @@ use Rattle.std.specs.List.{Contains, AllByRecursion, count_by}
 use Rattle.std.proofs.lemmas.Bool.{cases_Bool, cases_eq, cases_lt, cond_both, ne_eqb}
 use Rattle.lf_faults.specs.declared.fault.Parts.{Parts}
 use Rattle.lf_faults.specs.Faults.{is_before, IsAscending, inserted}
-use Rattle.lf_faults.proofs.Members.{none-in, Contains-first, Contains-more, cases_in, one-is, none-is, count-cons, count-is, count-isnt}
+use Rattle.lf_list.proofs.Laws.{none-in, Contains-first, Contains-more, cases_in}
+use Rattle.lf_faults.proofs.Members.{one-is, none-is, count-cons, count-is, count-isnt}
 use Rattle.lf_faults.proofs.Orders.{cases_faults, not_itself, not_both, first-before}
 
 -- an inserted fault is counted, and is a member

@@ -13,7 +13,8 @@ use Rattle.std.proofs.lemmas.Bool.{cond_both, both_ways, false_from_ne_true}
 use Rattle.lf_faults.specs.declared.fault.Parts.{Parts}
 use Rattle.lf_faults.specs.declared.fault.Parts.TheVariants.{Omit, Crash, Pause}
 use Rattle.lf_faults.specs.Faults.{step_of, rank_of, node_of, receiver_of, fault_cmp, is_before, IsAscending, inserted, set_cmp, set_is_before}
-use Rattle.lf_faults.proofs.Members.{Contains-first, Contains-more, each-in, each-left, each-weaker}
+use Rattle.lf_list.proofs.Laws.{Contains-first, Contains-more, each-in}
+use Rattle.lf_faults.proofs.Members.{each-left, each-weaker}
 
 pub fault_total : IsTotalOrder fault_cmp
 fault_total = then_total (on_total step_of nat_cmp_total) (then_total (on_total rank_of nat_cmp_total) (then_total (on_total node_of nat_cmp_total) (on_total receiver_of nat_cmp_total)))

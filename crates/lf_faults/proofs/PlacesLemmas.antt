@@ -42,6 +42,11 @@ one_more : {A : Type 0} (xs front back spare : List A) (f : A) (at k : ℕ) → 
 one_more xs front back spare f at k split here =
     rw (split, take_at front (back ++ spare) at here, drop_at front (back ++ spare) at here, take-append-add back spare k, append_assoc) refl
 
+-- a set has at most six faults
+pub at_most_six : (count : ℕ) (faults now : List Parts) → FillsSix count faults → take count faults ≡ now → length now ≤ 6
+at_most_six count faults now fills view =
+    omega (arith, fills.few, sym (ap length view), length-take-le count faults (omega (arith, fills.few, fills.six)))
+
 -- what a set's places are with one fault more
 module _ (count : ℕ) (faults : List Parts) (f : Parts) (new : List Parts) (fills : FillsSix count faults) where
   few : length (take count faults) ≡ count
