@@ -1,9 +1,9 @@
 -- The laws of runs.
-use Rattle.std.proofs.Common.{◌≡◌, ℕ, zero, suc, ◌+◌, ◌<◌, ◌≤◌, Bool, true, false, List, refl, sym, ap, ◌∙◌, arith, inl, inr}
+use Rattle.std.proofs.Common.{◌≡◌, ℕ, zero, suc, ◌+◌, ◌<◌, ◌≤◌, true, false, List, refl, sym, ap, ◌∙◌, arith, inl, inr}
 use Rattle.std.specs.Prelude.{nat_lt, nat_le, not, None, Some}
 use Rattle.std.specs.Option.{option_to_list}
 use Rattle.std.specs.List.{Contains, AllPairs}
-use Rattle.std.proofs.lemmas.Bool.{and_parts, ltb-true, leb-true, lt-ltb, le-leb, both_ways, false_from_ne_true, true_from_ne_false}
+use Rattle.std.proofs.lemmas.Bool.{and_parts, not-true, ltb-true, leb-true, lt-ltb, le-leb, both_ways, false_from_ne_true, true_from_ne_false}
 use Rattle.lf_faults.specs.declared.fault.Parts.{Parts}
 use Rattle.lf_faults.specs.Faults.{set_omits, set_crashes, set_pauses, set_wakes}
 use Rattle.lf_sim.specs.declared.letter.Letter.{Letter}
@@ -14,10 +14,6 @@ use Rattle.lf_sim.specs.Points.{IsRunning, EndsPause, StepsFrom, ArrivesLater, R
 use Rattle.lf_sim.proofs.FaultTests.{omitted-contains, contains-omitted, crashed-contains, contains-crashed, paused-contains, contains-paused, woken-contains, contains-woken, omitted-until, crashed-until, paused-until, woken-until}
 use Rattle.lf_sim.proofs.ListsLemmas.{in-each_below, from-each_below, in-option, from-option, AllPairs-option, AllPairs-each_below}
 use Rattle.lf_sim.proofs.RunsLemmas.{did-zero, did-suc, did-awake, did-woken, sent-down, Comes, Comes-letter, letter-Comes, letters-each}
-
-not-true : (b : Bool) → not b ≡ true → b ≡ false
-not-true true h = sym h
-not-true false h = refl
 
 module _ {State Note Fact : Type 0} (w : World State Note Fact) (faults : List Parts) where
   -- up is what it says
@@ -92,11 +88,12 @@ module _ {State Note Fact : Type 0} (w : World State Note Fact) (faults : List P
       let at = comes-from m u x c in
       reaches-at m u at.0 at.1 x at.2 at.4 (sym at.4.from) (sym at.4.sent)
 
-  pub inbox-Reaches : ArrivesLater w → (m u : ℕ) (x : Letter Note) → Reaches w faults m u x → Contains (inbox w faults m u) x
+  pub inbox-Reaches : ArrivesLater w → (m u : ℕ) (x : Letter Note) → m < w.rules.nodes → Reaches w faults m u x → Contains (inbox w faults m u) x
   unfolding letters
-  inbox-Reaches later m u x r =
+  inbox-Reaches later m u x node r =
+      let last : x.sent ≤ w.horizon = (IsRunning-up x.from x.sent r.up).last in
       let kept : set_omits faults x.from m x.sent ≡ false = false_from_ne_true (set_omits faults x.from m x.sent) (λ h. r.kept (omitted-contains faults x.from m x.sent h)) in
-      let early : x.sent < u = omega (arith, later x.from m x.sent, r.arrives) in
+      let early : x.sent < u = omega (arith, later x.from m x.sent r.sender node r.other r.step last, r.arrives) in
       let comes : letter w faults (did w faults) m u x.from x.sent ≡ Some x = letter-Comes w faults (did w faults) m u x.from x.sent x.note r.other r.arrives kept r.note in
       in-each_below (λ n. letters_from w faults (did w faults) m u n u) w.rules.nodes x.from x r.sender
       (in-each_below (λ t. option_to_list (letter w faults (did w faults) m u x.from t)) u x.sent x early

@@ -2,8 +2,8 @@
 use Rattle.std.proofs.Common.{◌≡◌, ℕ, ◌+◌, List, ◌++◌, sym, ap, ◌∙◌, codes, append_assoc}
 use Rattle.std.specs.Fmt.{decimal}
 use Rattle.lf_sim.specs.Runs.{each_below}
+use Rattle.lf_sim.proofs.Laws.{each_below-add-one}
 use Rattle.lf_trace.specs.Lines.{line}
-use Rattle.lf_sim.proofs.ListsLemmas.{each_below-add-one}
 
 -- one line more
 pub more_lines : (old text new : List ℕ) (f : ℕ → List ℕ) (n : ℕ) → text ≡ old ++ each_below f n → new ≡ text ++ f n → new ≡ old ++ each_below f (n + 1)
