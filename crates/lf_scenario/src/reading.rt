@@ -1,20 +1,20 @@
 //! The reading of a table.
 
-ghost use Rattle.std.specs.Prelude.{◌≡◌, ◌<◌, ◌≤◌, true, IfOk};
+ghost use Rattle.std.specs.Prelude.{◌≡◌, ◌<◌, ◌≤◌, IfOk};
 ghost use Rattle.lf_protocols.specs.Limits.{IsWithinLimits};
 ghost use Rattle.lf_protocols.specs.Protocols.{nodes_of};
 ghost use Rattle.toml.specs.View.{view, table_view};
 ghost use Rattle.lf_scenario.specs.Ranges.{AreDelays, IsInRange};
 ghost use Rattle.lf_scenario.specs.Values.{required};
-ghost use Rattle.lf_scenario.specs.Reading.{protocol_of, protocol_in, has_tries, has_patience, has_votes, kind_of, delivery_named, commit_named, replica_named, outcome_of, outcome_in, is_of_delivery, is_of_commit, is_of_replica, is_outcome_of, bounds_in, delays_in, kind_in, described_in};
+ghost use Rattle.lf_scenario.specs.Reading.{protocol_of, protocol_in, has_tries, has_patience, has_votes, kind_of, bounds_in, delays_in, kind_in, described_in};
 
+use crate::limits::{MOST_SETS, USUAL_SETS};
 use crate::names::ProtocolName;
 use crate::value::{at, known, optional_seed, optional_whole, owned_whole, required_whole};
 use crate::votes::chosen_votes;
 use crate::{Key, ScenarioError};
 use lf_faults::FaultSpec;
-use lf_outcome::Outcome;
-use lf_protocols::{Kind, Protocol};
+use lf_protocols::Protocol;
 use toml::{Table, Value};
 
 /// What decides when notes arrive, but for the links that have delays of their own.
@@ -25,14 +25,13 @@ pub struct Delays {
     pub spread: u32,
 }
 
-/// All that a scenario says but its links.
+/// All that a scenario says but its outcome and its links.
 #[derive(Clone, Copy, Debug, PartialEq, Eq)]
 pub struct Described {
     pub bounds: FaultSpec,
     pub max_sets: u32,
     pub delays: Delays,
     pub protocol: Protocol,
-    pub outcome: Outcome,
 }
 
 /// Nodes, steps, and bounds on faults.
@@ -189,83 +188,7 @@ fn read_protocol(table: &Table, nodes: u32) -> Result<Protocol, ScenarioError>
     Ok(made(name, nodes, tries, patience, votes))
 }
 
-/// The outcome of a delivery with this name.
-fn delivery_named(name: &str) -> Result<Outcome, ScenarioError>
-    ensures value { result ≡ delivery_named name.now }
-    ensures owned { IfOk result (λ outcome. is_of_delivery outcome ≡ true) }
-{
-    if name == "delivered" {
-        Ok(Outcome::Delivered)
-    } else {
-        Err(ScenarioError::Outcome)
-    }
-}
-
-/// The outcome of a commit with this name.
-fn commit_named(name: &str) -> Result<Outcome, ScenarioError>
-    ensures value { result ≡ commit_named name.now }
-    ensures owned { IfOk result (λ outcome. is_of_commit outcome ≡ true) }
-{
-    if name == "agreement" {
-        Ok(Outcome::Agreement)
-    } else if name == "unblocked" {
-        Ok(Outcome::Unblocked)
-    } else {
-        Err(ScenarioError::Outcome)
-    }
-}
-
-/// The outcome of a primary and its backup with this name.
-fn replica_named(name: &str) -> Result<Outcome, ScenarioError>
-    ensures value { result ≡ replica_named name.now }
-    ensures owned { IfOk result (λ outcome. is_of_replica outcome ≡ true) }
-{
-    if name == "one_primary" {
-        Ok(Outcome::OnePrimary)
-    } else if name == "durable" {
-        Ok(Outcome::Durable)
-    } else {
-        Err(ScenarioError::Outcome)
-    }
-}
-
-/// The outcome of the protocol with this name.
-fn outcome_name(name: &str, protocol: Protocol) -> Result<Outcome, ScenarioError>
-    ensures value { result ≡ outcome_of protocol name.now }
-    ensures owned { IfOk result (λ outcome. is_outcome_of protocol outcome ≡ true) }
-{
-    match protocol.kind() {
-        Kind::Retry { .. } | Kind::Redundant { .. } => delivery_named(name),
-        Kind::TwoPhase { .. } | Kind::ThreePhase { .. } => commit_named(name),
-        Kind::PrimaryBackup { .. } => replica_named(name),
-    }
-}
-
-/// An outcome.
-fn outcome(value: &Value, key: Key, protocol: Protocol) -> Result<Outcome, ScenarioError>
-    ensures value { result ≡ outcome_in protocol key (view value.now) }
-    ensures owned { IfOk result (λ outcome. is_outcome_of protocol outcome ≡ true) }
-{
-    match value {
-        Value::String(text) => outcome_name(text.as_str(), protocol),
-        Value::Array(_) => Err(ScenarioError::Formula),
-        _ => Err(ScenarioError::WrongKind(key)),
-    }
-}
-
-/// The outcome of the table.
-#[tactic(auto, unfolding(crate::specs::Values::required))]
-fn required_outcome(table: &Table, protocol: Protocol) -> Result<Outcome, ScenarioError>
-    ensures value { result ≡ required (table_view table.now) Key.Outcome (outcome_in protocol) }
-    ensures owned { IfOk result (λ outcome. is_outcome_of protocol outcome ≡ true) }
-{
-    match at(table, Key::Outcome.name()) {
-        Some(value) => outcome(value, Key::Outcome, protocol),
-        None => Err(ScenarioError::Missing(Key::Outcome)),
-    }
-}
-
-/// All that a scenario says but its links.
+/// All that a scenario says but its outcome and its links.
 #[tactic(auto, unfolding(crate::specs::Reading::described_in))]
 pub(crate) fn read_described(table: &Table) -> Result<Described, ScenarioError>
     ensures value { result ≡ described_in (table_view table.now) }
@@ -273,15 +196,13 @@ pub(crate) fn read_described(table: &Table) -> Result<Described, ScenarioError>
 {
     known(table)?;
     let bounds = read_bounds(table)?;
-    let max_sets = optional_whole(table, Key::MaxSets, 1, 1000000, 100000)?;
+    let max_sets = optional_whole(table, Key::MaxSets, 1, MOST_SETS, USUAL_SETS)?;
     let delays = read_delays(table)?;
     let protocol = read_protocol(table, bounds.nodes())?;
-    let outcome = required_outcome(table, protocol)?;
     Ok(Described {
         bounds,
         max_sets,
         delays,
         protocol,
-        outcome,
     })
 }
