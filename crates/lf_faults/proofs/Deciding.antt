@@ -141,8 +141,17 @@ ascending (f ∷ fs) = both _ _ (each (λ g. is_before f g ≡ true) (λ g. trut
 
 pub is_allowed : (b : Bounds) (s : List Parts) → Decided (IsAllowed b s)
 is_allowed b s =
-    let once : (of : ℕ → Parts → Bool) → Decided ((n : ℕ) → n < b.nodes → count_by (of n) s ≤ 1) = λ of. each_below _ (λ n. at_most (count_by (of n) s) 1) b.nodes in
-    said _ _ (λ h. record { ascending = h.0; admitted = h.1.0; crash_once = h.1.1.0; pause_once = h.1.1.1.0; crashes = h.1.1.1.1.0; pauses = h.1.1.1.1.1.0; budget = h.1.1.1.1.1.1 })
+    let once : (of : ℕ → Parts → Bool) → Decided ((n : ℕ) → n < b.nodes → count_by (of n) s ≤ 1) =
+    λ of. each_below _ (λ n. at_most (count_by (of n) s) 1) b.nodes in
+    said _ _ (λ h. record {
+      ascending = h.0;
+      admitted = h.1.0;
+      crash_once = h.1.1.0;
+      pause_once = h.1.1.1.0;
+      crashes = h.1.1.1.1.0;
+      pauses = h.1.1.1.1.1.0;
+      budget = h.1.1.1.1.1.1;
+    })
     (λ a. (a.ascending, (a.admitted, (a.crash_once, (a.pause_once, (a.crashes, (a.pauses, a.budget)))))))
     (both _ _ (ascending s) (both _ _ (each (IsAdmitted b) (is_admitted b) s) (both _ _ (once is_crash_of) (both _ _ (once is_pause_of)
     (both _ _ (at_most (count_by is_crash s) b.crashes) (both _ _ (at_most (count_by is_pause s) b.pauses) (at_most (length s) b.budget)))))))

@@ -1,11 +1,11 @@
 -- What crates above may cite of this one beside its contracts.
-use Rattle.std.proofs.Common.{◌≡◌, ◌≢◌, ℕ, ◌+◌, ◌<◌, ◌≤◌, Bool, true, List, [], ◌∷◌, length, refl, eq-eqb}
+use Rattle.std.proofs.Common.{◌≡◌, ◌≢◌, ℕ, ◌+◌, ◌<◌, ◌≤◌, Bool, true, List, [], ◌∷◌, length, refl, ap, eq-eqb}
 use Rattle.std.specs.Prelude.{◌⊎◌, Option}
 use Rattle.std.specs.List.{All, AllByRecursion, Contains}
 use Rattle.lf_list.proofs.Laws.{each-in}
 use Rattle.lf_faults.specs.declared.fault.Parts.{Parts}
 use Rattle.lf_faults.specs.declared.fault.Parts.TheVariants.{Crash, Pause}
-use Rattle.lf_faults.specs.Faults.{IsFault, is_before, IsAscending, inserted, set_is_before}
+use Rattle.lf_faults.specs.Faults.{IsFault, is_before, IsAscending, inserted, set_is_before, step_of}
 use Rattle.lf_faults.specs.Allowed.{Bounds, IsInLimits, IsAdmitted, IsAllowed, IsSubset, IsNext, IsFirst, IsWalkFrom, is_crash_of, is_pause_of}
 use Rattle.lf_faults.specs.Texts.{spelling}
 use Rattle.lf_faults.proofs.Allowing as allowing
@@ -92,14 +92,16 @@ pub admitted-fault : (b : Bounds) (f : Parts) → IsInLimits b → IsAdmitted b 
 admitted-fault = stepping.fault-from_admitted
 
 -- two crashes of one node in one are one,
-pub one_crash : (b : Bounds) (fs : List Parts) (n t u : ℕ) → IsAllowed b fs → Contains fs (Crash n t) → Contains fs (Crash n u) → Crash n t ≡ Crash n u
+pub one_crash : (b : Bounds) (fs : List Parts) (n t u : ℕ) → IsAllowed b fs → Contains fs (Crash n t) → Contains fs (Crash n u) → t ≡ u
 one_crash b fs n t u allowed here there =
-    members.counted_once (is_crash_of n) fs (allowed.crash_once n (in_allowed-admitted b fs (Crash n t) allowed here).0) (Crash n t) (Crash n u) here there (eq-eqb n n refl) (eq-eqb n n refl)
+    ap step_of (members.counted_once (is_crash_of n) fs (allowed.crash_once n (in_allowed-admitted b fs (Crash n t) allowed here).0)
+    (Crash n t) (Crash n u) here there (eq-eqb n n refl) (eq-eqb n n refl))
 
 -- and two pauses of one node
-pub one_pause : (b : Bounds) (fs : List Parts) (n t u : ℕ) → IsAllowed b fs → Contains fs (Pause n t) → Contains fs (Pause n u) → Pause n t ≡ Pause n u
+pub one_pause : (b : Bounds) (fs : List Parts) (n t u : ℕ) → IsAllowed b fs → Contains fs (Pause n t) → Contains fs (Pause n u) → t ≡ u
 one_pause b fs n t u allowed here there =
-    members.counted_once (is_pause_of n) fs (allowed.pause_once n (in_allowed-admitted b fs (Pause n t) allowed here).0) (Pause n t) (Pause n u) here there (eq-eqb n n refl) (eq-eqb n n refl)
+    ap step_of (members.counted_once (is_pause_of n) fs (allowed.pause_once n (in_allowed-admitted b fs (Pause n t) allowed here).0)
+    (Pause n t) (Pause n u) here there (eq-eqb n n refl) (eq-eqb n n refl))
 
 -- The walk over allowed sets: from each there is one,
 pub walk : (b : Bounds) (here : List Parts) → IsInLimits b → IsAllowed b here → (sets : List (List Parts)) × IsWalkFrom b here sets

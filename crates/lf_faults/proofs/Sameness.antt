@@ -10,7 +10,8 @@ use Rattle.lf_faults.proofs.Orders.{each-inserted, first-before, not_both, not_i
 
 pub cases_inserted : (f : Parts) (fs : List Parts) (x : Parts) → Contains (inserted f fs) x → (f ≡ x) ⊎ Contains fs x
 cases_inserted f fs x h =
-    each-in (λ y. (f ≡ y) ⊎ Contains fs y) (inserted f fs) (each-inserted (λ y. (f ≡ y) ⊎ Contains fs y) f fs (inl refl) (each-from (λ y. (f ≡ y) ⊎ Contains fs y) fs (λ y there. inr there))) x h
+    each-in (λ y. (f ≡ y) ⊎ Contains fs y) (inserted f fs)
+    (each-inserted (λ y. (f ≡ y) ⊎ Contains fs y) f fs (inl refl) (each-from (λ y. (f ≡ y) ⊎ Contains fs y) fs (λ y there. inr there))) x h
 
 -- two ascending lists with the same members have one head
 same_head : (f g : Parts) (fs gs : List Parts) → IsAscending (f ∷ fs) → IsAscending (g ∷ gs) → Contains (g ∷ gs) f → Contains (f ∷ fs) g → f ≡ g

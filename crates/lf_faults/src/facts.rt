@@ -30,5 +30,6 @@ pub fn first_set_is_one()
 pub fn walks_end()
     ensures exists { (b : Bounds) (here : List Parts) → IsInLimits b → IsAllowed b here → (sets : List (List Parts)) × IsWalkFrom b here sets }
     ensures one { (b : Bounds) (here : List Parts) (xs ys : List (List Parts)) → IsWalkFrom b here xs → IsWalkFrom b here ys → xs ≡ ys }
-    ensures ends { (left : List Parts → ℕ) × ((b : Bounds) (here next : List Parts) → IsInLimits b → IsAllowed b here → IsNext b here next → left next < left here) }
+    ensures ends { (left : List Parts → ℕ)
+        × ((b : Bounds) (here next : List Parts) → IsInLimits b → IsAllowed b here → IsNext b here next → left next < left here) }
 {}

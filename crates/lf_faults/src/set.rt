@@ -112,10 +112,9 @@ impl FaultSet {
     pub fn is_before(&self, other: &FaultSet) -> bool
         ensures { result ≡ set_is_before self.now other.now }
     {
-        self.len()
-            .cmp(&other.len())
-            .then(self.items().cmp(other.items()))
-            .is_lt()
+        let sizes = self.len().cmp(&other.len());
+        let lists = self.items().cmp(other.items());
+        sizes.then(lists).is_lt()
     }
 
     /// The first faults of the set, as many as `count`.

@@ -1,5 +1,6 @@
 -- The links between nodes: their delays and their numbers.
-use Rattle.std.specs.Prelude.{◌≡◌, ◌≢◌, ℕ, ◌+◌, ◌-◌, ◌*◌, ◌<◌, ◌≤◌, ◌==◌, Bool, false, ◌&&◌, List, [], slice_index, slice_index_or, slice_set, nat_lt, if◌then◌else◌}
+use Rattle.std.specs.Prelude.{◌≡◌, ◌≢◌, ℕ, ◌+◌, ◌-◌, ◌*◌, ◌<◌, ◌≤◌, ◌==◌, Bool, false, ◌&&◌, List, [], slice_index, slice_index_or, slice_set, nat_lt}
+use Rattle.std.specs.Prelude.{if◌then◌else◌}
 use Rattle.lf_latency.specs.declared.links.Links.{Links}
 
 -- two different nodes, a sender and a receiver

@@ -1,5 +1,4 @@
-pub mod LettersLemmas
-pub mod DeliveriesLemmas
-pub mod BlocksLemmas
-pub mod NodesLemmas
-pub mod WordsLemmas
+mod LettersLemmas
+mod DeliveriesLemmas
+mod BlocksLemmas
+mod WordsLemmas

@@ -22,7 +22,8 @@ chosen : (word : List ℕ) (f : Fact) (fs : List Fact) (b : Bool) (o : Option Fa
 chosen word f fs true o here there = here refl
 chosen word f fs false o here there = there
 
-pub found-named : (word : List ℕ) (fs : List Fact) → IfSome (find (λ fact. bytes_eq word (fact_word fact)) fs) (λ fact. Contains fs fact × (fact_word fact ≡ word))
+pub found-named : (word : List ℕ) (fs : List Fact) →
+    IfSome (find (λ fact. bytes_eq word (fact_word fact)) fs) (λ fact. Contains fs fact × (fact_word fact ≡ word))
 found-named word [] = tt
 found-named word (f ∷ fs) =
     chosen word f fs (bytes_eq word (fact_word f)) (find (λ fact. bytes_eq word (fact_word fact)) fs) (first word f fs)

@@ -1,7 +1,8 @@
 -- The facts in pairs of opposites.
 use Rattle.std.specs.Prelude.{Bool, true, false}
 use Rattle.lf_protocols.specs.declared.fact.Fact.{Fact}
-use Rattle.lf_protocols.specs.declared.fact.Fact.TheVariants.{Has, Lacks, Committed, NotCommitted, Aborted, NotAborted, Blocked, Free, Holds, Empty, Done, NotDone, Primary, Backup, Claimed, Unclaimed}
+use Rattle.lf_protocols.specs.declared.fact.Fact.TheVariants.{Has, Lacks, Committed, NotCommitted, Aborted, NotAborted, Blocked, Free}
+use Rattle.lf_protocols.specs.declared.fact.Fact.TheVariants.{Holds, Empty, Done, NotDone, Primary, Backup, Claimed, Unclaimed}
 
 -- the one of its pair that says that something is not so. A state that knows nothing of a pair shows this one
 abbrev pub is_denial : Fact → Bool

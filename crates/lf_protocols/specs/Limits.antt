@@ -7,11 +7,13 @@ use Rattle.lf_protocols.specs.declared.protocol.Kind.TheVariants.{Retry, Redunda
 abbrev pub IsDelivery : ℕ → ℕ → Type 0
 IsDelivery nodes tries = (2 ≤ nodes) × (nodes ≤ 8) × (1 ≤ tries) × (tries ≤ 48)
 
--- 2 to 8 nodes, 1 to 48 steps, and true at every place of no participant: at 0, and from `nodes` on
+-- votes, each in its node's place: true at every place of no participant, so at 0, and from `nodes` on
+abbrev pub AreVotes : ℕ → List Bool → Type 0
+AreVotes nodes votes = IsTrue (slice_index_or votes 0 true) × All IsTrue (drop nodes votes)
+
+-- 2 to 8 nodes, 1 to 48 steps, and the votes
 abbrev pub IsCommit : ℕ → ℕ → List Bool → Type 0
-IsCommit nodes patience votes =
-    (2 ≤ nodes) × (nodes ≤ 8) × (1 ≤ patience) × (patience ≤ 48)
-    × IsTrue (slice_index_or votes 0 true) × All IsTrue (drop nodes votes)
+IsCommit nodes patience votes = (2 ≤ nodes) × (nodes ≤ 8) × (1 ≤ patience) × (patience ≤ 48) × AreVotes nodes votes
 
 -- 3 to 8 nodes, and 1 to 48 steps
 abbrev pub IsBackup : ℕ → ℕ → Type 0

@@ -12,10 +12,10 @@ use Rattle.lf_protocols.specs.declared.note.Note.{Note}
 use Rattle.lf_protocols.specs.declared.fact.Fact.{Fact}
 use Rattle.lf_protocols.specs.RetryTable.{retry_start, retry_step, retry_shows}
 use Rattle.lf_protocols.specs.RedundantTable.{redundant_start, redundant_step, redundant_shows}
-use Rattle.lf_protocols.specs.CommitTable.{commit_start, commit_wakes, commit_shows}
+use Rattle.lf_protocols.specs.CommitTable.{commit_start, commit_wake, commit_shows}
 use Rattle.lf_protocols.specs.TwoPhaseTable.{two_phase_step}
 use Rattle.lf_protocols.specs.ThreePhaseTable.{three_phase_step}
-use Rattle.lf_protocols.specs.PrimaryBackupTable.{replica_start, replica_wakes, primary_backup_step, replica_shows}
+use Rattle.lf_protocols.specs.PrimaryBackupTable.{primary_backup_start, primary_backup_wake, primary_backup_step, primary_backup_shows}
 
 abbrev pub nodes_of : Kind → ℕ
 nodes_of (kinds.Retry nodes tries) = nodes
@@ -29,7 +29,7 @@ start_of (kinds.Retry nodes tries) node = states.Retry (retry_start node)
 start_of (kinds.Redundant nodes tries) node = states.Redundant (redundant_start node)
 start_of (kinds.TwoPhase nodes patience votes) node = states.TwoPhase commit_start
 start_of (kinds.ThreePhase nodes patience votes) node = states.ThreePhase commit_start
-start_of (kinds.PrimaryBackup nodes patience) node = states.PrimaryBackup (replica_start node)
+start_of (kinds.PrimaryBackup nodes patience) node = states.PrimaryBackup (primary_backup_start node)
 
 -- a step of one protocol, its state made one of all protocols
 abbrev pub wrapped : {Own : Type 0} → (Own → State) → Stepped Own Note → Stepped State Note
@@ -41,40 +41,40 @@ ignored other = record { state = other; out = nothing }
 
 -- what a node does at a step: what its protocol's table says, where the state is one of that protocol. The table of
 -- primary_backup needs three nodes, and with fewer, which no protocol has, nothing is done
-abbrev pub turn_of : Kind → ℕ → ℕ → State → List (Letter Note) → Stepped State Note
-turn_of (kinds.Retry nodes tries) node t (states.Retry own) inbox = wrapped states.Retry (retry_step nodes tries node t own inbox)
-turn_of (kinds.Redundant nodes tries) node t (states.Redundant own) inbox = wrapped states.Redundant (redundant_step nodes tries node own inbox)
-turn_of (kinds.TwoPhase nodes patience votes) node t (states.TwoPhase own) inbox =
+abbrev pub step_of : Kind → ℕ → ℕ → State → List (Letter Note) → Stepped State Note
+step_of (kinds.Retry nodes tries) node t (states.Retry own) inbox = wrapped states.Retry (retry_step nodes tries node t own inbox)
+step_of (kinds.Redundant nodes tries) node t (states.Redundant own) inbox = wrapped states.Redundant (redundant_step nodes tries node own inbox)
+step_of (kinds.TwoPhase nodes patience votes) node t (states.TwoPhase own) inbox =
     wrapped states.TwoPhase (two_phase_step nodes patience votes node t own inbox)
-turn_of (kinds.ThreePhase nodes patience votes) node t (states.ThreePhase own) inbox =
+step_of (kinds.ThreePhase nodes patience votes) node t (states.ThreePhase own) inbox =
     wrapped states.ThreePhase (three_phase_step nodes patience votes node t own inbox)
-turn_of (kinds.PrimaryBackup nodes patience) node t (states.PrimaryBackup own) inbox =
+step_of (kinds.PrimaryBackup nodes patience) node t (states.PrimaryBackup own) inbox =
     if nat_le 3 nodes
     then wrapped states.PrimaryBackup (primary_backup_step nodes patience node t own inbox)
     else ignored (states.PrimaryBackup own)
-turn_of k node t other inbox = ignored other
+step_of k node t other inbox = ignored other
 
 -- what a state is after a pause, where its node goes on at step t
-abbrev pub woken_of : ℕ → State → State
-woken_of t (states.Retry own) = states.Retry own
-woken_of t (states.Redundant own) = states.Redundant own
-woken_of t (states.TwoPhase own) = states.TwoPhase (commit_wakes t own)
-woken_of t (states.ThreePhase own) = states.ThreePhase (commit_wakes t own)
-woken_of t (states.PrimaryBackup own) = states.PrimaryBackup (replica_wakes t own)
+abbrev pub state_wake : ℕ → State → State
+state_wake t (states.Retry own) = states.Retry own
+state_wake t (states.Redundant own) = states.Redundant own
+state_wake t (states.TwoPhase own) = states.TwoPhase (commit_wake t own)
+state_wake t (states.ThreePhase own) = states.ThreePhase (commit_wake t own)
+state_wake t (states.PrimaryBackup own) = states.PrimaryBackup (primary_backup_wake t own)
 
 -- whether a state shows a fact
-abbrev pub is_shown : State → Fact → Bool
-is_shown (states.Retry own) fact = retry_shows own fact
-is_shown (states.Redundant own) fact = redundant_shows own fact
-is_shown (states.TwoPhase own) fact = commit_shows own.phase fact
-is_shown (states.ThreePhase own) fact = commit_shows own.phase fact
-is_shown (states.PrimaryBackup own) fact = replica_shows own fact
+abbrev pub state_shows : State → Fact → Bool
+state_shows (states.Retry own) fact = retry_shows own fact
+state_shows (states.Redundant own) fact = redundant_shows own fact
+state_shows (states.TwoPhase own) fact = commit_shows own.phase fact
+state_shows (states.ThreePhase own) fact = commit_shows own.phase fact
+state_shows (states.PrimaryBackup own) fact = primary_backup_shows own fact
 
 abbrev pub rules_of : Kind → Rules State Note Fact
 rules_of k = record {
   nodes = nodes_of k;
   start = start_of k;
-  step = turn_of k;
-  wake = λ node t last. woken_of t last;
-  shows = λ node last fact. is_shown last fact;
+  step = step_of k;
+  wake = λ node t last. state_wake t last;
+  shows = λ node last fact. state_shows last fact;
 }

@@ -17,26 +17,26 @@ redundant_start node = if node == 0 then Has 0 else Lacks
 
 -- the note with the data, where the receiver lacks it: the receiver has it, and has sent it at no step. One that has it
 -- ignores the note
-abbrev pub redundant_note : Relay → Note → Relay
-redundant_note Lacks Payload = Has 0
-redundant_note state note = state
+abbrev pub redundant_hear : Relay → Note → Relay
+redundant_hear Lacks Payload = Has 0
+redundant_hear state note = state
 
 -- the letters are handled in inbox order
-abbrev pub redundant_after : Relay → List (Letter Note) → Relay
-redundant_after state inbox = fold (λ before letter. redundant_note before letter.note) state inbox
+abbrev pub redundant_hear_all : Relay → List (Letter Note) → Relay
+redundant_hear_all state inbox = fold (λ before letter. redundant_hear before letter.note) state inbox
 
 -- after the inbox: a node that has the data, and has sent it at fewer than `tries` steps, sends it to all and counts one
 -- step more
-abbrev pub redundant_sends : ℕ → ℕ → ℕ → Relay → Stepped Relay Note
-redundant_sends nodes tries node Lacks = record { state = Lacks; out = nothing }
-redundant_sends nodes tries node (Has sent) =
+abbrev pub redundant_send : ℕ → ℕ → ℕ → Relay → Stepped Relay Note
+redundant_send nodes tries node Lacks = record { state = Lacks; out = nothing }
+redundant_send nodes tries node (Has sent) =
     if nat_lt sent tries
     then record { state = Has (sent + 1); out = to_others nodes node Payload }
     else record { state = Has sent; out = nothing }
 
 -- a step: the letters, then what comes after the inbox
 abbrev pub redundant_step : ℕ → ℕ → ℕ → Relay → List (Letter Note) → Stepped Relay Note
-redundant_step nodes tries node state inbox = redundant_sends nodes tries node (redundant_after state inbox)
+redundant_step nodes tries node state inbox = redundant_send nodes tries node (redundant_hear_all state inbox)
 
 -- of `has` and `lacks`, a state shows the one that it is
 abbrev pub redundant_shows : Relay → Fact → Bool

@@ -17,21 +17,21 @@ abbrev pub retry_start : ℕ → Holding
 retry_start node = if node == 0 then Has else Lacks
 
 -- the note with the data: the receiver has it
-abbrev pub retry_note : Holding → Note → Holding
-retry_note state Payload = Has
-retry_note state note = state
+abbrev pub retry_hear : Holding → Note → Holding
+retry_hear state Payload = Has
+retry_hear state note = state
 
 -- the letters are handled in inbox order
-abbrev pub retry_after : Holding → List (Letter Note) → Holding
-retry_after state inbox = fold (λ before letter. retry_note before letter.note) state inbox
+abbrev pub retry_hear_all : Holding → List (Letter Note) → Holding
+retry_hear_all state inbox = fold (λ before letter. retry_hear before letter.note) state inbox
 
 -- after the inbox: node 0 sends the data to all, where the step is at most `tries`
-abbrev pub retry_out : ℕ → ℕ → ℕ → ℕ → Out Note
-retry_out nodes tries node t = if (node == 0) && nat_le t tries then to_others nodes node Payload else nothing
+abbrev pub retry_send : ℕ → ℕ → ℕ → ℕ → Out Note
+retry_send nodes tries node t = if (node == 0) && nat_le t tries then to_others nodes node Payload else nothing
 
 -- a step: the letters, then what comes after the inbox
 abbrev pub retry_step : ℕ → ℕ → ℕ → ℕ → Holding → List (Letter Note) → Stepped Holding Note
-retry_step nodes tries node t state inbox = record { state = retry_after state inbox; out = retry_out nodes tries node t }
+retry_step nodes tries node t state inbox = record { state = retry_hear_all state inbox; out = retry_send nodes tries node t }
 
 -- of `has` and `lacks`, a state shows the one that it is
 abbrev pub retry_shows : Holding → Fact → Bool

@@ -1,7 +1,8 @@
 //! What two_phase and three_phase have in common.
 
 ghost use Rattle.std.specs.Prelude.{◌≡◌};
-ghost use Rattle.lf_protocols.specs.CommitTable.{commit_start, commit_wakes, commit_opens, announces, enters, polls, participates, poll_ends, commit_shows};
+ghost use Rattle.lf_protocols.specs.CommitTable.{commit_start, commit_wake, commit_open, commit_announce, commit_enter};
+ghost use Rattle.lf_protocols.specs.CommitTable.{commit_poll, commit_participate, commit_end_poll, commit_shows};
 
 use crate::{Fact, Nodes, Note, Phase, Progress, turns};
 use lf_sim::{Out, Stepped};
@@ -21,7 +22,7 @@ pub fn start() -> Progress
 
 /// What is left of a state at waking, at step `t`.
 pub fn wake(t: u32, progress: Progress) -> Progress
-    ensures { result ≡ commit_wakes t progress }
+    ensures { result ≡ commit_wake t progress }
 {
     Progress {
         since: t,
@@ -31,10 +32,10 @@ pub fn wake(t: u32, progress: Progress) -> Progress
 
 /// What node 0 does before its inbox.
 pub fn open(nodes: u32, t: u32, state: Progress) -> Turn
-    ensures { result ≡ commit_opens nodes t state }
+    ensures { result ≡ commit_open nodes t state }
 {
     if t != 1 {
-        return turns::idle(state);
+        return turns::begin(state);
     }
     let phase = Phase::Voting {
         agreed: Nodes::none(),
@@ -48,7 +49,7 @@ pub fn open(nodes: u32, t: u32, state: Progress) -> Turn
 
 /// What node 0 does with a letter.
 pub fn poll(mut turn: Turn, from: u32, note: Note) -> Turn
-    ensures { result ≡ polls turn.state.phase from note turn }
+    ensures { result ≡ commit_poll turn.state.phase from note turn }
 {
     if let Phase::Voting {
         mut agreed,
@@ -74,7 +75,7 @@ pub fn poll(mut turn: Turn, from: u32, note: Note) -> Turn
 
 /// What a participant that votes so does with a letter at step `t`.
 pub fn participate(t: u32, vote: bool, mut turn: Turn, note: Note) -> Turn
-    ensures { result ≡ participates t turn.state.phase note vote turn }
+    ensures { result ≡ commit_participate t turn.state.phase note vote turn }
 {
     match (turn.state.phase, note) {
         (Phase::Idle, Note::Prepare) if vote => {
@@ -94,7 +95,7 @@ pub fn participate(t: u32, vote: bool, mut turn: Turn, note: Note) -> Turn
 
 /// The turn in a phase that begins at step `t`.
 pub fn enter(phase: Phase, t: u32, turn: Turn) -> Turn
-    ensures { result ≡ enters phase t turn }
+    ensures { result ≡ commit_enter phase t turn }
 {
     Stepped {
         state: Progress { phase, since: t },
@@ -104,7 +105,7 @@ pub fn enter(phase: Phase, t: u32, turn: Turn) -> Turn
 
 /// Node 0's turn with a phase that all others are told of.
 pub fn announce(nodes: u32, turn: Turn, phase: Phase, note: Note) -> Turn
-    ensures { result ≡ announces nodes phase note turn }
+    ensures { result ≡ commit_announce nodes phase note turn }
 {
     Stepped {
         state: Progress {
@@ -125,7 +126,7 @@ pub fn end_poll(
     turn: Turn,
     agreed: Turn,
 ) -> Turn
-    ensures { result ≡ poll_ends nodes patience t votes refused turn agreed }
+    ensures { result ≡ commit_end_poll nodes patience t votes refused turn agreed }
 {
     if refused {
         announce(nodes, turn, Phase::Aborted, Note::Abort)

@@ -19,7 +19,7 @@ ghost use Rattle.lf_protocols.specs.ThreePhaseTable.{three_phase_step};
 ghost use Rattle.lf_protocols.specs.PrimaryBackupTable.{primary_backup_step};
 ghost use Rattle.lf_protocols.specs.Letters.{Brings};
 ghost use Rattle.lf_protocols.specs.Deliveries.{BringsData, IsCounted};
-ghost use Rattle.lf_protocols.specs.Protocols.{is_shown};
+ghost use Rattle.lf_protocols.specs.Protocols.{state_shows};
 
 /// Who has the data in retry, and who sends it when.
 pub fn retry_delivers()
@@ -82,12 +82,12 @@ pub fn claims_are_heard()
 
 /// Each state shows one of two opposites.
 pub fn facts_are_opposites()
-    ensures data { (state : State) → is_shown state Fact.Lacks ≡ not (is_shown state Fact.Has) }
-    ensures commit { (state : State) → is_shown state Fact.NotCommitted ≡ not (is_shown state Fact.Committed) }
-    ensures abort { (state : State) → is_shown state Fact.NotAborted ≡ not (is_shown state Fact.Aborted) }
-    ensures block { (state : State) → is_shown state Fact.Free ≡ not (is_shown state Fact.Blocked) }
-    ensures write { (state : State) → is_shown state Fact.Empty ≡ not (is_shown state Fact.Holds) }
-    ensures answer { (state : State) → is_shown state Fact.NotDone ≡ not (is_shown state Fact.Done) }
-    ensures leads { (state : State) → is_shown state Fact.Backup ≡ not (is_shown state Fact.Primary) }
-    ensures claim { (state : State) → is_shown state Fact.Unclaimed ≡ not (is_shown state Fact.Claimed) }
+    ensures data { (state : State) → state_shows state Fact.Lacks ≡ not (state_shows state Fact.Has) }
+    ensures commit { (state : State) → state_shows state Fact.NotCommitted ≡ not (state_shows state Fact.Committed) }
+    ensures abort { (state : State) → state_shows state Fact.NotAborted ≡ not (state_shows state Fact.Aborted) }
+    ensures block { (state : State) → state_shows state Fact.Free ≡ not (state_shows state Fact.Blocked) }
+    ensures write { (state : State) → state_shows state Fact.Empty ≡ not (state_shows state Fact.Holds) }
+    ensures answer { (state : State) → state_shows state Fact.NotDone ≡ not (state_shows state Fact.Done) }
+    ensures leads { (state : State) → state_shows state Fact.Backup ≡ not (state_shows state Fact.Primary) }
+    ensures claim { (state : State) → state_shows state Fact.Unclaimed ≡ not (state_shows state Fact.Claimed) }
 {}

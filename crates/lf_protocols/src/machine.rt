@@ -1,12 +1,10 @@
 //! The protocols as machines.
 
 ghost use Rattle.std.specs.Prelude.{◌≡◌};
-ghost use Rattle.lf_protocols.specs.declared.state.State.{State};
-ghost use Rattle.lf_protocols.specs.Protocols.{wrapped};
 
 use crate::{
-    Fact, Holding, Kind, Note, Progress, Protocol, Relay, Replica, State, commit, primary_backup,
-    redundant, retry, three_phase, two_phase,
+    Fact, Kind, Note, Protocol, State, commit, primary_backup, redundant, retry, three_phase,
+    two_phase,
 };
 use lf_sim::{Letter, Machine, Out, Stepped};
 
@@ -49,10 +47,16 @@ impl Machine for Protocol {
     ) -> Stepped<State, Note> {
         match (self.kind(), state) {
             (Kind::Retry { nodes, tries }, State::Retry(holding)) => {
-                in_retry(retry::step(nodes, tries, node, t, holding, inbox))
+                wrapped(
+                    State::Retry,
+                    retry::step(nodes, tries, node, t, holding, inbox),
+                )
             }
             (Kind::Redundant { nodes, tries }, State::Redundant(relay)) => {
-                in_redundant(redundant::step(nodes, tries, node, relay, inbox))
+                wrapped(
+                    State::Redundant,
+                    redundant::step(nodes, tries, node, relay, inbox),
+                )
             }
             (
                 Kind::TwoPhase {
@@ -61,7 +65,10 @@ impl Machine for Protocol {
                     votes,
                 },
                 State::TwoPhase(progress),
-            ) => in_two_phase(two_phase::step(nodes, patience, votes, node, t, progress, inbox)),
+            ) => wrapped(
+                State::TwoPhase,
+                two_phase::step(nodes, patience, votes, node, t, progress, inbox),
+            ),
             (
                 Kind::ThreePhase {
                     nodes,
@@ -69,11 +76,15 @@ impl Machine for Protocol {
                     votes,
                 },
                 State::ThreePhase(progress),
-            ) => in_three_phase(three_phase::step(
-                nodes, patience, votes, node, t, progress, inbox,
-            )),
+            ) => wrapped(
+                State::ThreePhase,
+                three_phase::step(nodes, patience, votes, node, t, progress, inbox),
+            ),
             (Kind::PrimaryBackup { nodes, patience }, State::PrimaryBackup(replica)) => {
-                in_primary_backup(primary_backup::step(nodes, patience, node, t, replica, inbox))
+                wrapped(
+                    State::PrimaryBackup,
+                    primary_backup::step(nodes, patience, node, t, replica, inbox),
+                )
             }
             (_, other) => Stepped {
                 state: other,
@@ -105,52 +116,14 @@ impl Machine for Protocol {
     ghost silent = { λ kind n t to state inbox node first last nobody. rules_of-silent kind n t to state inbox node nobody };
 }
 
-/// A turn of retry, as one of any protocol.
-fn in_retry(turn: Stepped<Holding, Note>) -> Stepped<State, Note>
-    ensures { result ≡ wrapped State.Retry turn }
+/// A turn of one protocol, as one of any: `wrap` makes that protocol's state one of any.
+fn wrapped<Own, F: FnOnce(Own) -> State>(wrap: F, turn: Stepped<Own, Note>) -> Stepped<State, Note>
+    requires { F.IsAlwaysCallable wrap }
+    ensures state { F.post wrap turn.state result.state }
+    ensures out { result.out ≡ turn.out }
 {
     Stepped {
-        state: State::Retry(turn.state),
-        out: turn.out,
-    }
-}
-
-/// A turn of redundant, as one of any protocol.
-fn in_redundant(turn: Stepped<Relay, Note>) -> Stepped<State, Note>
-    ensures { result ≡ wrapped State.Redundant turn }
-{
-    Stepped {
-        state: State::Redundant(turn.state),
-        out: turn.out,
-    }
-}
-
-/// A turn of two_phase, as one of any protocol.
-fn in_two_phase(turn: Stepped<Progress, Note>) -> Stepped<State, Note>
-    ensures { result ≡ wrapped State.TwoPhase turn }
-{
-    Stepped {
-        state: State::TwoPhase(turn.state),
-        out: turn.out,
-    }
-}
-
-/// A turn of three_phase, as one of any protocol.
-fn in_three_phase(turn: Stepped<Progress, Note>) -> Stepped<State, Note>
-    ensures { result ≡ wrapped State.ThreePhase turn }
-{
-    Stepped {
-        state: State::ThreePhase(turn.state),
-        out: turn.out,
-    }
-}
-
-/// A turn of primary_backup, as one of any protocol.
-fn in_primary_backup(turn: Stepped<Replica, Note>) -> Stepped<State, Note>
-    ensures { result ≡ wrapped State.PrimaryBackup turn }
-{
-    Stepped {
-        state: State::PrimaryBackup(turn.state),
+        state: wrap(turn.state),
         out: turn.out,
     }
 }

@@ -42,11 +42,6 @@ impl Nodes {
     pub(crate) fn has_participants(&self, nodes: u32) -> bool
         ensures { result ≡ has_participants nodes self.now }
     {
-        for node in 1..nodes {
-            if !self.contains(node) {
-                return false;
-            }
-        }
-        true
+        (1..nodes).all(|node| self.contains(node))
     }
 }

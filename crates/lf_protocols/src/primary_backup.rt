@@ -1,7 +1,9 @@
 //! What a node of primary_backup does.
 
 ghost use Rattle.std.specs.Prelude.{◌≡◌, ℕ, false};
-ghost use Rattle.lf_protocols.specs.PrimaryBackupTable.{replica_start, replica_wakes, primary_hears, primary_ends, backup_hears, backup_ends, claims, client_begins, client_hears, primary_leads, backup_follows, client_listens, primary_backup_step, replica_shows};
+ghost use Rattle.lf_protocols.specs.PrimaryBackupTable.{primary_backup_start, primary_backup_wake, primary_backup_step, primary_backup_shows};
+ghost use Rattle.lf_protocols.specs.PrimaryBackupTable.{primary_hear, primary_end, backup_hear, backup_end, primary_step, backup_step};
+ghost use Rattle.lf_protocols.specs.PrimaryBackupTable.{claim, client_open, client_hear, client_step};
 
 use crate::{Fact, Note, Replica, turns};
 use lf_sim::{Letter, Out, Stepped};
@@ -11,7 +13,7 @@ type Turn = Stepped<Replica, Note>;
 
 /// The state before step 1.
 pub fn start(node: u32) -> Replica
-    ensures { result ≡ replica_start node }
+    ensures { result ≡ primary_backup_start node }
 {
     Replica {
         holds: false,
@@ -24,7 +26,7 @@ pub fn start(node: u32) -> Replica
 
 /// What is left of a state at waking, at step `t`.
 pub fn wake(t: u32, replica: Replica) -> Replica
-    ensures { result ≡ replica_wakes t replica }
+    ensures { result ≡ primary_backup_wake t replica }
 {
     Replica {
         since: t,
@@ -33,8 +35,8 @@ pub fn wake(t: u32, replica: Replica) -> Replica
 }
 
 /// What node 0 does with a letter.
-fn lead(mut turn: Turn, note: Note) -> Turn
-    ensures { result ≡ primary_hears note turn }
+fn primary_hear(mut turn: Turn, note: Note) -> Turn
+    ensures { result ≡ primary_hear note turn }
 {
     match note {
         Note::Write => {
@@ -48,8 +50,8 @@ fn lead(mut turn: Turn, note: Note) -> Turn
 }
 
 /// What node 0 does once it has handled its inbox.
-fn beat(mut turn: Turn) -> Turn
-    ensures { result ≡ primary_ends turn }
+fn primary_end(mut turn: Turn) -> Turn
+    ensures { result ≡ primary_end turn }
 {
     if turn.out.to1 != Some(Note::Repl) {
         turn.out.put(1, Note::Beat);
@@ -58,8 +60,8 @@ fn beat(mut turn: Turn) -> Turn
 }
 
 /// What node 1 does with a letter at step `t`.
-fn follow(t: u32, mut turn: Turn, note: Note) -> Turn
-    ensures { result ≡ backup_hears t note turn }
+fn backup_hear(t: u32, mut turn: Turn, note: Note) -> Turn
+    ensures { result ≡ backup_hear t note turn }
 {
     match note {
         Note::Repl => {
@@ -74,8 +76,8 @@ fn follow(t: u32, mut turn: Turn, note: Note) -> Turn
 }
 
 /// What node 1 does once it has handled its inbox.
-fn watch(nodes: u32, patience: u32, t: u32, mut turn: Turn) -> Turn
-    ensures { result ≡ backup_ends nodes patience t turn }
+fn backup_end(nodes: u32, patience: u32, t: u32, mut turn: Turn) -> Turn
+    ensures { result ≡ backup_end nodes patience t turn }
 {
     if !turn.state.primary && turns::is_time_out(patience, t, turn.state.since) {
         turn.state.primary = true;
@@ -86,7 +88,7 @@ fn watch(nodes: u32, patience: u32, t: u32, mut turn: Turn) -> Turn
 
 /// Node 1's notes, with a claim to each node from 2 on.
 fn claim(nodes: u32, out: Out<Note>) -> Out<Note>
-    ensures { result ≡ claims nodes out }
+    ensures { result ≡ claim nodes out }
 {
     Out {
         to0: out.to0,
@@ -96,8 +98,8 @@ fn claim(nodes: u32, out: Out<Note>) -> Out<Note>
 }
 
 /// What a node from 2 on does before its inbox.
-fn begin(node: u32, t: u32, state: Replica) -> Turn
-    ensures { result ≡ client_begins node t state }
+fn client_open(node: u32, t: u32, state: Replica) -> Turn
+    ensures { result ≡ client_open node t state }
 {
     let mut out = Out::none();
     if node == 2 && t == 1 {
@@ -107,8 +109,8 @@ fn begin(node: u32, t: u32, state: Replica) -> Turn
 }
 
 /// What a node from 2 on does with a letter.
-fn listen(node: u32, mut turn: Turn, note: Note) -> Turn
-    ensures { result ≡ client_hears node note turn }
+fn client_hear(node: u32, mut turn: Turn, note: Note) -> Turn
+    ensures { result ≡ client_hear node note turn }
 {
     match note {
         Note::Done if node == 2 => turn.state.done = true,
@@ -119,34 +121,35 @@ fn listen(node: u32, mut turn: Turn, note: Note) -> Turn
 }
 
 /// What node 0 does at a step.
-fn lead_step(state: Replica, inbox: &[Letter<Note>]) -> Turn
-    ensures { result ≡ primary_leads state inbox.now }
+fn primary_step(state: Replica, inbox: &[Letter<Note>]) -> Turn
+    ensures { result ≡ primary_step state inbox.now }
 {
-    beat(
-        inbox
-            .iter()
-            .fold(turns::idle(state), |turn, letter| lead(turn, letter.note)),
+    primary_end(
+        inbox.iter().fold(
+            turns::begin(state),
+            |turn, letter| primary_hear(turn, letter.note),
+        ),
     )
 }
 
 /// What node 1 does at step `t`.
-fn follow_step(nodes: u32, patience: u32, t: u32, state: Replica, inbox: &[Letter<Note>]) -> Turn
-    ensures { result ≡ backup_follows nodes patience t state inbox.now }
+fn backup_step(nodes: u32, patience: u32, t: u32, state: Replica, inbox: &[Letter<Note>]) -> Turn
+    ensures { result ≡ backup_step nodes patience t state inbox.now }
 {
     let heard = inbox.iter().fold(
-        turns::idle(state),
-        |turn, letter| follow(t, turn, letter.note),
+        turns::begin(state),
+        |turn, letter| backup_hear(t, turn, letter.note),
     );
-    watch(nodes, patience, t, heard)
+    backup_end(nodes, patience, t, heard)
 }
 
 /// What a node from 2 on does at step `t`.
-fn listen_step(node: u32, t: u32, state: Replica, inbox: &[Letter<Note>]) -> Turn
-    ensures { result ≡ client_listens node t state inbox.now }
+fn client_step(node: u32, t: u32, state: Replica, inbox: &[Letter<Note>]) -> Turn
+    ensures { result ≡ client_step node t state inbox.now }
 {
     inbox.iter().fold(
-        begin(node, t, state),
-        |turn, letter| listen(node, turn, letter.note),
+        client_open(node, t, state),
+        |turn, letter| client_hear(node, turn, letter.note),
     )
 }
 
@@ -162,15 +165,15 @@ pub fn step(
     ensures { result ≡ primary_backup_step nodes patience node t state inbox.now }
 {
     match node {
-        0 => lead_step(state, inbox),
-        1 => follow_step(nodes, patience, t, state, inbox),
-        _ => listen_step(node, t, state, inbox),
+        0 => primary_step(state, inbox),
+        1 => backup_step(nodes, patience, t, state, inbox),
+        _ => client_step(node, t, state, inbox),
     }
 }
 
 /// Whether a state shows a fact.
 pub fn shows(replica: Replica, fact: Fact) -> bool
-    ensures { result ≡ replica_shows replica fact }
+    ensures { result ≡ primary_backup_shows replica fact }
 {
     match fact {
         Fact::Holds => replica.holds,

@@ -69,13 +69,7 @@ impl Protocol {
         ensures some { IsSome result ↔ IsWithinLimits (Kind.Retry nodes tries) }
         ensures value { IfSome result (λ p. p ≡ Kind.Retry nodes tries) }
     {
-        if delivers(nodes, tries) {
-            Some(Protocol {
-                kind: Kind::Retry { nodes, tries },
-            })
-        } else {
-            None
-        }
+        Protocol::of(Kind::Retry { nodes, tries })
     }
 
     /// Redundant among 2..=8 nodes, with 1..=48 tries. None outside these limits.
@@ -83,13 +77,7 @@ impl Protocol {
         ensures some { IsSome result ↔ IsWithinLimits (Kind.Redundant nodes tries) }
         ensures value { IfSome result (λ p. p ≡ Kind.Redundant nodes tries) }
     {
-        if delivers(nodes, tries) {
-            Some(Protocol {
-                kind: Kind::Redundant { nodes, tries },
-            })
-        } else {
-            None
-        }
+        Protocol::of(Kind::Redundant { nodes, tries })
     }
 
     /// Two-phase commit among 2..=8 nodes, with a patience of 1..=48 steps. At place n of `votes` stands node n's vote,
@@ -98,17 +86,11 @@ impl Protocol {
         ensures some { IsSome result ↔ IsWithinLimits (Kind.TwoPhase nodes patience votes) }
         ensures value { IfSome result (λ p. p ≡ Kind.TwoPhase nodes patience votes) }
     {
-        if commits(nodes, patience, &votes) {
-            Some(Protocol {
-                kind: Kind::TwoPhase {
-                    nodes,
-                    patience,
-                    votes,
-                },
-            })
-        } else {
-            None
-        }
+        Protocol::of(Kind::TwoPhase {
+            nodes,
+            patience,
+            votes,
+        })
     }
 
     /// Three-phase commit among 2..=8 nodes, with a patience of 1..=48 steps. At place n of `votes` stands node n's
@@ -117,17 +99,11 @@ impl Protocol {
         ensures some { IsSome result ↔ IsWithinLimits (Kind.ThreePhase nodes patience votes) }
         ensures value { IfSome result (λ p. p ≡ Kind.ThreePhase nodes patience votes) }
     {
-        if commits(nodes, patience, &votes) {
-            Some(Protocol {
-                kind: Kind::ThreePhase {
-                    nodes,
-                    patience,
-                    votes,
-                },
-            })
-        } else {
-            None
-        }
+        Protocol::of(Kind::ThreePhase {
+            nodes,
+            patience,
+            votes,
+        })
     }
 
     /// Primary and backup among 3..=8 nodes, with a patience of 1..=48 steps. None outside these limits.
@@ -135,10 +111,16 @@ impl Protocol {
         ensures some { IsSome result ↔ IsWithinLimits (Kind.PrimaryBackup nodes patience) }
         ensures value { IfSome result (λ p. p ≡ Kind.PrimaryBackup nodes patience) }
     {
-        if backs_up(nodes, patience) {
-            Some(Protocol {
-                kind: Kind::PrimaryBackup { nodes, patience },
-            })
+        Protocol::of(Kind::PrimaryBackup { nodes, patience })
+    }
+
+    /// The protocol of a kind. None where its settings are outside their limits.
+    fn of(kind: Kind) -> Option<Protocol>
+        ensures some { IsSome result ↔ IsWithinLimits kind }
+        ensures value { IfSome result (λ p. p ≡ kind) }
+    {
+        if is_within_limits(&kind) {
+            Some(Protocol { kind })
         } else {
             None
         }
@@ -165,7 +147,7 @@ impl Protocol {
         ensures some { IfSome result (λ fact. Contains (facts_of self.now) fact × (fact_word fact ≡ word.now)) }
         ensures none { IfNone result (All (λ fact. fact_word fact ≢ word.now) (facts_of self.now)) }
     {
-        named(facts(self.kind), word)
+        named(facts_of(self.kind), word)
     }
 }
 
@@ -221,7 +203,7 @@ fn same_votes(one: &[bool; 8], other: &[bool; 8]) -> bool
 }
 
 /// The facts of a protocol.
-fn facts(kind: Kind) -> &'static [Fact]
+fn facts_of(kind: Kind) -> &'static [Fact]
     ensures { result.now ≡ facts_of kind }
 {
     match kind {
@@ -254,15 +236,37 @@ fn named(facts: &[Fact], word: &str) -> Option<Fact>
     facts.iter().copied().find(|fact| word == fact.word())
 }
 
+/// Whether a protocol's settings are within their limits.
+fn is_within_limits(kind: &Kind) -> bool
+    ensures { IsTrue result ↔ IsWithinLimits kind.now }
+{
+    match *kind {
+        Kind::Retry { nodes, tries } | Kind::Redundant { nodes, tries } => is_delivery(
+            nodes, tries,
+        ),
+        Kind::TwoPhase {
+            nodes,
+            patience,
+            votes,
+        }
+        | Kind::ThreePhase {
+            nodes,
+            patience,
+            votes,
+        } => is_commit(nodes, patience, &votes),
+        Kind::PrimaryBackup { nodes, patience } => is_backup(nodes, patience),
+    }
+}
+
 /// Whether the settings of a protocol that delivers data are within the limits.
-fn delivers(nodes: u32, tries: u32) -> bool
+fn is_delivery(nodes: u32, tries: u32) -> bool
     ensures { IsTrue result ↔ IsDelivery nodes tries }
 {
     2 <= nodes && nodes <= 8 && 1 <= tries && tries <= 48
 }
 
 /// Whether the settings of a protocol that commits are within the limits.
-fn commits(nodes: u32, patience: u32, votes: &[bool; 8]) -> bool
+fn is_commit(nodes: u32, patience: u32, votes: &[bool; 8]) -> bool
     ensures { IsTrue result ↔ IsCommit nodes patience votes.now }
 {
     2 <= nodes
@@ -274,7 +278,7 @@ fn commits(nodes: u32, patience: u32, votes: &[bool; 8]) -> bool
 }
 
 /// Whether the settings of a primary and a backup are within the limits.
-fn backs_up(nodes: u32, patience: u32) -> bool
+fn is_backup(nodes: u32, patience: u32) -> bool
     ensures { IsTrue result ↔ IsBackup nodes patience }
 {
     3 <= nodes && nodes <= 8 && 1 <= patience && patience <= 48

@@ -1,7 +1,7 @@
 //! What a node of redundant does.
 
 ghost use Rattle.std.specs.Prelude.{◌≡◌};
-ghost use Rattle.lf_protocols.specs.RedundantTable.{redundant_start, redundant_after, redundant_sends, redundant_step, redundant_shows};
+ghost use Rattle.lf_protocols.specs.RedundantTable.{redundant_start, redundant_hear_all, redundant_send, redundant_step, redundant_shows};
 
 use crate::{Fact, Note, Relay};
 use lf_sim::{Letter, Out, Stepped};
@@ -18,8 +18,8 @@ pub fn start(node: u32) -> Relay
 }
 
 /// The state after the inbox.
-fn after_inbox(state: Relay, inbox: &[Letter<Note>]) -> Relay
-    ensures { result ≡ redundant_after state inbox.now }
+fn hear_all(state: Relay, inbox: &[Letter<Note>]) -> Relay
+    ensures { result ≡ redundant_hear_all state inbox.now }
 {
     inbox
         .iter()
@@ -30,8 +30,8 @@ fn after_inbox(state: Relay, inbox: &[Letter<Note>]) -> Relay
 }
 
 /// What a node does once it has handled its inbox.
-fn sends(nodes: u32, tries: u32, node: u32, state: Relay) -> Stepped<Relay, Note>
-    ensures { result ≡ redundant_sends nodes tries node state }
+fn send(nodes: u32, tries: u32, node: u32, state: Relay) -> Stepped<Relay, Note>
+    ensures { result ≡ redundant_send nodes tries node state }
 {
     match state {
         Relay::Has { sent } if sent < tries => Stepped {
@@ -55,7 +55,7 @@ pub fn step(
 ) -> Stepped<Relay, Note>
     ensures { result ≡ redundant_step nodes tries node state inbox.now }
 {
-    sends(nodes, tries, node, after_inbox(state, inbox))
+    send(nodes, tries, node, hear_all(state, inbox))
 }
 
 /// Whether a state shows a fact.

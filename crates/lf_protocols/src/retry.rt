@@ -1,7 +1,7 @@
 //! What a node of retry does.
 
 ghost use Rattle.std.specs.Prelude.{◌≡◌};
-ghost use Rattle.lf_protocols.specs.RetryTable.{retry_start, retry_after, retry_step, retry_shows};
+ghost use Rattle.lf_protocols.specs.RetryTable.{retry_start, retry_hear_all, retry_step, retry_shows};
 
 use crate::{Fact, Holding, Note};
 use lf_sim::{Letter, Out, Stepped};
@@ -18,8 +18,8 @@ pub fn start(node: u32) -> Holding
 }
 
 /// The state after the inbox.
-fn after_inbox(state: Holding, inbox: &[Letter<Note>]) -> Holding
-    ensures { result ≡ retry_after state inbox.now }
+fn hear_all(state: Holding, inbox: &[Letter<Note>]) -> Holding
+    ensures { result ≡ retry_hear_all state inbox.now }
 {
     inbox
         .iter()
@@ -40,7 +40,7 @@ pub fn step(
 ) -> Stepped<Holding, Note>
     ensures { result ≡ retry_step nodes tries node t state inbox.now }
 {
-    let state = after_inbox(state, inbox);
+    let state = hear_all(state, inbox);
     let out = if node == 0 && t <= tries {
         Out::to_others(nodes, node, Note::Payload)
     } else {

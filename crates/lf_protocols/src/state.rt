@@ -1,6 +1,6 @@
 //! What nodes keep.
 
-ghost use Rattle.std.specs.Prelude.{◌≡◌, true, false};
+ghost use Rattle.std.specs.Prelude.{◌≡◌};
 ghost use Rattle.lf_protocols.specs.Words.{state_text, phase_word, replica_text};
 
 use crate::Nodes;
@@ -87,13 +87,7 @@ impl State {
             State::Retry(Holding::Has) | State::Redundant(Relay::Has { .. }) => "has",
             State::Retry(Holding::Lacks) | State::Redundant(Relay::Lacks) => "lacks",
             State::TwoPhase(progress) | State::ThreePhase(progress) => phase_word(progress.phase),
-            State::PrimaryBackup(replica) => {
-                if replica.holds {
-                    text_of_holder(replica)
-                } else {
-                    text_of_empty(replica)
-                }
-            }
+            State::PrimaryBackup(replica) => replica_text(replica),
         }
     }
 }
@@ -113,36 +107,31 @@ fn phase_word(phase: Phase) -> &'static str
     }
 }
 
-/// The text of a replica that holds what was written.
-fn text_of_holder(replica: &Replica) -> &'static str
-    requires { replica.now.holds ≡ true }
+/// The text of a replica: whether it holds what was written, is done, is a primary, and knows of a claim.
+fn replica_text(replica: &Replica) -> &'static str
     ensures { result.now ≡ replica_text replica.now }
 {
-    match (replica.done, replica.primary, replica.claimed) {
-        (true, true, true) => "holds done primary claimed",
-        (true, true, false) => "holds done primary unclaimed",
-        (true, false, true) => "holds done backup claimed",
-        (true, false, false) => "holds done backup unclaimed",
-        (false, true, true) => "holds not_done primary claimed",
-        (false, true, false) => "holds not_done primary unclaimed",
-        (false, false, true) => "holds not_done backup claimed",
-        (false, false, false) => "holds not_done backup unclaimed",
-    }
-}
-
-/// The text of a replica that holds nothing.
-fn text_of_empty(replica: &Replica) -> &'static str
-    requires { replica.now.holds ≡ false }
-    ensures { result.now ≡ replica_text replica.now }
-{
-    match (replica.done, replica.primary, replica.claimed) {
-        (true, true, true) => "empty done primary claimed",
-        (true, true, false) => "empty done primary unclaimed",
-        (true, false, true) => "empty done backup claimed",
-        (true, false, false) => "empty done backup unclaimed",
-        (false, true, true) => "empty not_done primary claimed",
-        (false, true, false) => "empty not_done primary unclaimed",
-        (false, false, true) => "empty not_done backup claimed",
-        (false, false, false) => "empty not_done backup unclaimed",
+    match (
+        replica.holds,
+        replica.done,
+        replica.primary,
+        replica.claimed,
+    ) {
+        (true, true, true, true) => "holds done primary claimed",
+        (true, true, true, false) => "holds done primary unclaimed",
+        (true, true, false, true) => "holds done backup claimed",
+        (true, true, false, false) => "holds done backup unclaimed",
+        (true, false, true, true) => "holds not_done primary claimed",
+        (true, false, true, false) => "holds not_done primary unclaimed",
+        (true, false, false, true) => "holds not_done backup claimed",
+        (true, false, false, false) => "holds not_done backup unclaimed",
+        (false, true, true, true) => "empty done primary claimed",
+        (false, true, true, false) => "empty done primary unclaimed",
+        (false, true, false, true) => "empty done backup claimed",
+        (false, true, false, false) => "empty done backup unclaimed",
+        (false, false, true, true) => "empty not_done primary claimed",
+        (false, false, true, false) => "empty not_done primary unclaimed",
+        (false, false, false, true) => "empty not_done backup claimed",
+        (false, false, false, false) => "empty not_done backup unclaimed",
     }
 }

@@ -3,13 +3,10 @@
 ghost use Rattle.std.specs.Prelude.{◌<◌, ◌≤◌};
 
 mod commits;
+mod laws;
 mod replicas;
 
-use crate::{
-    Fact, Holding, Kind, Nodes, Note, Phase, Progress, Protocol, Relay, Replica, State,
-    claims_are_heard, facts_are_opposites, prepared_gives_up, prepared_waits, redundant_delivers,
-    retry_delivers,
-};
+use crate::{Fact, Holding, Kind, Nodes, Note, Phase, Progress, Protocol, Relay, Replica, State};
 use lf_sim::{Letter, Machine, Stepped};
 use std::process::Abort;
 use std::test::Fail;
@@ -243,12 +240,6 @@ fn words(rt: HostRuntime) -> Result<(), Fail> {
         assert_eq!(rt; protocol.shows(0, first, Fact::Has), true);
         assert_eq!(rt; protocol.shows(0, first, Fact::Lacks), false);
     }
-    facts_are_opposites();
-    retry_delivers();
-    redundant_delivers();
-    prepared_waits();
-    prepared_gives_up();
-    claims_are_heard();
     Ok(())
 }
 

@@ -1,7 +1,7 @@
 //! What a node of three_phase does.
 
 ghost use Rattle.std.specs.Prelude.{◌≡◌, ◌<◌};
-ghost use Rattle.lf_protocols.specs.ThreePhaseTable.{three_phase_hears, three_phase_ends, three_phase_joins, three_phase_waits, three_phase_step};
+ghost use Rattle.lf_protocols.specs.ThreePhaseTable.{three_phase_hear, three_phase_end, three_phase_join, three_phase_wait, three_phase_step};
 
 use crate::commit::Turn;
 use crate::{Nodes, Note, Phase, Progress, commit, turns};
@@ -9,7 +9,7 @@ use lf_sim::{Letter, Stepped};
 
 /// What node 0 does with a letter.
 fn hear(mut turn: Turn, from: u32, note: Note) -> Turn
-    ensures { result ≡ three_phase_hears turn.state.phase from note turn }
+    ensures { result ≡ three_phase_hear turn.state.phase from note turn }
 {
     match (turn.state.phase, note) {
         (Phase::Precommitting { mut acked }, Note::Ack) => {
@@ -23,7 +23,7 @@ fn hear(mut turn: Turn, from: u32, note: Note) -> Turn
 
 /// What node 0 does once it has handled its inbox.
 fn end(nodes: u32, patience: u32, t: u32, turn: Turn) -> Turn
-    ensures { result ≡ three_phase_ends nodes patience t turn.state.phase turn }
+    ensures { result ≡ three_phase_end nodes patience t turn.state.phase turn }
 {
     match turn.state.phase {
         Phase::Voting { agreed, refused } => {
@@ -47,7 +47,7 @@ fn end(nodes: u32, patience: u32, t: u32, turn: Turn) -> Turn
 
 /// What a participant that votes so does with a letter at step `t`.
 fn join(t: u32, vote: bool, mut turn: Turn, note: Note) -> Turn
-    ensures { result ≡ three_phase_joins t turn.state.phase note vote turn }
+    ensures { result ≡ three_phase_join t turn.state.phase note vote turn }
 {
     match (turn.state.phase, note) {
         (Phase::Prepared, Note::Precommit) => {
@@ -65,7 +65,7 @@ fn join(t: u32, vote: bool, mut turn: Turn, note: Note) -> Turn
 
 /// What a participant does once it has handled its inbox.
 fn wait(patience: u32, t: u32, mut turn: Turn) -> Turn
-    ensures { result ≡ three_phase_waits patience t turn.state.phase turn }
+    ensures { result ≡ three_phase_wait patience t turn.state.phase turn }
 {
     if turns::is_time_out(patience, t, turn.state.since) {
         match turn.state.phase {
@@ -99,7 +99,7 @@ pub fn step(
         end(nodes, patience, t, heard)
     } else {
         let vote = votes[node as usize];
-        let heard = inbox.iter().fold(turns::idle(state), |turn, letter| {
+        let heard = inbox.iter().fold(turns::begin(state), |turn, letter| {
             join(t, vote, turn, letter.note)
         });
         wait(patience, t, heard)

@@ -1,14 +1,14 @@
 //! What the protocols with time-outs have in common.
 
 ghost use Rattle.std.specs.Prelude.{◌≡◌};
-ghost use Rattle.lf_protocols.specs.Turns.{idle, is_time_out};
+ghost use Rattle.lf_protocols.specs.Turns.{begin, is_time_out};
 
 use crate::Note;
 use lf_sim::{Out, Stepped};
 
 /// A turn in which nothing has been done yet.
-pub fn idle<S>(state: S) -> Stepped<S, Note>
-    ensures { result ≡ idle state }
+pub fn begin<S>(state: S) -> Stepped<S, Note>
+    ensures { result ≡ begin state }
 {
     Stepped {
         state,

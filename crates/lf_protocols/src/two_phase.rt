@@ -1,14 +1,14 @@
 //! What a node of two_phase does.
 
 ghost use Rattle.std.specs.Prelude.{◌≡◌, ◌<◌};
-ghost use Rattle.lf_protocols.specs.TwoPhaseTable.{two_phase_ends, two_phase_step};
+ghost use Rattle.lf_protocols.specs.TwoPhaseTable.{two_phase_end, two_phase_step};
 
 use crate::{Note, Phase, Progress, commit, turns};
 use lf_sim::{Letter, Stepped};
 
 /// What node 0 does once it has handled its inbox.
 fn end(nodes: u32, patience: u32, t: u32, turn: commit::Turn) -> commit::Turn
-    ensures { result ≡ two_phase_ends nodes patience t turn.state.phase turn }
+    ensures { result ≡ two_phase_end nodes patience t turn.state.phase turn }
 {
     match turn.state.phase {
         Phase::Voting { agreed, refused } => {
@@ -41,7 +41,7 @@ pub fn step(
         end(nodes, patience, t, heard)
     } else {
         let vote = votes[node as usize];
-        inbox.iter().fold(turns::idle(state), |turn, letter| {
+        inbox.iter().fold(turns::begin(state), |turn, letter| {
             commit::participate(t, vote, turn, letter.note)
         })
     }

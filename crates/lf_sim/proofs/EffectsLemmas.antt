@@ -1,5 +1,6 @@
 -- The tables of what a set of faults does, fault by fault.
-use Rattle.std.proofs.Common.{◌≡◌, ℕ, ◌+◌, ◌<◌, ◌≤◌, Bool, true, false, List, [], ◌∷◌, ◌++◌, length, take, slice_set, get_or, refl, sym, ap, ◌∙◌, subst, arith, inl, inr, eq-eqb, nat_eq, nat_le}
+use Rattle.std.proofs.Common.{◌≡◌, ℕ, ◌+◌, ◌<◌, ◌≤◌, Bool, true, false, List, [], ◌∷◌, ◌++◌, length, take, slice_set, get_or, refl, sym, ap, ◌∙◌, subst, arith}
+use Rattle.std.proofs.Common.{inl, inr, eq-eqb, nat_eq, nat_le}
 use Rattle.std.specs.Prelude.{◌||◌, ◌&&◌, not, slice_index, slice_index_or}
 use Rattle.std.specs.List.{list_any}
 use Rattle.std.proofs.lemmas.Bool.{false_from_ne_true, false≢true, and_parts, eqb-true, le-leb, lt-leb}
@@ -17,7 +18,8 @@ use Rattle.lf_sim.proofs.FaultTests.{omits-is}
 use Rattle.lf_sim.proofs.ListsLemmas.{found-in, passed-in}
 
 -- a test of the first elements, one more
-one-more : {X : Type 0} (p : X → Bool) (xs : List X) (i : ℕ) (x : X) → x ≡ get_or xs i x → i < length xs → list_any p (take (i + 1) xs) ≡ (list_any p (take i xs) || p x)
+one-more : {X : Type 0} (p : X → Bool) (xs : List X) (i : ℕ) (x : X) → x ≡ get_or xs i x → i < length xs
+    → list_any p (take (i + 1) xs) ≡ (list_any p (take i xs) || p x)
 one-more p xs i x is h =
     ap (list_any p) (take_more xs i x h) ∙ list_any-append p (take i xs) (get_or xs i x ∷ [])
     ∙ ap (λ b. list_any p (take i xs) || b) (or-false (p (get_or xs i x)) ∙ ap p (sym is))
@@ -25,7 +27,8 @@ one-more p xs i x is h =
 one-true : {X : Type 0} (p : X → Bool) (xs : List X) (i : ℕ) (x : X) → x ≡ get_or xs i x → i < length xs → p x ≡ true → list_any p (take (i + 1) xs) ≡ true
 one-true p xs i x is h e = one-more p xs i x is h ∙ ap (λ b. list_any p (take i xs) || b) e ∙ or-true (list_any p (take i xs))
 
-one-false : {X : Type 0} (p : X → Bool) (xs : List X) (i : ℕ) (x : X) → x ≡ get_or xs i x → i < length xs → p x ≡ false → list_any p (take (i + 1) xs) ≡ list_any p (take i xs)
+one-false : {X : Type 0} (p : X → Bool) (xs : List X) (i : ℕ) (x : X) → x ≡ get_or xs i x → i < length xs → p x ≡ false
+    → list_any p (take (i + 1) xs) ≡ list_any p (take i xs)
 one-false p xs i x is h e = one-more p xs i x is h ∙ ap (λ b. list_any p (take i xs) || b) e ∙ or-false (list_any p (take i xs))
 
 -- faults of another kind
@@ -79,7 +82,8 @@ module _ (xs : List Parts) (i : ℕ) (x : Parts) (is : x ≡ get_or xs i x) (h :
   crashes_pass steps none before n t a b = before n t a b ∙ sym (one-false (crashes n t) xs i x is h (none n t))
 
   -- a crash no earlier than another of the node
-  pub crashes_kept : (steps : List ℕ) (node step : ℕ) → x ≡ Crash node step → slice_index steps node ≤ step → AreCrashes (take i xs) steps → AreCrashes (take (i + 1) xs) steps
+  pub crashes_kept : (steps : List ℕ) (node step : ℕ) → x ≡ Crash node step → slice_index steps node ≤ step → AreCrashes (take i xs) steps
+      → AreCrashes (take (i + 1) xs) steps
   crashes_kept steps node step made late before n t a b =
       before n t a b ∙ (elim (eqb_tells n node) [
         | inl same ↦
@@ -102,7 +106,8 @@ module _ (xs : List Parts) (i : ℕ) (x : Parts) (is : x ≡ get_or xs i x) (h :
       elim (eqb_tells n node) [
         | inl same ↦
             let gives : crashes n t x ≡ nat_le step t = rw (made, same.0) refl in
-            let at : slice_index (slice_set steps node step) n ≡ step = ap (λ k. slice_index (slice_set steps node step) k) same.1 ∙ get_or-set_same steps node step 0 (omega (arith, inside, long)) in
+            let at : slice_index (slice_set steps node step) n ≡ step = ap (λ k. slice_index (slice_set steps node step) k) same.1
+            ∙ get_or-set_same steps node step 0 (omega (arith, inside, long)) in
             let old : nat_le (slice_index steps n) t ≡ set_crashes (take i xs) n t = before n t a b in
             let here : step < slice_index steps n = (let P : ℕ → Type 0 = λ k. step < slice_index steps k in subst P (sym same.1) early) in
             ap (λ k. nat_le k t) at ∙ (elim (leb_tells step t) [
@@ -112,13 +117,15 @@ module _ (xs : List Parts) (i : ℕ) (x : Parts) (is : x ≡ get_or xs i x) (h :
               | inl holds ↦ holds.0 ∙ sym (one-true (crashes n t) xs i x is h (gives ∙ holds.0))
             ])
         | inr other ↦
-            ap (λ k. nat_le k t) (get_or-set_other steps node n step 0 other.1) ∙ before n t a b ∙ sym (one-false (crashes n t) xs i x is h (rw (made, other.0) refl))
+            ap (λ k. nat_le k t) (get_or-set_other steps node n step 0 other.1) ∙ before n t a b
+            ∙ sym (one-false (crashes n t) xs i x is h (rw (made, other.0) refl))
       ]
 
   pub pausing_pass : (pausing : List Bool) → ((n : ℕ) → is_pause_of n x ≡ false) → ArePausing (take i xs) pausing → ArePausing (take (i + 1) xs) pausing
   pausing_pass pausing none before n a = before n a ∙ sym (one-false (is_pause_of n) xs i x is h (none n))
 
-  pub pausing_more : (pausing : List Bool) (node step : ℕ) → x ≡ Pause node step → node < 8 → length pausing ≡ 8 → ArePausing (take i xs) pausing → ArePausing (take (i + 1) xs) (slice_set pausing node true)
+  pub pausing_more : (pausing : List Bool) (node step : ℕ) → x ≡ Pause node step → node < 8 → length pausing ≡ 8 → ArePausing (take i xs) pausing
+      → ArePausing (take (i + 1) xs) (slice_set pausing node true)
   pausing_more pausing node step made inside long before n a =
       elim (eqb_tells n node) [
         | inl same ↦
@@ -167,11 +174,13 @@ leaves_crashed faults steps length n t ends a b late =
     let crashed : set_crashes faults n t ≡ true = sym (ends n t a b) ∙ le-leb (slice_index steps n) t late in
     rw crashed refl
 
-pub leaves_uncrashed : (faults : List Parts) (steps : List ℕ) (n t : ℕ) → AreCrashes faults steps → n < 8 → t ≤ 48 → t < slice_index steps n → set_crashes faults n t ≡ false
+pub leaves_uncrashed : (faults : List Parts) (steps : List ℕ) (n t : ℕ) → AreCrashes faults steps → n < 8 → t ≤ 48 → t < slice_index steps n
+    → set_crashes faults n t ≡ false
 leaves_uncrashed faults steps n t ends a b early =
     sym (ends n t a b) ∙ lt-leb (slice_index steps n) t early
 
-pub leaves_unpaused : (faults : List Parts) (pausing : List Bool) (length n t : ℕ) → ArePausing faults pausing → n < 8 → slice_index_or pausing n false ≡ false → set_crashes faults n t ≡ false
+pub leaves_unpaused : (faults : List Parts) (pausing : List Bool) (length n t : ℕ) → ArePausing faults pausing → n < 8
+    → slice_index_or pausing n false ≡ false → set_crashes faults n t ≡ false
     → true ≡ (not (set_crashes faults n t) && not (set_pauses length faults n t))
 leaves_unpaused faults pausing length n t pauses a off alive =
     let never : set_pauses length faults n t ≡ false = paused-never faults length n t (sym (pauses n a) ∙ off) in

@@ -73,7 +73,8 @@ module _ (faults : List Parts) where
   pub contains-paused : (length n s t : ℕ) → Contains faults (Pause n s) → s ≤ t → t < s + length → set_pauses length faults n t ≡ true
   contains-paused length n s t h l m =
       passed-in (pauses length n t) faults (Pause n s) h
-      (and_from (nat_eq n n && nat_le s t) (nat_lt t (s + length)) (and_from (nat_eq n n) (nat_le s t) (eq-eqb n n refl) (le-leb s t l)) (lt-ltb t (s + length) m))
+      (and_from (nat_eq n n && nat_le s t) (nat_lt t (s + length)) (and_from (nat_eq n n) (nat_le s t) (eq-eqb n n refl) (le-leb s t l))
+      (lt-ltb t (s + length) m))
 
   pub woken-contains : (length n t : ℕ) → set_wakes length faults n t ≡ true → (s : ℕ) × (s + length ≡ t) × Contains faults (Pause n s)
   woken-contains length n t h =
@@ -116,10 +117,12 @@ module _ (b : ℕ) (faults others : List Parts) (same : SameUntil b faults other
   crashed-until n t l = both_ways _ _ (crashed-then b faults others same n t l) (crashed-then b others faults (SameUntil-sym b faults others same) n t l)
 
   pub paused-until : (length n t : ℕ) → t ≤ b → set_pauses length faults n t ≡ set_pauses length others n t
-  paused-until length n t l = both_ways _ _ (paused-then b faults others same length n t l) (paused-then b others faults (SameUntil-sym b faults others same) length n t l)
+  paused-until length n t l =
+      both_ways _ _ (paused-then b faults others same length n t l) (paused-then b others faults (SameUntil-sym b faults others same) length n t l)
 
   pub woken-until : (length n t : ℕ) → t ≤ b → set_wakes length faults n t ≡ set_wakes length others n t
-  woken-until length n t l = both_ways _ _ (woken-then b faults others same length n t l) (woken-then b others faults (SameUntil-sym b faults others same) length n t l)
+  woken-until length n t l =
+      both_ways _ _ (woken-then b faults others same length n t l) (woken-then b others faults (SameUntil-sym b faults others same) length n t l)
 
 -- a fault of a later step is none of them
 contains-tail : (b : ℕ) (fault f : Parts) (faults : List Parts) → b < step_of fault → step_of f ≤ b → Contains (fault ∷ faults) f → Contains faults f

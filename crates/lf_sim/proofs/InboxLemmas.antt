@@ -1,5 +1,6 @@
 -- What the slots of a row hold, and the cells of a run.
-use Rattle.std.proofs.Common.{◌≡◌, ℕ, zero, suc, ◌+◌, ◌*◌, ◌<◌, ◌≤◌, List, [], ◌∷◌, ◌++◌, length, drop, get_or, refl, sym, ap, ◌∙◌, subst, arith, inl, inr, add-one, append_assoc, length-append, nat_eq, nat_le}
+use Rattle.std.proofs.Common.{◌≡◌, ℕ, zero, suc, ◌+◌, ◌*◌, ◌<◌, ◌≤◌, List, [], ◌∷◌, ◌++◌, length, drop, get_or, refl, sym, ap, ◌∙◌, subst, arith, inl, inr}
+use Rattle.std.proofs.Common.{add-one, append_assoc, length-append, nat_eq, nat_le}
 use Rattle.std.specs.Prelude.{not, ◌&&◌, slice_get, Option, None, Some}
 use Rattle.std.specs.Option.{option_to_list}
 use Rattle.std.specs.List.{Contains, AllPairs}
@@ -78,9 +79,11 @@ module _ (arrival : ℕ → ℕ → ℕ → ℕ) where
       (λ k n x y l h c e. inl (omega (arith, l, slots_from-sender m u k u x c, slots_from-sender m u n u y e)))
 
   -- the same, of a list that is the row
-  pub slot_known : (nodes m u i : ℕ) (slots : List Slot) (d : Slot) → slots ≡ slots_to arrival nodes m u → i < length slots → IsArriving arrival nodes m u (get_or slots i d)
+  pub slot_known : (nodes m u i : ℕ) (slots : List Slot) (d : Slot) → slots ≡ slots_to arrival nodes m u → i < length slots
+      → IsArriving arrival nodes m u (get_or slots i d)
   slot_known nodes m u i slots d is h =
-      row-members nodes m u (get_or slots i d) (i, omega (arith, h, ap length is), ap (λ xs. get_or xs i (get_or slots i d)) (sym is) ∙ get_or_default slots i (get_or slots i d) d h)
+      row-members nodes m u (get_or slots i d)
+      (i, omega (arith, h, ap length is), ap (λ xs. get_or xs i (get_or slots i d)) (sym is) ∙ get_or_default slots i (get_or slots i d) d h)
 
 module _ {State Note Fact : Type 0} (w : World State Note Fact) (faults : List Parts) where
   -- the letters in the slots
@@ -117,10 +120,12 @@ module _ {State Note Fact : Type 0} (w : World State Note Fact) (faults : List P
       let last : letters_at m u (slot_at w.arrival m u n b) ≡ option_to_list (letter w faults (did w faults) m u n b) = slot-letter m u n b in
       letters_at-append m u (slots_from w.arrival m u n b) (slot_at w.arrival m u n b) ∙ rw (before, last) refl
 
-  senders-letters : (m u k : ℕ) → letters_at m u (each_below (λ n. slots_from w.arrival m u n u) k) ≡ each_below (λ n. letters_from w faults (did w faults) m u n u) k
+  senders-letters : (m u k : ℕ)
+      → letters_at m u (each_below (λ n. slots_from w.arrival m u n u) k) ≡ each_below (λ n. letters_from w faults (did w faults) m u n u) k
   senders-letters m u zero = refl
   senders-letters m u (suc k) =
-      let before : letters_at m u (each_below (λ n. slots_from w.arrival m u n u) k) ≡ each_below (λ n. letters_from w faults (did w faults) m u n u) k = senders-letters m u k in
+      let before : letters_at m u (each_below (λ n. slots_from w.arrival m u n u) k) ≡ each_below (λ n. letters_from w faults (did w faults) m u n u) k =
+      senders-letters m u k in
       let last : letters_at m u (slots_from w.arrival m u k u) ≡ letters_from w faults (did w faults) m u k u = link-letters m u k u in
       letters_at-append m u (each_below (λ n. slots_from w.arrival m u n u) k) (slots_from w.arrival m u k u) ∙ rw (before, last) refl
 
@@ -137,7 +142,8 @@ module _ {State Note Fact : Type 0} (w : World State Note Fact) (faults : List P
       ∙ ap (λ k. option_to_list (letter w faults (did w faults) m u s.from s.sent) ++ letters_at m u (drop k slots)) (sym (add-one i))
 
   -- the inbox so far and what is still to come
-  pub gather_some : (m u i : ℕ) (slots : List Slot) (s : Slot) (found all : List (Letter Note)) (o : Option (Letter Note)) (x : Letter Note) → i < length slots → s ≡ get_or slots i s
+  pub gather_some : (m u i : ℕ) (slots : List Slot) (s : Slot) (found all : List (Letter Note)) (o : Option (Letter Note)) (x : Letter Note)
+      → i < length slots → s ≡ get_or slots i s
       → o ≡ letter w faults (did w faults) m u s.from s.sent → o ≡ Some x → found ++ letters_at m u (drop i slots) ≡ all
       → (found ++ x ∷ []) ++ letters_at m u (drop (i + 1) slots) ≡ all
   gather_some m u i slots s found all o x h at is some before =
@@ -146,7 +152,8 @@ module _ {State Note Fact : Type 0} (w : World State Note Fact) (faults : List P
       ∙ ap (λ zs. found ++ zs) (ap (λ l. option_to_list l ++ letters_at m u (drop (i + 1) slots)) (sym there) ∙ sym (letters_at-drop m u i slots s h at))
       ∙ before
 
-  pub gather_none : (m u i : ℕ) (slots : List Slot) (s : Slot) (found all : List (Letter Note)) (o : Option (Letter Note)) → i < length slots → s ≡ get_or slots i s
+  pub gather_none : (m u i : ℕ) (slots : List Slot) (s : Slot) (found all : List (Letter Note)) (o : Option (Letter Note)) → i < length slots
+      → s ≡ get_or slots i s
       → o ≡ letter w faults (did w faults) m u s.from s.sent → ((x : Letter Note) → o ≡ Some x → ⊥) → found ++ letters_at m u (drop i slots) ≡ all
       → found ++ letters_at m u (drop (i + 1) slots) ≡ all
   gather_none m u i slots s found all o h at is none before =
@@ -154,7 +161,8 @@ module _ {State Note Fact : Type 0} (w : World State Note Fact) (faults : List P
       ap (λ zs. found ++ zs) (ap (λ l. option_to_list l ++ letters_at m u (drop (i + 1) slots)) (sym there) ∙ sym (letters_at-drop m u i slots s h at))
       ∙ before
 
-  pub gathered : (m u i : ℕ) (slots : List Slot) (found all : List (Letter Note)) → length slots ≤ i → found ++ letters_at m u (drop i slots) ≡ all → found ≡ all
+  pub gathered : (m u i : ℕ) (slots : List Slot) (found all : List (Letter Note)) → length slots ≤ i → found ++ letters_at m u (drop i slots) ≡ all
+      → found ≡ all
   gathered m u i slots found all h before =
       sym (append-nil found) ∙ ap (λ ss. found ++ letters_at m u ss) (sym (drop_of_length-le slots h)) ∙ before
 
@@ -177,7 +185,8 @@ module _ {State Note Fact : Type 0} (w : World State Note Fact) (faults : List P
             get_or_at (row_of w faults t k) (did w faults k t) rest d n (length-row t k ∙ last) ∙ ap (λ x. did w faults x t) last
       ])
 
-  table-at : (b t n : ℕ) (rest : List (Stepped State Note)) (d : Stepped State Note) → t < b → n < w.rules.nodes → get_or (table w faults b ++ rest) (t * w.rules.nodes + n) d ≡ did w faults n t
+  table-at : (b t n : ℕ) (rest : List (Stepped State Note)) (d : Stepped State Note) → t < b → n < w.rules.nodes
+      → get_or (table w faults b ++ rest) (t * w.rules.nodes + n) d ≡ did w faults n t
   table-at zero t n rest d h k = absurd (omega arith)
   table-at (suc b) t n rest d h k =
       rw append_assoc (elim (cases_lt t b) [
@@ -195,26 +204,31 @@ module _ {State Note Fact : Type 0} (w : World State Note Fact) (faults : List P
   table-past b rest n t node early =
       let rows : suc t * w.rules.nodes ≤ b * w.rules.nodes = mul-le-mul_right w.rules.nodes early in
       let inside : t * w.rules.nodes + n < length (table w faults b ++ rest) = omega (arith, rows, length-append (table w faults b) rest, length-table b) in
-      slice_get-get_or (table w faults b ++ rest) (t * w.rules.nodes + n) (did w faults n t) inside ∙ ap Some (table-at b t n rest (did w faults n t) early node)
+      slice_get-get_or (table w faults b ++ rest) (t * w.rules.nodes + n) (did w faults n t) inside
+      ∙ ap Some (table-at b t n rest (did w faults n t) early node)
 
   pub past_of : (cells : List (Stepped State Note)) (b : ℕ) (rest : List (Stepped State Note)) → cells ≡ table w faults b ++ rest → HasPast w faults cells b
   past_of cells b rest is n t node early = ap (λ xs. slice_get xs (t * w.rules.nodes + n)) is ∙ table-past b rest n t node early
 
   -- a cell of what has the past, as code reads it
-  pub past_is : (cells : List (Stepped State Note)) (b nodes n t : ℕ) (cell : Stepped State Note) → HasPast w faults cells b → nodes ≡ w.rules.nodes → n < nodes → t < b
+  pub past_is : (cells : List (Stepped State Note)) (b nodes n t : ℕ) (cell : Stepped State Note) → HasPast w faults cells b → nodes ≡ w.rules.nodes
+      → n < nodes → t < b
       → slice_get cells (t * nodes + n) ≡ Some cell → cell ≡ did w faults n t
   past_is cells b nodes n t cell past e h k read =
       let there : slice_get cells (t * nodes + n) ≡ Some (did w faults n t) = rw e (past n t (rw e at h) k) in
       let both : Some cell ≡ Some (did w faults n t) = sym read ∙ there in
       cc
 
-  pub past_long : (cells : List (Stepped State Note)) (b nodes n t : ℕ) → HasPast w faults cells b → nodes ≡ w.rules.nodes → n < nodes → t < b → t * nodes + n < length cells
+  pub past_long : (cells : List (Stepped State Note)) (b nodes n t : ℕ) → HasPast w faults cells b → nodes ≡ w.rules.nodes → n < nodes → t < b
+      → t * nodes + n < length cells
   past_long cells b nodes n t past e h k = slice_get_within cells (t * nodes + n) (did w faults n t) (rw e (past n t (rw e at h) k))
 
   -- a cell more, and a row more
-  pub row_more : (t n : ℕ) (before cells : List (Stepped State Note)) (cell : Stepped State Note) → cells ≡ before ++ row_of w faults t n → cell ≡ did w faults n t
+  pub row_more : (t n : ℕ) (before cells : List (Stepped State Note)) (cell : Stepped State Note) → cells ≡ before ++ row_of w faults t n
+      → cell ≡ did w faults n t
       → cells ++ cell ∷ [] ≡ before ++ row_of w faults t (n + 1)
   row_more t n before cells cell so is = rw (so, is, add-one) (append_assoc before (row_of w faults t n) (did w faults n t ∷ []))
 
-  pub table_more : (t n : ℕ) (cells : List (Stepped State Note)) → n ≡ w.rules.nodes → cells ≡ table w faults t ++ row_of w faults t n → cells ≡ table w faults (t + 1)
+  pub table_more : (t n : ℕ) (cells : List (Stepped State Note)) → n ≡ w.rules.nodes → cells ≡ table w faults t ++ row_of w faults t n
+      → cells ≡ table w faults (t + 1)
   table_more t n cells e so = rw add-one (rw e at so)

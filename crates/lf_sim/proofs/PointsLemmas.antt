@@ -11,7 +11,8 @@ use Rattle.lf_sim.specs.declared.out.Stepped.{Stepped}
 use Rattle.lf_sim.specs.Outs.{note_to}
 use Rattle.lf_sim.specs.Runs.{World, Past, is_up, before_step, letter, letters, letters_from, turn, did, view, sent, inbox}
 use Rattle.lf_sim.specs.Points.{IsRunning, EndsPause, StepsFrom, ArrivesLater, Reaches, ComesBefore, SameUntil}
-use Rattle.lf_sim.proofs.FaultTests.{omitted-contains, contains-omitted, crashed-contains, contains-crashed, paused-contains, contains-paused, woken-contains, contains-woken, omitted-until, crashed-until, paused-until, woken-until}
+use Rattle.lf_sim.proofs.FaultTests.{omitted-contains, contains-omitted, crashed-contains, contains-crashed, paused-contains, contains-paused, woken-contains}
+use Rattle.lf_sim.proofs.FaultTests.{contains-woken, omitted-until, crashed-until, paused-until, woken-until}
 use Rattle.lf_sim.proofs.ListsLemmas.{in-each_below, from-each_below, in-option, from-option, AllPairs-option, AllPairs-each_below}
 use Rattle.lf_sim.proofs.RunsLemmas.{did-zero, did-suc, did-awake, did-woken, sent-down, Comes, Comes-letter, letter-Comes, letters-each}
 
@@ -29,14 +30,18 @@ module _ {State Note Fact : Type 0} (w : World State Note Fact) (faults : List P
         first = leb-true 1 t q.0;
         last = leb-true t w.horizon r.0;
         crashes = λ k early c. both_ways (set_crashes faults n t) (not-true (set_crashes faults n t) s.0) (contains-crashed faults n k t c early);
-        pauses = λ k early over c. both_ways (set_pauses w.pause_length faults n t) (not-true (set_pauses w.pause_length faults n t) s.1) (contains-paused faults w.pause_length n k t c early over);
+        pauses = λ k early over c. both_ways (set_pauses w.pause_length faults n t) (not-true (set_pauses w.pause_length faults n t) s.1)
+            (contains-paused faults w.pause_length n k t c early over);
       }
 
   pub up-IsRunning : (n t : ℕ) → IsRunning w faults n t → is_up w faults n t ≡ true
   unfolding is_up
   up-IsRunning n t r =
-      let crashed : set_crashes faults n t ≡ false = false_from_ne_true (set_crashes faults n t) (λ h. let found = crashed-contains faults n t h in r.crashes found.0 found.2 found.1) in
-      let paused : set_pauses w.pause_length faults n t ≡ false = false_from_ne_true (set_pauses w.pause_length faults n t) (λ h. let found = paused-contains faults w.pause_length n t h in r.pauses found.0 found.2 found.3 found.1) in
+      let crashed : set_crashes faults n t ≡ false =
+      false_from_ne_true (set_crashes faults n t) (λ h. let found = crashed-contains faults n t h in r.crashes found.0 found.2 found.1) in
+      let paused : set_pauses w.pause_length faults n t ≡ false =
+      false_from_ne_true (set_pauses w.pause_length faults n t)
+      (λ h. let found = paused-contains faults w.pause_length n t h in r.pauses found.0 found.2 found.3 found.1) in
       rw (lt-ltb n w.rules.nodes r.node, le-leb 1 t r.first, le-leb t w.horizon r.last, crashed, paused) refl
 
   awake-from : (n t : ℕ) → (EndsPause w faults n t → ⊥) → set_wakes w.pause_length faults n t ≡ false
@@ -52,16 +57,19 @@ module _ {State Note Fact : Type 0} (w : World State Note Fact) (faults : List P
   pub StepsFrom-awake : (n t : ℕ) → is_up w faults n (t + 1) ≡ true → (EndsPause w faults n (t + 1) → ⊥) → StepsFrom w faults n (t + 1) (view w faults n t)
   StepsFrom-awake n t up none = gives n (t + 1) (view w faults n t) (did-awake w faults n t up (awake-from n (t + 1) none))
 
-  pub StepsFrom-woken : (n t : ℕ) → is_up w faults n (t + 1) ≡ true → EndsPause w faults n (t + 1) → StepsFrom w faults n (t + 1) (w.rules.wake n (t + 1) (view w faults n t))
+  pub StepsFrom-woken : (n t : ℕ) → is_up w faults n (t + 1) ≡ true → EndsPause w faults n (t + 1)
+      → StepsFrom w faults n (t + 1) (w.rules.wake n (t + 1) (view w faults n t))
   StepsFrom-woken n t up ends =
-      gives n (t + 1) (w.rules.wake n (t + 1) (view w faults n t)) (did-woken w faults n t up (contains-woken faults w.pause_length n ends.0 (t + 1) ends.2 ends.1))
+      gives n (t + 1) (w.rules.wake n (t + 1) (view w faults n t))
+      (did-woken w faults n t up (contains-woken faults w.pause_length n ends.0 (t + 1) ends.2 ends.1))
 
   -- what sends a note is up
   up-sends : (n m t : ℕ) (note : Note) → sent w faults n m t ≡ Some note → is_up w faults n t ≡ true
   up-sends n m t note sends = true_from_ne_false (is_up w faults n t) (λ down. let none : sent w faults n m t ≡ None = sent-down w faults n m t down in cc)
 
   -- where a letter of the inbox comes from
-  pub comes-from : (m u : ℕ) (x : Letter Note) → Contains (inbox w faults m u) x → (n t : ℕ) × (n < w.rules.nodes) × (t < u) × Comes w faults (did w faults) m u n t x
+  pub comes-from : (m u : ℕ) (x : Letter Note) → Contains (inbox w faults m u) x
+      → (n t : ℕ) × (n < w.rules.nodes) × (t < u) × Comes w faults (did w faults) m u n t x
   unfolding letters
   comes-from m u x c =
       let sender = from-each_below (λ n. letters_from w faults (did w faults) m u n u) w.rules.nodes x c in
@@ -92,9 +100,11 @@ module _ {State Note Fact : Type 0} (w : World State Note Fact) (faults : List P
   unfolding letters
   inbox-Reaches later m u x node r =
       let last : x.sent ≤ w.horizon = (IsRunning-up x.from x.sent r.up).last in
-      let kept : set_omits faults x.from m x.sent ≡ false = false_from_ne_true (set_omits faults x.from m x.sent) (λ h. r.kept (omitted-contains faults x.from m x.sent h)) in
+      let kept : set_omits faults x.from m x.sent ≡ false =
+      false_from_ne_true (set_omits faults x.from m x.sent) (λ h. r.kept (omitted-contains faults x.from m x.sent h)) in
       let early : x.sent < u = omega (arith, later x.from m x.sent r.sender node r.other r.step last, r.arrives) in
-      let comes : letter w faults (did w faults) m u x.from x.sent ≡ Some x = letter-Comes w faults (did w faults) m u x.from x.sent x.note r.other r.arrives kept r.note in
+      let comes : letter w faults (did w faults) m u x.from x.sent ≡ Some x =
+      letter-Comes w faults (did w faults) m u x.from x.sent x.note r.other r.arrives kept r.note in
       in-each_below (λ n. letters_from w faults (did w faults) m u n u) w.rules.nodes x.from x r.sender
       (in-each_below (λ t. option_to_list (letter w faults (did w faults) m u x.from t)) u x.sent x early
       (in-option (letter w faults (did w faults) m u x.from x.sent) x comes))

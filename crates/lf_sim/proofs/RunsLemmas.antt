@@ -1,5 +1,6 @@
 -- What happens at each point, from what happened before.
-use Rattle.std.proofs.Common.{◌≡◌, ℕ, zero, suc, ◌+◌, ◌<◌, ◌≤◌, Bool, true, false, cond, List, ◌∷◌, [], ◌++◌, refl, sym, ap, ◌∙◌, subst, arith, inl, inr, eq-eqb, add-one}
+use Rattle.std.proofs.Common.{◌≡◌, ℕ, zero, suc, ◌+◌, ◌<◌, ◌≤◌, Bool, true, false, cond, List, ◌∷◌, [], ◌++◌, refl, sym, ap, ◌∙◌, subst, arith, inl, inr}
+use Rattle.std.proofs.Common.{eq-eqb, add-one}
 use Rattle.std.specs.Prelude.{nat_eq, nat_le, not, ◌&&◌, ◌≢◌, Option, None, Some}
 use Rattle.std.specs.Option.{option_map, option_to_list}
 use Rattle.std.proofs.lemmas.Bool.{and_parts, not-true, ne_eqb, eqb-true, eqb-false, lt-ltb, le-leb}
@@ -21,7 +22,8 @@ module _ {State Note Fact : Type 0} (w : World State Note Fact) (faults : List P
   unfolding letter
   letter-same p q m u n t e = rw e refl
 
-  pub letters-same : (p q : Past State Note) (m u : ℕ) → ((n t : ℕ) → n < w.rules.nodes → t < u → p n t ≡ q n t) → letters w faults p m u ≡ letters w faults q m u
+  pub letters-same : (p q : Past State Note) (m u : ℕ) → ((n t : ℕ) → n < w.rules.nodes → t < u → p n t ≡ q n t)
+      → letters w faults p m u ≡ letters w faults q m u
   unfolding letters
   letters-same p q m u h = each_below-same _ _ w.rules.nodes (λ n k. each_below-same _ _ u (λ t l. ap option_to_list (letter-same p q m u n t (h n t k l))))
 
@@ -125,7 +127,8 @@ module _ {State Note Fact : Type 0} (w : World State Note Fact) (faults : List P
   letter-zero m u n = letter-silent (did w faults) m u n 0 (sent-zero n m)
 
   -- the letters of all senders
-  pub letters-all : (past : Past State Note) (m u n : ℕ) → n ≡ w.rules.nodes → each_below (λ k. letters_from w faults past m u k u) n ≡ letters w faults past m u
+  pub letters-all : (past : Past State Note) (m u n : ℕ) → n ≡ w.rules.nodes
+      → each_below (λ k. letters_from w faults past m u k u) n ≡ letters w faults past m u
   unfolding letters
   letters-all past m u n e = rw e refl
 
@@ -136,7 +139,8 @@ module _ {State Note Fact : Type 0} (w : World State Note Fact) (faults : List P
   letters_some past m u n t found x o so is some = rw (so, add-one) (more_some _ _ _ x (sym is ∙ some))
 
   pub letters_none : (past : Past State Note) (m u n t : ℕ) (found : List (Letter Note)) (o : Option (Letter Note))
-      → found ≡ each_below (λ k. letters_from w faults past m u k u) n ++ letters_from w faults past m u n t → o ≡ letter w faults past m u n t → ((x : Letter Note) → o ≡ Some x → ⊥)
+      → found ≡ each_below (λ k. letters_from w faults past m u k u) n ++ letters_from w faults past m u n t → o ≡ letter w faults past m u n t
+      → ((x : Letter Note) → o ≡ Some x → ⊥)
       → found ≡ each_below (λ k. letters_from w faults past m u k u) n ++ letters_from w faults past m u n (t + 1)
   letters_none past m u n t found o so is none = rw (so, add-one) (more_none _ _ _ (sym is ∙ none_from_not o none))
 
@@ -164,7 +168,8 @@ module _ {State Note Fact : Type 0} (w : World State Note Fact) (faults : List P
       ap (cells out) here ∙ ap (λ o. cells o (did w faults n t)) none ∙ sym (did-down n t down)
 
   -- a letter, as code finds it
-  pub letter_is : (m u n t : ℕ) (cell : Stepped State Note) (told : Option Note) → (n ≡ m → ⊥) → w.arrival n m t ≡ u → set_omits faults n m t ≡ false → cell ≡ did w faults n t → told ≡ note_to cell.out m
+  pub letter_is : (m u n t : ℕ) (cell : Stepped State Note) (told : Option Note) → (n ≡ m → ⊥) → w.arrival n m t ≡ u → set_omits faults n m t ≡ false
+      → cell ≡ did w faults n t → told ≡ note_to cell.out m
       → option_map (λ note. record { from = n; sent = t; note = note }) told ≡ letter w faults (did w faults) m u n t
   letter_is m u n t cell told other arrives kept here is =
       rw (letter-comes (did w faults) m u n t other arrives kept, ← here, ← is) refl
@@ -179,7 +184,8 @@ module _ {State Note Fact : Type 0} (w : World State Note Fact) (faults : List P
     pub note : note_to (past n t).out m ≡ Some x.note
 
 -- a letter made of a note
-letter-made : {Note : Type 0} (n t : ℕ) (o : Option Note) (x : Letter Note) → option_map (λ note. let made : Letter Note = record { from = n; sent = t; note = note } in made) o ≡ Some x
+letter-made : {Note : Type 0} (n t : ℕ) (o : Option Note) (x : Letter Note)
+    → option_map (λ note. let made : Letter Note = record { from = n; sent = t; note = note } in made) o ≡ Some x
     → (x.from ≡ n) × (x.sent ≡ t) × (o ≡ Some x.note)
 letter-made n t None x h = absurd (cc)
 letter-made {Note} n t (Some y) x h =
@@ -212,7 +218,8 @@ module _ {State Note Fact : Type 0} (w : World State Note Fact) (faults : List P
         note = made.2;
       }
 
-  pub letter-Comes : (past : Past State Note) (m u n t : ℕ) (note : Note) → n ≢ m → w.arrival n m t ≡ u → set_omits faults n m t ≡ false → note_to (past n t).out m ≡ Some note
+  pub letter-Comes : (past : Past State Note) (m u n t : ℕ) (note : Note) → n ≢ m → w.arrival n m t ≡ u → set_omits faults n m t ≡ false
+      → note_to (past n t).out m ≡ Some note
       → letter w faults past m u n t ≡ Some (record { from = n; sent = t; note = note })
   letter-Comes past m u n t note other arrives kept sends =
       letter-comes w faults past m u n t other arrives kept ∙ rw sends refl
@@ -230,7 +237,8 @@ unfolding is_up
 is_up_by w faults nodes horizon pause_length n t a b c = rw (a, b, c) refl
 
 -- where a point is one of the run, a node is up unless a fault takes it out
-pub is_up_from : {State Note Fact : Type 0} (w : World State Note Fact) (faults : List Parts) (length n t : ℕ) (left : Bool) → n < w.rules.nodes → 1 ≤ t → t ≤ w.horizon → length ≡ w.pause_length
+pub is_up_from : {State Note Fact : Type 0} (w : World State Note Fact) (faults : List Parts) (length n t : ℕ) (left : Bool) → n < w.rules.nodes → 1 ≤ t
+    → t ≤ w.horizon → length ≡ w.pause_length
     → left ≡ (not (set_crashes faults n t) && not (set_pauses length faults n t)) → is_up w faults n t ≡ left
 unfolding is_up
 is_up_from w faults length n t left node first last e is = rw (lt-ltb n w.rules.nodes node, le-leb 1 t first, le-leb t w.horizon last, is, e) refl

@@ -1,5 +1,6 @@
 -- How a schedule is filled, and that there is room for all of it.
-use Rattle.std.proofs.Common.{◌≡◌, ℕ, zero, suc, ◌+◌, ◌-◌, ◌*◌, ◌/◌, ◌%◌, ◌<◌, ◌≤◌, Bool, true, false, cond, List, [], ◌∷◌, ◌++◌, length, take, drop, slice_index, slice_set, refl, sym, ap, ◌∙◌, subst, arith, inl, inr, append_assoc, length-append, eq-eqb}
+use Rattle.std.proofs.Common.{◌≡◌, ℕ, zero, suc, ◌+◌, ◌-◌, ◌*◌, ◌/◌, ◌%◌, ◌<◌, ◌≤◌, Bool, true, false, cond, List, [], ◌∷◌, ◌++◌, length, take, drop}
+use Rattle.std.proofs.Common.{slice_index, slice_set, refl, sym, ap, ◌∙◌, subst, arith, inl, inr, append_assoc, length-append, eq-eqb}
 use Rattle.std.specs.Prelude.{not, ◌&&◌, ◌≢◌, nat_eq, nat_le}
 use Rattle.std.specs.List.{Contains, AllPairs, slice_range}
 use Rattle.std.proofs.lemmas.Bool.{and_parts, cases_lt, eqb-true, lt-ltb, le-leb, ne_eqb}
@@ -15,15 +16,18 @@ use Rattle.lf_sim.specs.Schedules.{is_row, slot_at, slots_from, slots_to, row_at
 use Rattle.lf_sim.proofs.ListsLemmas.{each_below-add-one, found-in, from-each_below, AllPairs-each_below}
 
 -- lengths
-each_below-length : {A B : Type 0} (f : ℕ → List A) (g : ℕ → List B) (n : ℕ) → ((k : ℕ) → length (f k) ≡ length (g k)) → length (each_below f n) ≡ length (each_below g n)
+each_below-length : {A B : Type 0} (f : ℕ → List A) (g : ℕ → List B) (n : ℕ) → ((k : ℕ) → length (f k) ≡ length (g k))
+    → length (each_below f n) ≡ length (each_below g n)
 each_below-length f g zero h = refl
 each_below-length f g (suc n) h =
-    length-append (each_below f n) (f n) ∙ (let before = each_below-length f g n h in let last = h n in omega arith) ∙ sym (length-append (each_below g n) (g n))
+    length-append (each_below f n) (f n) ∙ (let before = each_below-length f g n h in let last = h n in omega arith)
+    ∙ sym (length-append (each_below g n) (g n))
 
 pub each_below-longer : {A : Type 0} (f : ℕ → List A) (i j : ℕ) → i ≤ j → length (each_below f i) ≤ length (each_below f j)
 each_below-longer f i zero h = let e : i ≡ 0 = omega arith in let P : ℕ → Type 0 = λ x. length (each_below f x) ≤ 0 in subst P (sym e) (omega arith)
 each_below-longer f i (suc j) h = elim (cases_lt j i) [
-  | inl late ↦ let e : suc j ≡ i = omega (arith, late, h) in let P : ℕ → Type 0 = λ x. length (each_below f x) ≤ length (each_below f (suc j)) in subst P e (omega arith)
+  | inl late ↦ let e : suc j ≡ i = omega (arith, late, h) in let P : ℕ → Type 0 = λ x. length (each_below f x) ≤ length (each_below f (suc j)) in
+      subst P e (omega arith)
   | inr early ↦ omega (arith, each_below-longer f i j early, length-append (each_below f j) (f j))
 ]
 
@@ -110,7 +114,8 @@ module _ (arrival : ℕ → ℕ → ℕ → ℕ) where
 
   pub link_pass : (m u n t : ℕ) → (arrival n m t ≡ u → ⊥) → slots_from arrival m u n (t + 1) ≡ slots_from arrival m u n t
   link_pass m u n t h =
-      each_below-add-one (slot_at arrival m u n) t ∙ ap (λ xs. slots_from arrival m u n t ++ xs) (slot_at-elsewhere m u n t h) ∙ append-nil (slots_from arrival m u n t)
+      each_below-add-one (slot_at arrival m u n) t ∙ ap (λ xs. slots_from arrival m u n t ++ xs) (slot_at-elsewhere m u n t h)
+      ∙ append-nil (slots_from arrival m u n t)
 
   -- one sender more
   pub row_put : (m u n : ℕ) (found before : List Slot) → found ≡ (before ++ each_below (λ k. slots_from arrival m u k u) n) ++ slots_from arrival m u n u
@@ -119,8 +124,11 @@ module _ (arrival : ℕ → ℕ → ℕ → ℕ) where
       so ∙ append_assoc before (each_below (λ k. slots_from arrival m u k u) n) (slots_from arrival m u n u)
       ∙ ap (λ xs. before ++ xs) (sym (each_below-add-one (λ k. slots_from arrival m u k u) n))
 
-  pub row_count : (m u n : ℕ) → length (each_below (λ k. slots_from arrival m u k u) (n + 1)) ≡ length (each_below (λ k. slots_from arrival m u k u) n) + length (slots_from arrival m u n u)
-  row_count m u n = ap length (each_below-add-one (λ k. slots_from arrival m u k u) n) ∙ length-append (each_below (λ k. slots_from arrival m u k u) n) (slots_from arrival m u n u)
+  pub row_count : (m u n : ℕ)
+      → length (each_below (λ k. slots_from arrival m u k u) (n + 1))
+      ≡ length (each_below (λ k. slots_from arrival m u k u) n) + length (slots_from arrival m u n u)
+  row_count m u n = ap length (each_below-add-one (λ k. slots_from arrival m u k u) n)
+      ∙ length-append (each_below (λ k. slots_from arrival m u k u) n) (slots_from arrival m u n u)
 
   pub row_self : (m u n : ℕ) → n ≡ m → each_below (λ k. slots_from arrival m u k u) (n + 1) ≡ each_below (λ k. slots_from arrival m u k u) n
   row_self m u n e =
@@ -128,7 +136,8 @@ module _ (arrival : ℕ → ℕ → ℕ → ℕ) where
       ∙ ap (λ xs. each_below (λ k. slots_from arrival m u k u) n ++ xs) (ap (λ k. slots_from arrival m u k u) e ∙ slots_from-self m u u)
       ∙ append-nil (each_below (λ k. slots_from arrival m u k u) n)
 
-  pub row_room : (m u n nodes : ℕ) → n < nodes → length (each_below (λ k. slots_from arrival m u k u) n) + length (slots_from arrival m u n u) ≤ length (slots_to arrival nodes m u)
+  pub row_room : (m u n nodes : ℕ) → n < nodes
+      → length (each_below (λ k. slots_from arrival m u k u) n) + length (slots_from arrival m u n u) ≤ length (slots_to arrival nodes m u)
   row_room m u n nodes h = each_below-room (λ k. slots_from arrival m u k u) n nodes h
 
   -- few slots reach one node at one step
@@ -202,15 +211,19 @@ module _ (arrival : ℕ → ℕ → ℕ → ℕ) where
       let sender : one.from ≡ other.from = omega (arith, one.is, other.is, e, early, late) in
       let receiver : k % 8 ≡ l % 8 = omega (arith, one.is, other.is, e, early, late, sender) in
       let step : one.sent ≡ other.sent = omega (arith, one.is, other.is, e, early, late, sender, receiver) in
-      let arrival : k / 8 + 1 ≡ l / 8 + 1 = sym one.arrives ∙ (ap (λ n. arrival n (k % 8) one.sent) sender ∙ ap (λ m. arrival other.from m one.sent) receiver ∙ ap (λ t. arrival other.from (l % 8) t) step) ∙ other.arrives in
+      let arrival : k / 8 + 1 ≡ l / 8 + 1 = sym one.arrives
+      ∙ (ap (λ n. arrival n (k % 8) one.sent) sender ∙ ap (λ m. arrival other.from m one.sent) receiver ∙ ap (λ t. arrival other.from (l % 8) t) step)
+      ∙ other.arrives in
       omega (arith, arrival, receiver)
 
   codes-apart : (nodes horizon b : ℕ) → b ≤ 384 → AllPairs (λ x y. x ≢ y) (each_below (codes nodes horizon) b)
   codes-apart nodes horizon b few =
       AllPairs-each_below (λ x y. x ≢ y) (codes nodes horizon) b
-      (λ k h. AllPairs-cond (λ x y. x ≢ y) (is_row nodes horizon k) (codes_to nodes (k % 8) (k / 8 + 1)) (codes_to-apart nodes (k % 8) (k / 8 + 1) (omega arith) (omega (arith, h, few))))
+      (λ k h. AllPairs-cond (λ x y. x ≢ y) (is_row nodes horizon k) (codes_to nodes (k % 8) (k / 8 + 1))
+      (codes_to-apart nodes (k % 8) (k / 8 + 1) (omega arith) (omega (arith, h, few))))
       (λ k l x y less h c d e.
-      let same : k ≡ l = same-row nodes k l x y (omega (arith, less, h, few)) (omega (arith, h, few)) (codes-row nodes horizon k x c) (codes-row nodes horizon l y d) e in
+      let same : k ≡ l = same-row nodes k l x y (omega (arith, less, h, few)) (omega (arith, h, few)) (codes-row nodes horizon k x c)
+      (codes-row nodes horizon l y d) e in
       omega (arith, same, less))
 
   code-below : (nodes horizon b x : ℕ) → nodes ≤ 8 → b ≤ 384 → Contains (each_below (codes nodes horizon) b) x → x < 3072
@@ -225,7 +238,8 @@ module _ (arrival : ℕ → ℕ → ℕ → ℕ) where
       let xs = each_below (codes nodes horizon) b in
       length-le_from_distinct_below xs 3072
       (IsDistinct-from_AllPairs Decides-eqb xs (codes-apart nodes horizon b short))
-      (λ q h. let found = found-in (nat_eq q) xs h in let e : q ≡ found.0 = eqb-true q found.0 found.2 in omega (arith, e, code-below nodes horizon b found.0 few short found.1))
+      (λ q h. let found = found-in (nat_eq q) xs h in let e : q ≡ found.0 = eqb-true q found.0 found.2 in
+      omega (arith, e, code-below nodes horizon b found.0 few short found.1))
 
   row-length : (nodes horizon k : ℕ) → length (row_at arrival nodes horizon k) ≡ length (codes nodes horizon k)
   unfolding row_at
@@ -251,26 +265,42 @@ module _ (arrival : ℕ → ℕ → ℕ → ℕ) where
   pub rows_room : (nodes horizon k : ℕ) → nodes ≤ 8 → k < 384 → is_row nodes horizon k ≡ true
       → length (each_below (row_at arrival nodes horizon) k) + length (slots_to arrival nodes (k % 8) (k / 8 + 1)) ≤ 3072
   rows_room nodes horizon k few inside h =
-      omega (arith, each_below-room (row_at arrival nodes horizon) k (k + 1) (omega arith), rows-few nodes horizon (k + 1) few (omega (arith, inside)), ap length (row_is nodes horizon k h))
+      omega (
+        arith,
+        each_below-room (row_at arrival nodes horizon) k (k + 1) (omega arith),
+        rows-few nodes horizon (k + 1) few (omega (arith, inside)),
+        ap length (row_is nodes horizon k h),
+      )
 
   -- one row more
   pub rows_put : (nodes horizon k : ℕ) (found : List Slot) → is_row nodes horizon k ≡ true
-      → found ≡ each_below (row_at arrival nodes horizon) k ++ slots_to arrival nodes (k % 8) (k / 8 + 1) → found ≡ each_below (row_at arrival nodes horizon) (k + 1)
+      → found ≡ each_below (row_at arrival nodes horizon) k ++ slots_to arrival nodes (k % 8) (k / 8 + 1)
+      → found ≡ each_below (row_at arrival nodes horizon) (k + 1)
   rows_put nodes horizon k found h so =
-      so ∙ ap (λ xs. each_below (row_at arrival nodes horizon) k ++ xs) (sym (row_is nodes horizon k h)) ∙ sym (each_below-add-one (row_at arrival nodes horizon) k)
+      so ∙ ap (λ xs. each_below (row_at arrival nodes horizon) k ++ xs) (sym (row_is nodes horizon k h))
+      ∙ sym (each_below-add-one (row_at arrival nodes horizon) k)
 
   pub rows_counted : (nodes horizon k end : ℕ) → is_row nodes horizon k ≡ true → end ≡ length (each_below (row_at arrival nodes horizon) k)
       → end + length (slots_to arrival nodes (k % 8) (k / 8 + 1)) ≡ length (each_below (row_at arrival nodes horizon) (k + 1))
   rows_counted nodes horizon k end h is =
-      omega (arith, is, ap length (row_is nodes horizon k h), ap length (each_below-add-one (row_at arrival nodes horizon) k), length-append (each_below (row_at arrival nodes horizon) k) (row_at arrival nodes horizon k))
+      omega (
+        arith,
+        is,
+        ap length (row_is nodes horizon k h),
+        ap length (each_below-add-one (row_at arrival nodes horizon) k),
+        length-append (each_below (row_at arrival nodes horizon) k) (row_at arrival nodes horizon k),
+      )
 
-  pub rows_pass : (nodes horizon k : ℕ) → is_row nodes horizon k ≡ false → each_below (row_at arrival nodes horizon) (k + 1) ≡ each_below (row_at arrival nodes horizon) k
+  pub rows_pass : (nodes horizon k : ℕ) → is_row nodes horizon k ≡ false
+      → each_below (row_at arrival nodes horizon) (k + 1) ≡ each_below (row_at arrival nodes horizon) k
   rows_pass nodes horizon k h =
-      each_below-add-one (row_at arrival nodes horizon) k ∙ ap (λ xs. each_below (row_at arrival nodes horizon) k ++ xs) (row_empty nodes horizon k h) ∙ append-nil (each_below (row_at arrival nodes horizon) k)
+      each_below-add-one (row_at arrival nodes horizon) k ∙ ap (λ xs. each_below (row_at arrival nodes horizon) k ++ xs) (row_empty nodes horizon k h)
+      ∙ append-nil (each_below (row_at arrival nodes horizon) k)
 
 -- the start of one row more
 pub begins_more : (starts : List ℕ) (row : ℕ → List Slot) (k end : ℕ) → length starts ≡ 385 → k < 384 → end ≡ length (each_below row (k + 1))
-    → ((j : ℕ) → j ≤ k → slice_index starts j ≡ length (each_below row j)) → (j : ℕ) → j ≤ k + 1 → slice_index (slice_set starts (k + 1) end) j ≡ length (each_below row j)
+    → ((j : ℕ) → j ≤ k → slice_index starts j ≡ length (each_below row j)) → (j : ℕ) → j ≤ k + 1
+    → slice_index (slice_set starts (k + 1) end) j ≡ length (each_below row j)
 begins_more starts row k end long inside is before j h = elim (cases_lt j (k + 1)) [
   | inl early ↦ get_or-set_other starts (k + 1) j end 0 (λ e. omega (arith, e, early)) ∙ before j (omega arith)
   | inr late ↦
@@ -309,7 +339,8 @@ row_cut starts slots arrival nodes horizon k h inside =
     ∙ sym (drop-take a m slots) ∙ ap (drop a) front ∙ drop-append_seam (each_below row k) (row k)
 
 -- where it starts and ends
-pub row_ends : (starts : List ℕ) (slots : List Slot) (arrival : ℕ → ℕ → ℕ → ℕ) (nodes horizon k : ℕ) → IsSchedule arrival nodes horizon slots starts → nodes ≤ 8 → k < 384
+pub row_ends : (starts : List ℕ) (slots : List Slot) (arrival : ℕ → ℕ → ℕ → ℕ) (nodes horizon k : ℕ) → IsSchedule arrival nodes horizon slots starts
+    → nodes ≤ 8 → k < 384
     → (slice_index starts k ≤ slice_index starts (k + 1)) × (slice_index starts (k + 1) ≤ length slots)
 row_ends starts slots arrival nodes horizon k h few inside =
     let row = row_at arrival nodes horizon in (
@@ -322,7 +353,8 @@ pub row_inside : (nodes horizon m u : ℕ) → m < nodes → nodes ≤ 8 → 1 �
 row_inside nodes horizon m u node few first last short = omega arith
 
 -- the row of a receiver and a step
-pub row_of : (arrival : ℕ → ℕ → ℕ → ℕ) (nodes horizon m u : ℕ) → m < nodes → nodes ≤ 8 → 1 ≤ u → u ≤ horizon → row_at arrival nodes horizon ((u - 1) * 8 + m) ≡ slots_to arrival nodes m u
+pub row_of : (arrival : ℕ → ℕ → ℕ → ℕ) (nodes horizon m u : ℕ) → m < nodes → nodes ≤ 8 → 1 ≤ u → u ≤ horizon
+    → row_at arrival nodes horizon ((u - 1) * 8 + m) ≡ slots_to arrival nodes m u
 row_of arrival nodes horizon m u node few first last =
     let receiver : ((u - 1) * 8 + m) % 8 ≡ m = omega arith in
     let step : ((u - 1) * 8 + m) / 8 + 1 ≡ u = omega arith in

@@ -1,5 +1,6 @@
 -- What machines do under faults: who is up, which view each node has after each step, what it sends, and what reaches it.
--- One logical clock counts the steps of all nodes, as in lineage-driven fault injection (SIGMOD 2015); that a paused node keeps its view, loses what arrives, and then wakes is this project's.
+-- One logical clock counts the steps of all nodes, as in lineage-driven fault injection (SIGMOD 2015). That a paused node keeps its view, loses what
+-- arrives, and then wakes is this project's.
 use Rattle.std.specs.Prelude.{ℕ, zero, suc, Bool, not, ◌&&◌, ◌==◌, nat_lt, nat_le, if◌then◌else◌, List, [], ◌++◌, Option, None}
 use Rattle.std.specs.Option.{option_map, option_to_list}
 use Rattle.lf_faults.specs.declared.fault.Parts.{Parts}

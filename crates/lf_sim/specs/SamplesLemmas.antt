@@ -24,14 +24,16 @@ ring-silent n t to state node nobody =
     let after : to ≢ (n + 2) % 4 = other-than n 4 to ((n + 2) % 4) nobody (λ e. omega (arith, e, node)) (omega arith) in
     let once : Out ℕ = with_note nothing ((n + 1) % 4) 1 in
     let twice : Out ℕ = with_note once ((n + 1) % 4) state in
-    let silent : note_to twice to ≡ None = with_none once ((n + 1) % 4) state to next (with_none nothing ((n + 1) % 4) 1 to next (note_to-nothing {Note = ℕ} to)) in
+    let silent : note_to twice to ≡ None =
+    with_none once ((n + 1) % 4) state to next (with_none nothing ((n + 1) % 4) 1 to next (note_to-nothing {Note = ℕ} to)) in
     cond-none (nat_eq (t % 2) 0) (with_note twice ((n + 2) % 4) t) twice to (with_none twice ((n + 2) % 4) t to after silent) silent
 
 pub hub-silent : (n t to state : ℕ) → n < 3 → (to ≡ n) ⊎ (3 ≤ to) → note_to (hub_out n t state) to ≡ None
 hub-silent n t to state node nobody = elim (eqb_tells n 0) [
   | inl same ↦
       let apart : to ≢ 2 = other-than n 3 to 2 nobody (λ e. omega (arith, e, same.1)) (omega arith) in
-      rw same.0 (cond-none (nat_eq (t % 3) 0) (with_note nothing 2 state) nothing to (with_none nothing 2 state to apart (note_to-nothing {Note = ℕ} to)) (note_to-nothing {Note = ℕ} to))
+      rw same.0 (cond-none (nat_eq (t % 3) 0) (with_note nothing 2 state) nothing to (with_none nothing 2 state to apart (note_to-nothing {Note = ℕ} to))
+      (note_to-nothing {Note = ℕ} to))
   | inr other ↦
       let apart : to ≢ 0 = other-than n 3 to 0 nobody (λ e. other.1 (sym e)) (omega arith) in
       rw other.0 (with_none nothing 0 state to apart (note_to-nothing {Note = ℕ} to))

@@ -16,16 +16,22 @@ loop-fault-preserved c =
       | in-Crash+then-step-steps b ↦
           record {
             long = ap length b.steps-is ∙ length-set steps b.in-Crash.node b.in-Crash.step ∙ inv.long;
-            filled = rw b.steps-is (crashes_more xs i x c.fault-item.is c.loop-fault-test.true steps b.in-Crash.node b.in-Crash.step (sym b.in-Crash.ensures.value) (subst IsFault (sym b.in-Crash.ensures.value) c.parts.ensures.in_range).0 inv.long b.if-step-steps.true inv.filled);
+            filled = rw b.steps-is
+                (crashes_more xs i x c.fault-item.is c.loop-fault-test.true steps b.in-Crash.node b.in-Crash.step (sym b.in-Crash.ensures.value)
+                (subst IsFault (sym b.in-Crash.ensures.value) c.parts.ensures.in_range).0 inv.long b.if-step-steps.true inv.filled);
           }
       | in-Crash+else-step-steps b ↦
           record {
             long = ap length b.steps-is ∙ inv.long;
-            filled = rw b.steps-is (crashes_kept xs i x c.fault-item.is c.loop-fault-test.true steps b.in-Crash.node b.in-Crash.step (sym b.in-Crash.ensures.value) b.if-step-steps.false inv.filled);
+            filled = rw b.steps-is
+                (crashes_kept xs i x c.fault-item.is c.loop-fault-test.true steps b.in-Crash.node b.in-Crash.step
+                (sym b.in-Crash.ensures.value) b.if-step-steps.false inv.filled);
           }
       | in_default b ↦
           record {
             long = ap length b.steps-is ∙ inv.long;
-            filled = rw b.steps-is (crashes_pass xs i x c.fault-item.is c.loop-fault-test.true steps (λ n t. crashes-not n t x (λ a s e. b.in_default.not-Crash a s (c.parts.ensures.value ∙ e))) inv.filled);
+            filled = rw b.steps-is
+                (crashes_pass xs i x c.fault-item.is c.loop-fault-test.true steps
+                (λ n t. crashes-not n t x (λ a s e. b.in_default.not-Crash a s (c.parts.ensures.value ∙ e))) inv.filled);
           }
     ]

@@ -43,6 +43,8 @@ returns-clause-run g c =
       horizon = c.horizon-horizon.ensures.value;
       pause_length = c.pause_length-pause_length.ensures.value;
       each = λ n t node last.
-          let past = past_of w c.args.set.now cells (c.loop-t.t + 1) [] (c.loop-t.invariant.cells ∙ ap (λ F. table w F (c.loop-t.t + 1)) c.new-effects.ensures ∙ sym (append-nil (table w c.args.set.now (c.loop-t.t + 1)))) in
+          let past = past_of w c.args.set.now cells (c.loop-t.t + 1) []
+          (c.loop-t.invariant.cells ∙ ap (λ F. table w F (c.loop-t.t + 1)) c.new-effects.ensures
+          ∙ sym (append-nil (table w c.args.set.now (c.loop-t.t + 1)))) in
           ap (λ k. slice_get cells (t * k + n)) nodes ∙ past n t node (omega (arith, last, end, c.horizon-horizon.ensures.value));
     }

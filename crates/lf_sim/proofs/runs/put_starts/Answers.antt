@@ -9,7 +9,9 @@ loop-node-preserved g c =
     let w = world_of c.args.setting.now in
     let F = c.args.effects.now.set in
     record {
-      cells = c.push_reserved.ensures.items ∙ row_more w F 0 c.loop-node.node [] c.loop-node.cells.items _ c.loop-node.invariant.cells (start_is w F c.loop-node.node c.start.result c.none.result c.start.ensures c.none.ensures);
+      cells = c.push_reserved.ensures.items
+          ∙ row_more w F 0 c.loop-node.node [] c.loop-node.cells.items _ c.loop-node.invariant.cells
+          (start_is w F c.loop-node.node c.start.result c.none.result c.start.ensures c.none.ensures);
       len = omega (arith, c.push_reserved.ensures.len, c.loop-node.invariant.len);
       kept = c.push_reserved.ensures.capacity ∙ c.loop-node.invariant.kept;
     }

@@ -9,7 +9,8 @@ pub invariant_of-past : goal.invariant_of-past
 invariant_of-past g c =
     let w = world_of c.args.setting.now in
     let F = c.args.effects.now.set in
-    let done = past_of w F c.deref.result.now (c.args.t + 1) (row_of w F (c.args.t + 1) c.loop-node.node) (c.deref.ensures.value ∙ c.loop-node.invariant.cells) in
+    let done = past_of w F c.deref.result.now (c.args.t + 1) (row_of w F (c.args.t + 1) c.loop-node.node)
+    (c.deref.ensures.value ∙ c.loop-node.invariant.cells) in
     record { nodes_agree = c.requires.nodes; few = c.requires.few; early = c.requires.step; short = c.requires.short; done = done }
 
 pub push_reserved-requires : goal.push_reserved-requires
@@ -22,7 +23,9 @@ loop-node-preserved g c =
     let w = world_of c.args.setting.now in
     let F = c.args.effects.now.set in
     record {
-      cells = c.push_reserved.ensures.items ∙ row_more w F (c.args.t + 1) c.loop-node.node (table w F (c.args.t + 1)) c.loop-node.cells.items c.turn-cell.result c.loop-node.invariant.cells c.turn-cell.ensures.value;
+      cells = c.push_reserved.ensures.items
+          ∙ row_more w F (c.args.t + 1) c.loop-node.node
+          (table w F (c.args.t + 1)) c.loop-node.cells.items c.turn-cell.result c.loop-node.invariant.cells c.turn-cell.ensures.value;
       len = omega (arith, c.push_reserved.ensures.len, c.loop-node.invariant.len);
       kept = c.push_reserved.ensures.capacity ∙ c.loop-node.invariant.kept;
       letters = c.turn-cell.ensures.letters ∙ c.loop-node.invariant.letters;

@@ -16,8 +16,17 @@ loop-from-preserved c =
     elim c.if-from-to.branch [
       | then-from-to b ↦
           record {
-            counted = omega (arith, b.end-is, b.put_link-end.ensures.end, row_count arrival c.args.to c.args.step c.loop-from.from, c.loop-from.invariant.counted);
-            filled = rw (b.end-is, b.slots-is) (row_put arrival c.args.to c.args.step c.loop-from.from _ (take c.args.start c.args.slots.now) (b.put_link-end.ensures.slots ∙ ap (λ xs. xs ++ slots_from arrival c.args.to c.args.step c.loop-from.from c.args.step) c.loop-from.invariant.filled));
+            counted = omega (
+              arith,
+              b.end-is,
+              b.put_link-end.ensures.end,
+              row_count arrival c.args.to c.args.step c.loop-from.from,
+              c.loop-from.invariant.counted,
+            );
+            filled = rw (b.end-is, b.slots-is)
+                (row_put arrival c.args.to c.args.step c.loop-from.from _ (take c.args.start c.args.slots.now)
+                (b.put_link-end.ensures.slots
+                ∙ ap (λ xs. xs ++ slots_from arrival c.args.to c.args.step c.loop-from.from c.args.step) c.loop-from.invariant.filled));
           }
       | else-from-to b ↦
           let same = row_self arrival c.args.to c.args.step c.loop-from.from b.if-from-to.false in

@@ -28,9 +28,11 @@ lists_same R S h (f ∷ fs) (g ∷ gs) = rw (h f g, lists_same R S h fs gs) refl
 
 pub returns : goal.returns
 returns c =
-    let faults : c.cmp-2.result ≡ slice_cmp fault_cmp c.args.self.now c.args.other.now =
-    c.cmp-2.ensures ∙ (lists_same (cmp-value).it fault_cmp same_cmp c.items.result.now c.items-2.result.now
+    let faults : c.cmp-lists.result ≡ slice_cmp fault_cmp c.args.self.now c.args.other.now =
+    c.cmp-lists.ensures ∙ (lists_same (cmp-value).it fault_cmp same_cmp c.items.result.now c.items-2.result.now
     ∙ (ap (λ xs. slice_cmp fault_cmp xs c.items-2.result.now) c.items.ensures.value ∙ ap (slice_cmp fault_cmp c.args.self.now) c.items-2.ensures.value)) in
-    let sizes : c.cmp.result ≡ nat_cmp (length c.args.self.now) (length c.args.other.now) =
-    c.cmp.ensures ∙ (ap (λ n. nat_cmp n c.len-2.result) c.len.ensures.value ∙ ap (nat_cmp (length c.args.self.now)) c.len-2.ensures.value) in
-    c.is_lt.ensures ∙ ap is_lt (c.then.ensures ∙ (ap (λ o. ordering_then o c.cmp-2.result) sizes ∙ ap (ordering_then (nat_cmp (length c.args.self.now) (length c.args.other.now))) faults))
+    let sizes : c.cmp-sizes.result ≡ nat_cmp (length c.args.self.now) (length c.args.other.now) =
+    c.cmp-sizes.ensures ∙ (ap (λ n. nat_cmp n c.len-2.result) c.len.ensures.value ∙ ap (nat_cmp (length c.args.self.now)) c.len-2.ensures.value) in
+    c.is_lt.ensures
+    ∙ ap is_lt (c.then.ensures
+    ∙ (ap (λ o. ordering_then o c.cmp-lists.result) sizes ∙ ap (ordering_then (nat_cmp (length c.args.self.now) (length c.args.other.now))) faults))

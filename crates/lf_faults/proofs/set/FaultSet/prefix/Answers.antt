@@ -9,6 +9,8 @@ overflow_cast-result c = omega (arith, c.requires, at_most_six c.self.inside.cou
 pub invariant_of-result : goal.invariant_of-result
 invariant_of-result c =
     let ascending = subst IsAscending c.self.view_is c.self.invariant.1 in (
-      first_fills c.self.inside.count c.self.inside.faults c.args.self.now c.self.invariant.0 c.self.view_is ascending c.args.count c.requires c.kept-faults.result c.kept-faults.ensures,
-      first_ascending c.self.inside.count c.self.inside.faults c.args.self.now c.self.invariant.0 c.self.view_is ascending c.args.count c.requires c.kept-faults.result c.kept-faults.ensures,
+      first_fills c.self.inside.count c.self.inside.faults c.args.self.now c.self.invariant.0 c.self.view_is ascending c.args.count c.requires
+          c.kept-faults.result c.kept-faults.ensures,
+      first_ascending c.self.inside.count c.self.inside.faults c.args.self.now c.self.invariant.0 c.self.view_is ascending c.args.count c.requires
+          c.kept-faults.result c.kept-faults.ensures,
     )

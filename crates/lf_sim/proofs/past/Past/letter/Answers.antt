@@ -20,7 +20,9 @@ returns-in-Some g c =
     let slot = c.requires.slot in
     let kept = rw (c.from-from.ensures, c.from-sent.ensures) at (sym c.omits.ensures ∙ c.if-omits.false) in
     let here = rw (c.from-from.ensures, c.from-sent.ensures) at c.cell.ensures in
-    rw (c.from-from.ensures, c.from-sent.ensures) (letter_is w F c.args.to (p.t + 1) c.args.slot.from c.args.slot.sent c.cell.result.now (Some c.in-Some.note) slot.apart slot.arrives kept here (sym c.in-Some.is ∙ c.to.ensures))
+    rw (c.from-from.ensures, c.from-sent.ensures)
+    (letter_is w F c.args.to (p.t + 1) c.args.slot.from c.args.slot.sent c.cell.result.now (Some c.in-Some.note) slot.apart slot.arrives kept here
+    (sym c.in-Some.is ∙ c.to.ensures))
 
 pub returns-in-None : goal.returns-in-None
 returns-in-None g c =
@@ -30,4 +32,5 @@ returns-in-None g c =
     let slot = c.requires.slot in
     let kept = rw (c.from-from.ensures, c.from-sent.ensures) at (sym c.omits.ensures ∙ c.if-omits.false) in
     let here = rw (c.from-from.ensures, c.from-sent.ensures) at c.cell.ensures in
-    letter_is w F c.args.to (p.t + 1) c.args.slot.from c.args.slot.sent c.cell.result.now None slot.apart slot.arrives kept here (sym c.in-None.is ∙ c.to.ensures)
+    letter_is w F c.args.to (p.t + 1) c.args.slot.from c.args.slot.sent c.cell.result.now None slot.apart slot.arrives kept here
+    (sym c.in-None.is ∙ c.to.ensures)

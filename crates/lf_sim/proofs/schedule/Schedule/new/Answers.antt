@@ -12,7 +12,13 @@ put_row-end-requires-clause-room c =
     let net = c.args.network.now in
     let few : net.nodes ≤ 8 = omega (arith, c.nodes-nodes.ensures.value, c.nodes-nodes.ensures.at_most) in
     let is = rw (c.nodes-nodes.ensures.value, c.horizon-horizon.ensures.value) at (sym c.is_row.ensures ∙ c.if-is_row.true) in
-    rw c.nodes-nodes.ensures.value (omega (arith, rows_room (arrival_of net) net.nodes net.horizon c.loop-row.row few c.loop-row-test.true is, c.loop-row.invariant.counted, c.loop-row.invariant.room))
+    rw c.nodes-nodes.ensures.value
+    (omega (
+      arith,
+      rows_room (arrival_of net) net.nodes net.horizon c.loop-row.row few c.loop-row-test.true is,
+      c.loop-row.invariant.counted,
+      c.loop-row.invariant.room,
+    ))
 
 pub loop-row-preserved : goal.loop-row-preserved
 loop-row-preserved c =
@@ -25,7 +31,8 @@ loop-row-preserved c =
       | then-is_row b ↦
           let is = rw (c.nodes-nodes.ensures.value, c.horizon-horizon.ensures.value) at (sym c.is_row.ensures ∙ b.if-is_row.true) in
           let filled : take b.put_row-end.result b.put_row-end.new.slots ≡ each_below row (k + 1) =
-          rows_put arrival net.nodes net.horizon k _ is (rw c.nodes-nodes.ensures.value at b.put_row-end.ensures.slots ∙ ap (λ xs. xs ++ slots_to arrival net.nodes (k % 8) (k / 8 + 1)) inv.filled) in
+          rows_put arrival net.nodes net.horizon k _ is
+          (rw c.nodes-nodes.ensures.value at b.put_row-end.ensures.slots ∙ ap (λ xs. xs ++ slots_to arrival net.nodes (k % 8) (k / 8 + 1)) inv.filled) in
           let counted : c.if-is_row.end ≡ length (each_below row (k + 1)) =
           b.end-is ∙ b.put_row-end.ensures.end ∙ rw c.nodes-nodes.ensures.value (rows_counted arrival net.nodes net.horizon k c.loop-row.end is inv.counted) in
           record {

@@ -10,7 +10,8 @@ part-requires-clause-start g c =
     let few : s.network.nodes ≤ 8 = omega (arith, c.nodes-nodes.ensures.value, c.nodes-nodes.ensures.at_most) in
     let short : s.network.horizon ≤ 48 = omega (arith, c.horizon-horizon.ensures.value, c.horizon-horizon.ensures.at_most) in
     let inside = row_inside s.network.nodes s.network.horizon c.args.to c.args.step c.requires.to few c.requires.first c.requires.last short in
-    let ends = row_ends s.schedule.starts s.schedule.slots (arrival_of s.network) s.network.nodes s.network.horizon ((c.args.step - 1) * 8 + c.args.to) s.scheduled few inside in
+    let ends = row_ends s.schedule.starts s.schedule.slots (arrival_of s.network) s.network.nodes s.network.horizon
+    ((c.args.step - 1) * 8 + c.args.to) s.scheduled few inside in
     omega (arith, ends.0, c.from-start.ensures, c.from-end.ensures)
 
 pub part-requires-clause-end : goal.part-requires-clause-end
@@ -19,7 +20,8 @@ part-requires-clause-end g c =
     let few : s.network.nodes ≤ 8 = omega (arith, c.nodes-nodes.ensures.value, c.nodes-nodes.ensures.at_most) in
     let short : s.network.horizon ≤ 48 = omega (arith, c.horizon-horizon.ensures.value, c.horizon-horizon.ensures.at_most) in
     let inside = row_inside s.network.nodes s.network.horizon c.args.to c.args.step c.requires.to few c.requires.first c.requires.last short in
-    let ends = row_ends s.schedule.starts s.schedule.slots (arrival_of s.network) s.network.nodes s.network.horizon ((c.args.step - 1) * 8 + c.args.to) s.scheduled few inside in
+    let ends = row_ends s.schedule.starts s.schedule.slots (arrival_of s.network) s.network.nodes s.network.horizon
+    ((c.args.step - 1) * 8 + c.args.to) s.scheduled few inside in
     omega (arith, ends.1, c.from-end.ensures)
 
 pub returns-clause-value : goal.returns-clause-value
@@ -28,7 +30,9 @@ returns-clause-value g c =
     let few : s.network.nodes ≤ 8 = omega (arith, c.nodes-nodes.ensures.value, c.nodes-nodes.ensures.at_most) in
     let short : s.network.horizon ≤ 48 = omega (arith, c.horizon-horizon.ensures.value, c.horizon-horizon.ensures.at_most) in
     let inside = row_inside s.network.nodes s.network.horizon c.args.to c.args.step c.requires.to few c.requires.first c.requires.last short in
-    c.part.ensures ∙ rw (c.from-start.ensures, c.from-end.ensures) (row_cut s.schedule.starts s.schedule.slots (arrival_of s.network) s.network.nodes s.network.horizon ((c.args.step - 1) * 8 + c.args.to) s.scheduled inside)
+    c.part.ensures ∙ rw (c.from-start.ensures, c.from-end.ensures)
+    (row_cut s.schedule.starts s.schedule.slots (arrival_of s.network) s.network.nodes s.network.horizon
+    ((c.args.step - 1) * 8 + c.args.to) s.scheduled inside)
     ∙ row_of (arrival_of s.network) s.network.nodes s.network.horizon c.args.to c.args.step c.requires.to few c.requires.first c.requires.last
 
 pub returns-clause-members : goal.returns-clause-members

@@ -1,0 +1,2 @@
+pub mod Gossip
+pub mod GossipLemmas
