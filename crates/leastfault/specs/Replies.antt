@@ -5,7 +5,7 @@ use Rattle.lf_faults.specs.declared.fault.Parts.{Parts}
 use Rattle.lf_faults.specs.Allowed.{IsAllowed}
 use Rattle.lf_sim.specs.Settings.{world_of}
 use Rattle.lf_scenario.specs.declared.error.ScenarioError.{ScenarioError}
-use Rattle.lf_scenario.specs.declared.reader.TheConstants.{LONGEST}
+use Rattle.lf_scenario.specs.declared.limits.TheConstants.{LONGEST}
 use Rattle.lf_scenario.specs.declared.scenario.Scenario.{Scenario}
 use Rattle.lf_scenario.specs.Scenarios.{IsRefused, IsText}
 use Rattle.lf_trace.specs.Namings.{Names}

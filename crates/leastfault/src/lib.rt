@@ -18,6 +18,8 @@ pub use lf_words::{Asked, Unasked, asked};
 pub use replies::{refusal, report};
 
 #[cfg(test)]
+mod formula_tests;
+#[cfg(test)]
 mod protocol_tests;
 #[cfg(test)]
 mod run_tests;
