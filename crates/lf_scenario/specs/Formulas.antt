@@ -9,7 +9,7 @@ use Rattle.lf_protocols.specs.Words.{fact_word, facts_of}
 use Rattle.lf_outcome.specs.declared.formula.Formula.{Formula, fold-Formula}
 use Rattle.lf_outcome.specs.declared.formula.Formula.TheOpen.{Formula-F}
 use Rattle.lf_outcome.specs.Measures.{depth_of, atoms_of}
-use Rattle.lf_scenario.specs.declared.limits.TheConstants.{DEEPEST, MOST_ATOMS}
+use Rattle.lf_scenario.specs.Limits.{deepest, most_atoms}
 
 -- a node at a step of the run
 abbrev pub is_point : ℕ → ℕ → ℕ → ℕ → Bool
@@ -34,5 +34,5 @@ module _ (k : Kind) (nodes horizon : ℕ) where
 -- the formula of a scenario: in range, not too deep, and without too many atoms
 pub record IsFormulaOf (k : Kind) (b : Bounds) (formula : Formula Fact) : Type 0 where
   pub range : is_in_range k b.nodes b.horizon formula ≡ true
-  pub depth : depth_of formula ≤ DEEPEST
-  pub atoms : atoms_of formula ≤ MOST_ATOMS
+  pub depth : depth_of formula ≤ deepest
+  pub atoms : atoms_of formula ≤ most_atoms

@@ -4,6 +4,7 @@ pub mod Values
 pub mod Votes
 pub mod Reading
 pub mod Outcomes
+pub mod Limits
 pub mod LinkTables
 pub mod Formulas
 pub mod Ranges

@@ -22,7 +22,7 @@ use Rattle.lf_outcome.specs.Outcomes.{outcome_named}
 use Rattle.lf_outcome.specs.declared.outcome.Outcome.{Outcome as Named}
 use Rattle.lf_scenario.specs.declared.key.Key.{Key}
 use Rattle.lf_scenario.specs.declared.key.Key.TheVariants.{Outcome}
-use Rattle.lf_scenario.specs.declared.limits.TheConstants.{DEEPEST, MOST_ATOMS}
+use Rattle.lf_scenario.specs.Limits.{deepest, most_atoms}
 use Rattle.lf_scenario.specs.declared.error.ScenarioError.TheVariants as refusals
 use Rattle.lf_scenario.specs.Values.{Reading, ◌>>=◌, whole}
 
@@ -94,7 +94,7 @@ abbrev mutual
 -- not too deep, and without too many atoms
 abbrev pub limited : Formula Fact → Reading (Formula Fact)
 limited formula =
-    if nat_le (depth_of formula) DEEPEST && nat_le (atoms_of formula) MOST_ATOMS then Ok formula else Err refusals.Formula
+    if nat_le (depth_of formula) deepest && nat_le (atoms_of formula) most_atoms then Ok formula else Err refusals.Formula
 
 -- the formula of the outcome that a name finds
 abbrev pub named_in : Bounds → Option Named → Reading (Formula Fact)

@@ -3,7 +3,7 @@ use Rattle.std.specs.Prelude.{◌≡◌, ℕ, ◌≤◌, Bool, List}
 use Rattle.lf_faults.specs.Allowed.{IsInLimits}
 use Rattle.lf_protocols.specs.Limits.{IsCommit, IsWithinLimits}
 use Rattle.lf_protocols.specs.Protocols.{nodes_of}
-use Rattle.lf_scenario.specs.declared.limits.TheConstants.{MOST_SETS}
+use Rattle.lf_scenario.specs.Limits.{most_sets}
 use Rattle.lf_scenario.specs.declared.reading.Delays.{Delays}
 use Rattle.lf_scenario.specs.declared.reading.Described.{Described}
 
@@ -20,4 +20,4 @@ pub record IsInRange (described : Described) : Type 0 where
   pub delays : AreDelays described.delays
   pub limits : IsWithinLimits described.protocol
   pub nodes : nodes_of described.protocol ≡ described.bounds.nodes
-  pub max_sets : (1 ≤ described.max_sets) × (described.max_sets ≤ MOST_SETS)
+  pub max_sets : (1 ≤ described.max_sets) × (described.max_sets ≤ most_sets)

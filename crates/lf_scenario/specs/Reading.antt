@@ -20,7 +20,7 @@ use Rattle.lf_scenario.specs.declared.key.Key.TheVariants.{Nodes, Horizon, LastO
 use Rattle.lf_scenario.specs.declared.error.ScenarioError.TheVariants as refusals
 use Rattle.lf_scenario.specs.declared.names.ProtocolName.{ProtocolName}
 use Rattle.lf_scenario.specs.declared.names.ProtocolName.TheVariants as protocols
-use Rattle.lf_scenario.specs.declared.limits.TheConstants.{MOST_SETS, USUAL_SETS}
+use Rattle.lf_scenario.specs.Limits.{most_sets, usual_sets}
 use Rattle.lf_scenario.specs.declared.reading.Delays.{Delays}
 use Rattle.lf_scenario.specs.declared.reading.Described.{Described}
 use Rattle.lf_scenario.specs.Values.{Reading, ◌>>=◌, whole, seed_in, required, optional, owned, chosen, known}
@@ -105,7 +105,7 @@ unfoldable pub described_in : Members → Reading Described
 described_in ms = do
   all ← known ms
   bounds ← bounds_in ms
-  max_sets ← optional ms MaxSets (whole 1 MOST_SETS) USUAL_SETS
+  max_sets ← optional ms MaxSets (whole 1 most_sets) usual_sets
   delays ← delays_in ms
   kind ← kind_in bounds.nodes ms
   Ok (record { bounds = bounds; max_sets = max_sets; delays = delays; protocol = kind })

@@ -9,7 +9,7 @@ use Rattle.lf_outcome.specs.declared.formula.Formula.{Formula}
 use Rattle.lf_scenario.specs.declared.key.Key.TheVariants as keys
 use Rattle.lf_scenario.specs.declared.error.ScenarioError.{ScenarioError}
 use Rattle.lf_scenario.specs.declared.error.ScenarioError.TheVariants as refusals
-use Rattle.lf_scenario.specs.declared.limits.TheConstants.{LONGEST}
+use Rattle.lf_scenario.specs.Limits.{longest}
 use Rattle.lf_scenario.specs.declared.reading.Described.{Described}
 use Rattle.lf_scenario.specs.declared.scenario.Scenario.{Scenario}
 use Rattle.lf_scenario.specs.Values.{Reading, ◌>>=◌, required}
@@ -62,13 +62,13 @@ pub record IsAskedBy (ms : Members) (s : Scenario) : Type 0 where
 -- the text is refused for this reason: it is too long, it is no document, or the reading of its members refuses it
 abbrev pub IsRefused : List ℕ → ScenarioError → Type 0
 IsRefused text e =
-    ((LONGEST < length text) × (e ≡ refusals.TooLong))
-    ⊎ ((length text ≤ LONGEST) × ((ms : Members) → IsDocument text ms → ⊥) × (e ≡ refusals.NoDocument))
-    ⊎ ((length text ≤ LONGEST) × (ms : Members) × IsDocument text ms × (asked_in ms ≡ Err e))
+    ((longest < length text) × (e ≡ refusals.TooLong))
+    ⊎ ((length text ≤ longest) × ((ms : Members) → IsDocument text ms → ⊥) × (e ≡ refusals.NoDocument))
+    ⊎ ((length text ≤ longest) × (ms : Members) × IsDocument text ms × (asked_in ms ≡ Err e))
 
 -- the text is short enough and a document, and its members ask for the scenario
 pub record IsText (s : Scenario) (text : List ℕ) : Type 0 where
-  pub short : length text ≤ LONGEST
+  pub short : length text ≤ longest
   pub members : Members
   pub document : IsDocument text members
   pub asked : IsAskedBy members s

@@ -181,7 +181,7 @@ fn given_links(alloc: Global, table: &Table, usual: Usual) -> Result<Vec<Link>, 
 }
 
 /// The delays of all links: those that are given, and the usual ones elsewhere.
-fn delays_with(usual: Usual, given: &[Link]) -> Links
+fn links_of(usual: Usual, given: &[Link]) -> Links
     requires { All (IsLink usual.nodes) given.now }
     ensures form { IsLinks usual.nodes result }
     ensures value { result ≡ links_of usual.nodes usual.least usual.spread given.now }
@@ -212,7 +212,7 @@ fn has_eight_rows(table: &[[u32; 8]; 8])
 
 /// The delays of all links, by the table and the usual ones.
 #[tactic(auto, unfolding(crate::specs::LinkTables::all_links))]
-pub(crate) fn read_links(alloc: Global, table: &Table, usual: Usual) -> Result<Links, ScenarioError>
+pub(crate) fn all_links(alloc: Global, table: &Table, usual: Usual) -> Result<Links, ScenarioError>
     ensures ok { IfOk result (λ links.
         all_links usual.nodes usual.least usual.spread (table_view table.now) ≡ Ok links) }
     ensures err { IfErr result (λ e. e ≢ ScenarioError.Memory →
@@ -220,5 +220,5 @@ pub(crate) fn read_links(alloc: Global, table: &Table, usual: Usual) -> Result<L
     ensures form { IfOk result (IsLinks usual.nodes) }
 {
     let given = given_links(alloc, table, usual)?;
-    Ok(delays_with(usual, given.as_slice()))
+    Ok(links_of(usual, given.as_slice()))
 }

@@ -19,7 +19,7 @@ use std::alloc::Global;
 use toml::{Table, Value};
 
 /// A node of a formula.
-fn node(value: &Value, described: &Described) -> Result<u32, ScenarioError>
+fn node_in(value: &Value, described: &Described) -> Result<u32, ScenarioError>
     requires { IsInRange described.now }
     ensures { result ≡ node_in described.now.bounds (view value.now) }
 {
@@ -28,7 +28,7 @@ fn node(value: &Value, described: &Described) -> Result<u32, ScenarioError>
 }
 
 /// A step of a formula.
-fn step(value: &Value, described: &Described) -> Result<u32, ScenarioError>
+fn step_in(value: &Value, described: &Described) -> Result<u32, ScenarioError>
     ensures { result ≡ step_in described.now.bounds (view value.now) }
 {
     let last = described.bounds.horizon();
@@ -36,7 +36,7 @@ fn step(value: &Value, described: &Described) -> Result<u32, ScenarioError>
 }
 
 /// A fact of a formula.
-fn fact(value: &Value, described: &Described) -> Result<Fact, ScenarioError>
+fn fact_in(value: &Value, described: &Described) -> Result<Fact, ScenarioError>
     ensures { result ≡ fact_in described.now.protocol (view value.now) }
 {
     match value {
@@ -49,7 +49,7 @@ fn fact(value: &Value, described: &Described) -> Result<Fact, ScenarioError>
 }
 
 /// The formula of the items after the word `down`.
-fn down(items: &[Value], described: &Described) -> Result<Formula<Fact>, ScenarioError>
+fn down_in(items: &[Value], described: &Described) -> Result<Formula<Fact>, ScenarioError>
     requires { IsInRange described.now }
     ensures { result ≡ down_in described.now.bounds (items_view items.now) }
 {
@@ -57,13 +57,13 @@ fn down(items: &[Value], described: &Described) -> Result<Formula<Fact>, Scenari
         return Err(ScenarioError::Formula);
     }
     Ok(Formula::Down {
-        node: node(&items[0], described)?,
-        step: step(&items[1], described)?,
+        node: node_in(&items[0], described)?,
+        step: step_in(&items[1], described)?,
     })
 }
 
 /// The formula of the items after the word `shows`.
-fn shows(items: &[Value], described: &Described) -> Result<Formula<Fact>, ScenarioError>
+fn shows_in(items: &[Value], described: &Described) -> Result<Formula<Fact>, ScenarioError>
     requires { IsInRange described.now }
     ensures { result ≡ shows_in described.now.protocol described.now.bounds (items_view items.now) }
 {
@@ -83,15 +83,15 @@ fn shows_of(
     requires { IsInRange described.now }
     ensures { result ≡ shows_of described.now.protocol described.now.bounds (view first.now) (view second.now) (view third.now) }
 {
-    let node = node(first, described)?;
-    let step = step(second, described)?;
-    let fact = fact(third, described)?;
+    let node = node_in(first, described)?;
+    let step = step_in(second, described)?;
+    let fact = fact_in(third, described)?;
     Ok(Formula::Shows { node, step, fact })
 }
 
 /// The formula of a list.
 #[cycle(formula)]
-fn formula(
+fn formula_in(
     alloc: Global,
     value: &Value,
     described: &Described,
@@ -132,13 +132,13 @@ fn by_word(
         (shows_in described.now.protocol described.now.bounds (items_view rest.now)) ≡ Err e) }
 {
     if word == "all" {
-        Ok(Formula::All(parts(alloc, rest, described)?))
+        Ok(Formula::All(parts_in(alloc, rest, described)?))
     } else if word == "any" {
-        Ok(Formula::Any(parts(alloc, rest, described)?))
+        Ok(Formula::Any(parts_in(alloc, rest, described)?))
     } else if word == "down" {
-        down(rest, described)
+        down_in(rest, described)
     } else if word == "shows" {
-        shows(rest, described)
+        shows_in(rest, described)
     } else {
         Err(ScenarioError::Formula)
     }
@@ -146,7 +146,7 @@ fn by_word(
 
 /// The formulas of some lists.
 #[cycle(formula)]
-fn parts(
+fn parts_in(
     alloc: Global,
     items: &[Value],
     described: &Described,
@@ -158,7 +158,7 @@ fn parts(
 {
     let mut parts = Vec::new(alloc);
     'items: for item in items {
-        let part = formula(alloc, item, described)?;
+        let part = formula_in(alloc, item, described)?;
         parts.push(part).map_err(|_| ScenarioError::Memory)?;
     }
     Ok(Listed::from_vec(parts))
@@ -176,7 +176,7 @@ fn limited(formula: Formula<Fact>) -> Result<Formula<Fact>, ScenarioError>
 }
 
 /// The formula of the protocol's outcome with this name.
-fn outcome_by_name(
+fn named_in(
     alloc: Global,
     name: &str,
     described: &Described,
@@ -194,7 +194,7 @@ fn outcome_by_name(
 }
 
 /// The formula of a value: that of a named outcome, or the one of a list.
-fn outcome(
+fn outcome_in(
     alloc: Global,
     value: &Value,
     key: Key,
@@ -206,8 +206,8 @@ fn outcome(
         outcome_in described.now.protocol described.now.bounds key (view value.now) ≡ Err e) }
 {
     match value {
-        Value::String(name) => outcome_by_name(alloc, name.as_str(), described),
-        Value::Array(_) => limited(formula(alloc, value, described)?),
+        Value::String(name) => named_in(alloc, name.as_str(), described),
+        Value::Array(_) => limited(formula_in(alloc, value, described)?),
         _ => Err(ScenarioError::WrongKind(key)),
     }
 }
@@ -227,7 +227,7 @@ pub(crate) fn read_formula(
     ensures fits { IfOk result (IsFormulaOf described.now.protocol described.now.bounds) }
 {
     match at(table, Key::Outcome.name()) {
-        Some(value) => outcome(alloc, value, Key::Outcome, described),
+        Some(value) => outcome_in(alloc, value, Key::Outcome, described),
         None => Err(ScenarioError::Missing(Key::Outcome)),
     }
 }

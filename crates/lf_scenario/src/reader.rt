@@ -6,13 +6,14 @@ ghost use Rattle.toml.specs.View.{table_view};
 ghost use Rattle.lf_latency.specs.Links.{IsLinks};
 ghost use Rattle.lf_protocols.specs.Protocols.{nodes_of};
 ghost use Rattle.lf_scenario.specs.Formulas.{IsFormulaOf};
+ghost use Rattle.lf_scenario.specs.Limits.{longest};
 ghost use Rattle.lf_scenario.specs.Ranges.{IsInRange};
 ghost use Rattle.lf_scenario.specs.Scenarios.{IsDocument, IsScenario, IsAskedBy, IsRefused, IsText, asked_in};
 
 use crate::limits::LONGEST;
-use crate::links::{Usual, read_links};
+use crate::links::{Usual, all_links};
 use crate::outcomes::read_formula;
-use crate::reading::{Delays, Described, read_described};
+use crate::reading::{Delays, Described, described_in};
 use crate::{Scenario, ScenarioError};
 use lf_faults::FaultSpec;
 use lf_latency::{Links, Network};
@@ -27,10 +28,10 @@ use toml::Table;
 /// A text that is longer than `LONGEST` bytes is refused first, and then one that is no TOML document. What a table says
 /// is `asked_in`. The refusal `Memory` comes only where memory has run out.
 pub fn read(alloc: Global, text: &[u8]) -> Result<Scenario, ScenarioError>
-    ensures too_long { LONGEST < length text.now → result ≡ Err ScenarioError.TooLong }
-    ensures no_document { length text.now ≤ LONGEST → ((ms : Members) → IsDocument text.now ms → ⊥) →
+    ensures too_long { longest < length text.now → result ≡ Err ScenarioError.TooLong }
+    ensures no_document { length text.now ≤ longest → ((ms : Members) → IsDocument text.now ms → ⊥) →
         IsErrAnd result (λ e. e ≢ ScenarioError.Memory → e ≡ ScenarioError.NoDocument) }
-    ensures document { length text.now ≤ LONGEST → (ms : Members) → IsDocument text.now ms →
+    ensures document { length text.now ≤ longest → (ms : Members) → IsDocument text.now ms →
         MatchResult result (IsAskedBy ms) (λ e. e ≢ ScenarioError.Memory → asked_in ms ≡ Err e) }
     ensures reading { MatchResult result (λ s. IsText s text.now) (λ e. e ≢ ScenarioError.Memory → IsRefused text.now e) }
 {
@@ -50,7 +51,7 @@ fn read_table(alloc: Global, table: &Table) -> Result<Scenario, ScenarioError>
     ensures { MatchResult result (IsAskedBy (table_view table.now))
         (λ e. e ≢ ScenarioError.Memory → asked_in (table_view table.now) ≡ Err e) }
 {
-    let described = read_described(table)?;
+    let described = described_in(table)?;
     let formula = read_formula(alloc, table, &described)?;
     let Delays { least, spread, .. } = described.delays;
     let nodes = described.bounds.nodes();
@@ -59,7 +60,7 @@ fn read_table(alloc: Global, table: &Table) -> Result<Scenario, ScenarioError>
         least,
         spread,
     };
-    let links = read_links(alloc, table, usual)?;
+    let links = all_links(alloc, table, usual)?;
     Ok(assembled(described, formula, links))
 }
 

@@ -36,7 +36,7 @@ pub struct Described {
 
 /// Nodes, steps, and bounds on faults.
 #[tactic(auto, unfolding(crate::specs::Reading::bounds_in))]
-fn read_bounds(table: &Table) -> Result<FaultSpec, ScenarioError>
+fn bounds_in(table: &Table) -> Result<FaultSpec, ScenarioError>
     ensures { result ≡ bounds_in (table_view table.now) }
 {
     let nodes = required_whole(table, Key::Nodes, 2, 8)?;
@@ -70,7 +70,7 @@ fn without_pauses(
 
 /// What decides when notes arrive, but for the links that have delays of their own.
 #[tactic(auto, unfolding(crate::specs::Reading::delays_in))]
-fn read_delays(table: &Table) -> Result<Delays, ScenarioError>
+fn delays_in(table: &Table) -> Result<Delays, ScenarioError>
     ensures value { result ≡ delays_in (table_view table.now) }
     ensures within { IfOk result AreDelays }
 {
@@ -85,7 +85,7 @@ fn read_delays(table: &Table) -> Result<Delays, ScenarioError>
 }
 
 /// The protocol of this name. One with a backup needs three nodes.
-fn protocol_name(name: &str, nodes: u32) -> Result<ProtocolName, ScenarioError>
+fn protocol_of(name: &str, nodes: u32) -> Result<ProtocolName, ScenarioError>
     ensures value { result ≡ protocol_of nodes name.now }
     ensures enough { IfOk result (λ p. p ≡ ProtocolName.PrimaryBackup → 3 ≤ nodes) }
 {
@@ -105,12 +105,12 @@ fn protocol_name(name: &str, nodes: u32) -> Result<ProtocolName, ScenarioError>
 }
 
 /// The protocol that a value names.
-fn protocol(value: &Value, key: Key, nodes: u32) -> Result<ProtocolName, ScenarioError>
+fn protocol_in(value: &Value, key: Key, nodes: u32) -> Result<ProtocolName, ScenarioError>
     ensures value { result ≡ protocol_in nodes key (view value.now) }
     ensures enough { IfOk result (λ p. p ≡ ProtocolName.PrimaryBackup → 3 ≤ nodes) }
 {
     match value {
-        Value::String(text) => protocol_name(text.as_str(), nodes),
+        Value::String(text) => protocol_of(text.as_str(), nodes),
         _ => Err(ScenarioError::WrongKind(key)),
     }
 }
@@ -122,7 +122,7 @@ fn required_protocol(table: &Table, nodes: u32) -> Result<ProtocolName, Scenario
     ensures enough { IfOk result (λ p. p ≡ ProtocolName.PrimaryBackup → 3 ≤ nodes) }
 {
     match at(table, Key::Protocol.name()) {
-        Some(value) => protocol(value, Key::Protocol, nodes),
+        Some(value) => protocol_in(value, Key::Protocol, nodes),
         None => Err(ScenarioError::Missing(Key::Protocol)),
     }
 }
@@ -158,7 +158,7 @@ fn has_votes(name: ProtocolName) -> bool
 }
 
 /// The protocol with its settings.
-fn made(name: ProtocolName, nodes: u32, tries: u32, patience: u32, votes: [bool; 8]) -> Protocol
+fn kind_of(name: ProtocolName, nodes: u32, tries: u32, patience: u32, votes: [bool; 8]) -> Protocol
     requires { IsWithinLimits (kind_of name nodes tries patience votes) }
     ensures value { result ≡ kind_of name nodes tries patience votes }
     ensures nodes { nodes_of result ≡ nodes }
@@ -175,7 +175,7 @@ fn made(name: ProtocolName, nodes: u32, tries: u32, patience: u32, votes: [bool;
 
 /// The protocol among so many nodes.
 #[tactic(auto, unfolding(crate::specs::Reading::kind_in))]
-fn read_protocol(table: &Table, nodes: u32) -> Result<Protocol, ScenarioError>
+fn kind_in(table: &Table, nodes: u32) -> Result<Protocol, ScenarioError>
     requires { (2 ≤ nodes) × (nodes ≤ 8) }
     ensures value { result ≡ kind_in nodes (table_view table.now) }
     ensures nodes { IfOk result (λ protocol. nodes_of protocol ≡ nodes) }
@@ -185,20 +185,20 @@ fn read_protocol(table: &Table, nodes: u32) -> Result<Protocol, ScenarioError>
     let tries = owned_whole(table, Key::Tries, has_tries(name), 1, 48)?;
     let patience = owned_whole(table, Key::Patience, has_patience(name), 1, 48)?;
     let votes = chosen_votes(table, has_votes(name), nodes)?;
-    Ok(made(name, nodes, tries, patience, votes))
+    Ok(kind_of(name, nodes, tries, patience, votes))
 }
 
 /// All that a scenario says but its outcome and its links.
 #[tactic(auto, unfolding(crate::specs::Reading::described_in))]
-pub(crate) fn read_described(table: &Table) -> Result<Described, ScenarioError>
+pub(crate) fn described_in(table: &Table) -> Result<Described, ScenarioError>
     ensures value { result ≡ described_in (table_view table.now) }
     ensures within { IfOk result IsInRange }
 {
     known(table)?;
-    let bounds = read_bounds(table)?;
+    let bounds = bounds_in(table)?;
     let max_sets = optional_whole(table, Key::MaxSets, 1, MOST_SETS, USUAL_SETS)?;
-    let delays = read_delays(table)?;
-    let protocol = read_protocol(table, bounds.nodes())?;
+    let delays = delays_in(table)?;
+    let protocol = kind_in(table, bounds.nodes())?;
     Ok(Described {
         bounds,
         max_sets,

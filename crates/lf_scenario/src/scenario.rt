@@ -2,7 +2,7 @@
 
 ghost use Rattle.std.specs.Prelude.{◌≡◌, ◌≤◌, ◌↔◌, IsTrue};
 ghost use Rattle.lf_scenario.specs.Formulas.{IsFormulaOf};
-ghost use Rattle.lf_scenario.specs.declared.limits.TheConstants.{MOST_SETS};
+ghost use Rattle.lf_scenario.specs.Limits.{most_sets};
 
 use lf_outcome::{Formula, same};
 use lf_protocols::{Fact, Protocol};
@@ -15,7 +15,7 @@ pub struct Scenario {
     pub(crate) formula: Formula<Fact>,
     pub(crate) max_sets: u32,
     ghost formula_fits: { IsFormulaOf setting.machine setting.spec formula },
-    ghost some_sets: { (1 ≤ max_sets) × (max_sets ≤ MOST_SETS) },
+    ghost some_sets: { (1 ≤ max_sets) × (max_sets ≤ most_sets) },
 }
 
 impl Scenario {
@@ -39,7 +39,7 @@ impl Scenario {
     /// The most sets of faults of one size that the search keeps, 1..=`MOST_SETS`.
     pub fn max_sets(&self) -> u32
         ensures value { result ≡ self.now.max_sets }
-        ensures some { (1 ≤ result) × (result ≤ MOST_SETS) }
+        ensures some { (1 ≤ result) × (result ≤ most_sets) }
     {
         self.max_sets
     }

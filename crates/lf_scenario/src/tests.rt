@@ -731,7 +731,7 @@ fn lists_are_read_as_formulas(rt: HostRuntime) -> Result<(), Fail> {
             2,
         ),
         (
-            "[\"all\", [\"any\"], [\"shows\", 0x2, +0_1, \"lacks\"]]",
+            "[\"all\", [\"any\"], [\"shows\", 0x2, +1, \"lacks\"]]",
             all_of(
                 alloc,
                 [

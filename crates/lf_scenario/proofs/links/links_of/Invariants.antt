@@ -1,7 +1,7 @@
 use Rattle.std.proofs.Common.{◌≡◌, ℕ, drop, fold}
 use Rattle.lf_latency.specs.Links.{IsLinks, IsPair, least_of, spread_of}
 use Rattle.lf_scenario.specs.LinkTables.{least_after, least_given, spread_after, spread_given}
-use Rattle.lf_scenario.proofs.links.delays_with.Given as goal
+use Rattle.lf_scenario.proofs.links.links_of.Given as goal
 
 abbrev pub invariant-links : goal.invariant-links
 invariant-links l = record {

@@ -4,7 +4,7 @@ use Rattle.lf_latency.specs.Links.{least_of, spread_of}
 use Rattle.lf_scenario.specs.declared.links.Link.{Link}
 use Rattle.lf_scenario.specs.LinkTables.{least_after, spread_after}
 use Rattle.lf_scenario.proofs.LinkSteps.{given-step, links-by, own_delay}
-use Rattle.lf_scenario.proofs.links.delays_with.Goals as goal
+use Rattle.lf_scenario.proofs.links.links_of.Goals as goal
 
 pub links-preserved : goal.links-preserved
 links-preserved c =
