@@ -1,0 +1,2 @@
+mod Light
+mod Sweeping
