@@ -1,2 +1,3 @@
 pub mod Cones
+pub mod Places
 pub mod Sweeps

@@ -1,0 +1,21 @@
+-- The places of faults in their order, and how a list of them is gathered place by place. This page is about inner functions.
+use Rattle.std.specs.Prelude.{◌↔◌, ℕ, ◌+◌, ◌-◌, ◌*◌, ◌<◌, List}
+use Rattle.std.specs.List.{Contains}
+use Rattle.lf_faults.specs.declared.fault.Parts.{Parts}
+use Rattle.lf_faults.specs.declared.fault.Parts.TheVariants.{Omit, Crash, Pause}
+use Rattle.lf_faults.specs.Faults.{IsAscending, step_of}
+
+-- the place of a fault among those of its step: 64 omissions, 8 crashes, 8 pauses
+abbrev pub place_in_step : Parts → ℕ
+place_in_step (Omit from to step) = from * 8 + to
+place_in_step (Crash node step) = 64 + node
+place_in_step (Pause node step) = 72 + node
+
+-- its place among all faults
+abbrev pub place_of : Parts → ℕ
+place_of f = (step_of f - 1) * 80 + place_in_step f
+
+-- the list holds, in order, the faults with the property that stand before a place
+pub record IsGathered (P : Parts → Type 0) (place : ℕ) (faults : List Parts) : Type 0 where
+  pub ascending : IsAscending faults
+  pub members : (f : Parts) → Contains faults f ↔ (P f × (place_of f < place))
