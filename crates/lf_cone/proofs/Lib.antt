@@ -1,3 +1,5 @@
+mod Coning
+mod Covering
 mod Gathering
 mod Light
 mod Sweeping

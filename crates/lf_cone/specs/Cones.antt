@@ -19,6 +19,10 @@ pub record IsReachOf (nodes horizon : ℕ) (reach : List ℕ) : Type 0 where
 abbrev pub Covers : List ℕ → List Point → Type 0
 Covers reach points = (p : Point) → Contains points p → p.step ≤ slice_index reach p.node
 
+-- each of the points is one at which its node is up
+abbrev pub AreUp : {State Note Fact : Type 0} → World State Note Fact → List Parts → List Point → Type 0
+AreUp w faults points = (p : Point) → Contains points p → is_up w faults p.node p.step ≡ true
+
 -- at each node the one reach is at most the other
 abbrev pub IsAtMost : List ℕ → List ℕ → Type 0
 IsAtMost reach other = (n : ℕ) → slice_index reach n ≤ slice_index other n

@@ -1,5 +1,7 @@
 -- How a reach grows, step by step. This page is about inner functions.
-use Rattle.std.specs.Prelude.{◌≡◌, ◌≢◌, ◌⊎◌, ℕ, ◌+◌, ◌<◌, ◌≤◌, List, length, slice_index}
+use Rattle.std.specs.Prelude.{◌≡◌, ◌≢◌, ◌⊎◌, ℕ, ◌+◌, ◌<◌, ◌≤◌, List, length, slice_index, slice_index_or}
+use Rattle.std.specs.List.{Contains}
+use Rattle.lf_outcome.specs.declared.point.Point.{Point}
 use Rattle.lf_cone.specs.Cones.{IsReachOf, IsAtMost}
 
 -- each n is raised to the steps t of P n t, and to no others
@@ -40,3 +42,15 @@ module _ (RestsOn : ℕ → ℕ → ℕ → ℕ → Type 0) where
 -- that another node may know of n at t, where a note takes the least delay
 abbrev pub RestsByLeast : ℕ → (ℕ → ℕ → ℕ) → ℕ → ℕ → ℕ → ℕ → Type 0
 RestsByLeast nodes least n t m v = (n < nodes) × (m < nodes) × (n ≢ m) × (t + least n m ≡ v)
+
+-- the same, of one receiver and sender
+abbrev pub RestsByOne : ℕ → (ℕ → ℕ → ℕ) → ℕ → ℕ → ℕ → ℕ → ℕ → Type 0
+RestsByOne nodes least m v from n t = (n ≡ from) × RestsByLeast nodes least n t m v
+
+-- the point at a place
+abbrev pub PointAt : List Point → ℕ → ℕ → ℕ → Type 0
+PointAt points k n t = ((slice_index_or points k (record { node = 0; step = 0 })).node ≡ n) × ((slice_index_or points k (record { node = 0; step = 0 })).step ≡ t)
+
+-- the points are of these nodes, and of steps up to this one
+abbrev pub AreInside : ℕ → ℕ → List Point → Type 0
+AreInside nodes last points = (p : Point) → Contains points p → (p.node < nodes) × (p.step ≤ last)

@@ -1,6 +1,9 @@
 //! Light cones: what of a run an outcome can depend on, and which faults could change that.
 #![tactic(auto)]
 
+mod delays;
 mod laws;
+mod points;
 
+pub use delays::cone;
 pub use laws::agree_everywhere;
