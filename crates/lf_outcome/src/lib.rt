@@ -6,7 +6,9 @@ mod formula;
 mod measure;
 mod outcome;
 mod point;
+mod reach;
 mod truth;
+mod words;
 
 pub use equal::same;
 pub use formula::{Formula, Formulas};
@@ -16,7 +18,9 @@ pub use outcome::{
     unblocked_by_nodes,
 };
 pub use point::Point;
+pub use reach::Reach;
 pub use truth::{by_cases, holds};
+pub use words::outcome_named;
 
 #[cfg(test)]
 mod tests;

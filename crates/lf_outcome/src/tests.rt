@@ -1,6 +1,8 @@
 //! Runs walked by hand, and small formulas.
 
+mod reaches;
 mod traces;
+mod words;
 
 use crate::{
     Formula, Formulas, Outcome, agreement_by_nodes, atoms, delivered_by_nodes, depth,
