@@ -8,7 +8,7 @@ pub record IsPair (nodes n m : ℕ) : Type 0 where
   pub receiver : m < nodes
   pub apart : n ≢ m
 
--- the same, as a test
+-- the test for it, as the function `is_pair` shows
 abbrev pub is_pair : ℕ → ℕ → ℕ → Bool
 is_pair nodes n m = if n == m then false else (nat_lt n nodes && nat_lt m nodes)
 

@@ -9,6 +9,6 @@ mod network;
 mod tests;
 mod words;
 
-pub use links::{Links, link};
+pub use links::{Links, is_pair, link};
 pub use network::{Network, Timing, arrives_late, keeps_limits};
 pub use words::word;

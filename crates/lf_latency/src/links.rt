@@ -112,9 +112,10 @@ fn pair_row(nodes: u32, from: u32, value: u32, other: u32) -> [u32; 8]
     row
 }
 
-/// Whether two numbers are different nodes.
-pub(crate) fn is_pair(nodes: u32, from: u32, to: u32) -> bool
-    ensures { result ≡ is_pair nodes from to }
+/// Whether two numbers are different nodes, each below `nodes`.
+pub fn is_pair(nodes: u32, from: u32, to: u32) -> bool
+    ensures value { result ≡ is_pair nodes from to }
+    ensures meaning { IsTrue result ↔ IsPair nodes from to }
 {
     from != to && from < nodes && to < nodes
 }

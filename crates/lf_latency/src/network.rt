@@ -7,7 +7,13 @@ use crate::links::{Links, is_pair, link};
 use crate::words::word;
 use std::marker::Model;
 
-/// The places of the table: 8 senders, 8 receivers and 48 steps.
+/// The most nodes.
+const NODES: u32 = 8;
+
+/// The most steps.
+const STEPS: u32 = 48;
+
+/// The places of the table, for each sender, receiver and step.
 const PLACES: usize = 3072;
 
 /// What decides when notes arrive.
@@ -78,7 +84,7 @@ impl Network {
         ensures small { result < 80 }
     {
         let arrivals = &self.arrivals;
-        u32::from(arrivals[((from * 8 + to) * 48 + step - 1) as usize])
+        u32::from(arrivals[((from * NODES + to) * STEPS + step - 1) as usize])
     }
 
     /// The fewest steps that a note takes from one node to another.
@@ -173,8 +179,10 @@ fn table(timing: &Timing) -> [u8; PLACES]
     ensures { result ≡ table_of timing.now }
 {
     let mut arrivals = [0; PLACES];
-    for k in 0..3072 {
-        arrivals[k as usize] = entry(timing, k / 384, k / 48 % 8, k % 48 + 1);
+    for k in 0..PLACES as u32 {
+        let from = k / (NODES * STEPS);
+        let to = k / STEPS % NODES;
+        arrivals[k as usize] = entry(timing, from, to, k % STEPS + 1);
     }
     arrivals
 }

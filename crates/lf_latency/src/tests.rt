@@ -106,7 +106,7 @@ fn arrivals_are_the_rule_at_each_slot(rt: HostRuntime) {
     let network = mixed();
     for from in 0..4 {
         for to in 0..4 {
-            if from == to {
+            if !is_pair(4, from, to) {
                 continue;
             }
             let (least, spread) = match (from, to) {

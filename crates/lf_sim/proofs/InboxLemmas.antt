@@ -2,7 +2,7 @@
 use Rattle.std.proofs.Common.{◌≡◌, ℕ, zero, suc, ◌+◌, ◌*◌, ◌<◌, ◌≤◌, true, List, [], ◌∷◌, ◌++◌, length, drop, get_or, refl, sym, ap, ◌∙◌, subst, arith, inl, inr, add-one, append_assoc, length-append, nat_eq, nat_le}
 use Rattle.std.specs.Prelude.{not, ◌&&◌, ◌≢◌, slice_get, Option, None, Some}
 use Rattle.std.specs.Option.{option_to_list}
-use Rattle.std.specs.List.{Contains}
+use Rattle.std.specs.List.{Contains, AllPairs}
 use Rattle.std.proofs.lemmas.Bool.{and_parts, cases_lt, leb-true, eqb-true}
 use Rattle.std.proofs.lemmas.Bool.Decides.{eqb_tells}
 use Rattle.std.proofs.lemmas.List.{append-nil, get_or-append-add, get_or_at, get_or_default}
@@ -15,19 +15,11 @@ use Rattle.lf_sim.specs.declared.letter.Letter.{Letter}
 use Rattle.lf_sim.specs.declared.out.Stepped.{Stepped}
 use Rattle.lf_sim.specs.declared.schedule.Slot.{Slot}
 use Rattle.lf_sim.specs.Runs.{World, each_below, letter, letters, letters_from, did}
-use Rattle.lf_sim.specs.Schedules.{slot_at, slots_from, slots_to}
+use Rattle.lf_sim.specs.Schedules.{IsArriving, IsBefore, slot_at, slots_from, slots_to}
 use Rattle.lf_sim.specs.Tables.{row_of, table, HasPast}
-use Rattle.lf_sim.proofs.ListsLemmas.{from-each_below, none_from_not}
+use Rattle.lf_sim.proofs.ListsLemmas.{in-each_below, from-each_below, AllPairs-each_below, none_from_not}
 use Rattle.lf_sim.proofs.RunsLemmas.{letter-zero, letter-self, letter-elsewhere}
-use Rattle.lf_sim.proofs.SchedulesLemmas.{arrives, in-cond, in-one, slot_at-there, slot_at-elsewhere, slot_at-self}
-
--- what is known of a slot of the row of m and u
-pub record Arriving (arrival : ℕ → ℕ → ℕ → ℕ) (nodes m u : ℕ) (s : Slot) : Type 0 where
-  pub sender : s.from < nodes
-  pub apart : s.from ≢ m
-  pub first : 1 ≤ s.sent
-  pub early : s.sent < u
-  pub arrives : arrival s.from m s.sent ≡ u
+use Rattle.lf_sim.proofs.SchedulesLemmas.{AllPairs-one, arrives, in-cond, in-one, slot_at-there, slot_at-elsewhere, slot_at-self}
 
 not-eq : (n m : ℕ) → not (nat_eq n m) ≡ true → n ≢ m
 not-eq n m h = elim (eqb_tells n m) [
@@ -36,33 +28,65 @@ not-eq n m h = elim (eqb_tells n m) [
 ]
 
 module _ (arrival : ℕ → ℕ → ℕ → ℕ) where
-  slot-arrives : (nodes m u n t : ℕ) (s : Slot) → n < nodes → t < u → Contains (slot_at arrival m u n t) s → Arriving arrival nodes m u s
+  slot-arrives : (nodes m u n t : ℕ) (s : Slot) → n < nodes → t < u → Contains (slot_at arrival m u n t) s → IsArriving arrival nodes m u s
   slot-arrives nodes m u n t s node early c =
       let made : Slot = record { from = n; sent = t } in
       let one = in-cond (arrives arrival m u n t) (made ∷ []) s c in
       let is : made ≡ s = in-one made s one.1 in
       let tests = and_parts (nat_le 1 t) (not (nat_eq n m) && nat_eq (arrival n m t) u) one.0 in
       let last = and_parts (not (nat_eq n m)) (nat_eq (arrival n m t) u) tests.1 in
-      let known : Arriving arrival nodes m u made = record {
+      let known : IsArriving arrival nodes m u made = record {
         sender = node;
         apart = not-eq n m last.0;
         first = leb-true 1 t tests.0;
         early = early;
         arrives = eqb-true (arrival n m t) u last.1;
       } in
-      subst (Arriving arrival nodes m u) is known
+      subst (IsArriving arrival nodes m u) is known
 
-  pub row-arrives : (nodes m u i : ℕ) (s : Slot) → i < length (slots_to arrival nodes m u) → s ≡ get_or (slots_to arrival nodes m u) i s → Arriving arrival nodes m u s
-  row-arrives nodes m u i s h is =
-      let c : Contains (slots_to arrival nodes m u) s = (i, h, sym is) in
+  -- the members of a row, and their order
+  pub row-members : (nodes m u : ℕ) (s : Slot) → Contains (slots_to arrival nodes m u) s → IsArriving arrival nodes m u s
+  row-members nodes m u s c =
       let sender = from-each_below (λ n. slots_from arrival m u n u) nodes s c in
       let step = from-each_below (slot_at arrival m u sender.0) u s sender.2 in
       slot-arrives nodes m u sender.0 step.0 s sender.1 step.1 step.2
 
+  pub members-row : (nodes m u : ℕ) (s : Slot) → IsArriving arrival nodes m u s → Contains (slots_to arrival nodes m u) s
+  members-row nodes m u s h =
+      in-each_below (λ n. slots_from arrival m u n u) nodes s.from s h.sender
+      (in-each_below (slot_at arrival m u s.from) u s.sent s h.early
+      (rw (slot_at-there arrival m u s.from s.sent h.first h.apart h.arrives) (0, omega arith, refl)))
+
+  slot-is : (m u n t : ℕ) (s : Slot) → Contains (slot_at arrival m u n t) s → (s.from ≡ n) × (s.sent ≡ t)
+  slot-is m u n t s c =
+      let made : Slot = record { from = n; sent = t } in
+      let is : made ≡ s = in-one made s (in-cond (arrives arrival m u n t) (made ∷ []) s c).1 in
+      (ap (λ (x : Slot). x.from) (sym is), ap (λ (x : Slot). x.sent) (sym is))
+
+  slots_from-ordered : (m u n b : ℕ) → AllPairs IsBefore (slots_from arrival m u n b)
+  slots_from-ordered m u n b =
+      AllPairs-each_below IsBefore (slot_at arrival m u n) b
+      (λ t l. AllPairs-one IsBefore (arrives arrival m u n t) (record { from = n; sent = t }))
+      (λ s t x y l k c e.
+      let first = slot-is m u n s x c in
+      let second = slot-is m u n t y e in
+      inr (first.0 ∙ sym second.0, omega (arith, l, first.1, second.1)))
+
+  slots_from-sender : (m u n b : ℕ) (s : Slot) → Contains (slots_from arrival m u n b) s → s.from ≡ n
+  slots_from-sender m u n b s c =
+      let step = from-each_below (slot_at arrival m u n) b s c in
+      (slot-is m u n step.0 s step.2).0
+
+  pub row-ordered : (nodes m u : ℕ) → AllPairs IsBefore (slots_to arrival nodes m u)
+  row-ordered nodes m u =
+      AllPairs-each_below IsBefore (λ n. slots_from arrival m u n u) nodes
+      (λ n l. slots_from-ordered m u n u)
+      (λ k n x y l h c e. inl (omega (arith, l, slots_from-sender m u k u x c, slots_from-sender m u n u y e)))
+
   -- the same, of a list that is the row
-  pub slot_known : (nodes m u i : ℕ) (slots : List Slot) (d : Slot) → slots ≡ slots_to arrival nodes m u → i < length slots → Arriving arrival nodes m u (get_or slots i d)
+  pub slot_known : (nodes m u i : ℕ) (slots : List Slot) (d : Slot) → slots ≡ slots_to arrival nodes m u → i < length slots → IsArriving arrival nodes m u (get_or slots i d)
   slot_known nodes m u i slots d is h =
-      row-arrives nodes m u i (get_or slots i d) (omega (arith, h, ap length is)) (sym (get_or_default slots i (get_or slots i d) d h) ∙ ap (λ xs. get_or xs i (get_or slots i d)) is)
+      row-members nodes m u (get_or slots i d) (i, omega (arith, h, ap length is), ap (λ xs. get_or xs i (get_or slots i d)) (sym is) ∙ get_or_default slots i (get_or slots i d) d h)
 
 module _ {State Note Fact : Type 0} (w : World State Note Fact) (faults : List Parts) where
   -- the letters in the slots

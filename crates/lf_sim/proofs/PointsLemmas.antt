@@ -92,11 +92,12 @@ module _ {State Note Fact : Type 0} (w : World State Note Fact) (faults : List P
       let at = comes-from m u x c in
       reaches-at m u at.0 at.1 x at.2 at.4 (sym at.4.from) (sym at.4.sent)
 
-  pub inbox-Reaches : ArrivesLater w → (m u : ℕ) (x : Letter Note) → Reaches w faults m u x → Contains (inbox w faults m u) x
+  pub inbox-Reaches : ArrivesLater w → (m u : ℕ) (x : Letter Note) → m < w.rules.nodes → Reaches w faults m u x → Contains (inbox w faults m u) x
   unfolding letters
-  inbox-Reaches later m u x r =
+  inbox-Reaches later m u x node r =
+      let last : x.sent ≤ w.horizon = (IsRunning-up x.from x.sent r.up).last in
       let kept : set_omits faults x.from m x.sent ≡ false = false_from_ne_true (set_omits faults x.from m x.sent) (λ h. r.kept (omitted-contains faults x.from m x.sent h)) in
-      let early : x.sent < u = omega (arith, later x.from m x.sent, r.arrives) in
+      let early : x.sent < u = omega (arith, later x.from m x.sent r.sender node r.other r.step last, r.arrives) in
       let comes : letter w faults (did w faults) m u x.from x.sent ≡ Some x = letter-Comes w faults (did w faults) m u x.from x.sent x.note r.other r.arrives kept r.note in
       in-each_below (λ n. letters_from w faults (did w faults) m u n u) w.rules.nodes x.from x r.sender
       (in-each_below (λ t. option_to_list (letter w faults (did w faults) m u x.from t)) u x.sent x early

@@ -66,7 +66,7 @@ pub in-one : {A : Type 0} (y x : A) → Contains (y ∷ []) x → y ≡ x
 in-one y x (zero, l, e) = e
 in-one y x (suc k, l, e) = absurd (omega (arith, l))
 
-AllPairs-one : {A : Type 0} (R : A → A → Type 0) (b : Bool) (x : A) → AllPairs R (cond b (x ∷ []) [])
+pub AllPairs-one : {A : Type 0} (R : A → A → Type 0) (b : Bool) (x : A) → AllPairs R (cond b (x ∷ []) [])
 AllPairs-one R true x i j d lt within = absurd (omega arith)
 AllPairs-one R false x i j d lt within = absurd (omega arith)
 

@@ -25,9 +25,9 @@ pub record StepsFrom {State Note Fact : Type 0} (w : World State Note Fact) (fau
   pub state : view w faults n t ≡ (w.rules.step n t from (inbox w faults n t)).state
   pub notes : (m : ℕ) → sent w faults n m t ≡ note_to (w.rules.step n t from (inbox w faults n t)).out m
 
--- each note arrives at a later step than it is sent
+-- what one node sends to another at a step of the run arrives at a later step
 abbrev pub ArrivesLater : {State Note Fact : Type 0} → World State Note Fact → Type 0
-ArrivesLater w = (n m t : ℕ) → t < w.arrival n m t
+ArrivesLater w = (n m t : ℕ) → n < w.rules.nodes → m < w.rules.nodes → n ≢ m → 1 ≤ t → t ≤ w.horizon → t < w.arrival n m t
 
 -- the letter reaches m at u: another node that was up sent its note to m, which arrives at u, and no omission loses it
 pub record Reaches {State Note Fact : Type 0} (w : World State Note Fact) (faults : List Parts) (m u : ℕ) (letter : Letter Note) : Type 0 where

@@ -64,7 +64,7 @@ pub trait Machine {
 #[cfg(test)]
 mod tests {
     use super::*;
-    use crate::{Out, by_points, same_until};
+    use crate::Out;
     use std::test::Fail;
 
     /// Three nodes, each of which keeps how many letters it got at its last step, tells the others how many it had got
@@ -151,8 +151,6 @@ mod tests {
         assert_eq!(rt; woken.out.to(2), Some(0));
         assert_eq!(rt; Tally.nodes(), 3);
         assert_eq!(rt; Tally.shows(1, woken.state, 2), false);
-        by_points::<usize, usize, usize>();
-        same_until::<usize, usize, usize>();
         Ok(())
     }
 

@@ -3,12 +3,16 @@
 //! A point is a node with a step. Of each, the laws say whether the node is up there, its view (its state after the
 //! step), the notes that it sends in it, and its inbox.
 
-ghost use Rattle.std.specs.Prelude.{◌≡◌, ℕ, ◌+◌, ◌≤◌, true, false, ◌↔◌, List};
+ghost use Rattle.std.specs.Prelude.{◌≡◌, ℕ, ◌+◌, ◌<◌, ◌≤◌, true, false, ◌↔◌, List};
 ghost use Rattle.std.specs.List.{Contains, AllPairs};
 ghost use Rattle.lf_faults.specs.declared.fault.Parts.{Parts};
 ghost use Rattle.lf_sim.specs.declared.letter.Letter.{Letter};
 ghost use Rattle.lf_sim.specs.Runs.{World, is_up, view, sent, inbox};
+ghost use Rattle.lf_sim.specs.Settings.{world_of};
 ghost use Rattle.lf_sim.specs.Points.{IsRunning, EndsPause, StepsFrom, ArrivesLater, Reaches, ComesBefore, SameUntil};
+
+use crate::{Machine, Setting};
+use lf_latency::arrives_late;
 
 /// The views, notes and inboxes of each point, from those of the points before it.
 pub fn by_points<State, Note, Fact>()
@@ -39,7 +43,7 @@ pub fn by_points<State, Note, Fact>()
 
     // An inbox holds the notes that reach it, once each, by sender and then by sending step.
     ensures members { (w : World State Note Fact) (faults : List Parts) → ArrivesLater w →
-        (m u : ℕ) (letter : Letter Note) →
+        (m u : ℕ) (letter : Letter Note) → m < w.rules.nodes →
         (Contains (inbox w faults m u) letter ↔ Reaches w faults m u letter) }
     ensures order { (w : World State Note Fact) (faults : List Parts) (m u : ℕ) →
         AllPairs ComesBefore (inbox w faults m u) }
@@ -57,3 +61,20 @@ pub fn same_until<State, Note, Fact>()
     ensures inboxes { (w : World State Note Fact) (faults others : List Parts) (b : ℕ) →
         SameUntil b faults others → (m u : ℕ) → u ≤ b → inbox w faults m u ≡ inbox w others m u }
 {}
+
+/// What one node sends to another in a setting arrives at a later step. So `by_points` says of each setting what its
+/// inboxes hold.
+pub fn arrivals_are_later<M: Machine>(setting: &Setting<M>)
+    ensures { ArrivesLater (world_of setting.now) }
+{
+    arrives_late(&setting.network);
+}
+
+/// The inboxes of a setting's nodes hold the notes that reach them, under every list of faults.
+pub fn inboxes_of<M: Machine>(setting: &Setting<M>)
+    ensures { (faults : List Parts) (m u : ℕ) (letter : Letter M.Note) → m < (world_of setting.now).rules.nodes →
+        (Contains (inbox (world_of setting.now) faults m u) letter ↔ Reaches (world_of setting.now) faults m u letter) }
+{
+    arrivals_are_later(setting);
+    by_points::<M::State, M::Note, M::Fact>();
+}

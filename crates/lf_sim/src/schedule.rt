@@ -9,11 +9,11 @@ use lf_latency::Network;
 /// The places for slots: 8 senders, 8 receivers and 48 steps.
 const SLOTS: usize = 3072;
 
-/// A slot of one receiver: what `from` sends to it at the step `sent`.
+/// A slot of one receiver: what the node `from`, 0..=7, sends to it at the step `sent`, 1..=48.
 #[derive(Clone, Copy, Debug, PartialEq, Eq)]
-pub(crate) struct Slot {
-    pub(crate) from: u8,
-    pub(crate) sent: u8,
+pub struct Slot {
+    pub from: u8,
+    pub sent: u8,
 }
 
 /// The slots by the step at which they arrive, receiver, sender and sending step.

@@ -2,7 +2,9 @@
 
 ghost use Rattle.std.specs.Prelude.{◌≡◌, ◌<◌, ◌≤◌, ◌↔◌, IsSome, IfSome};
 ghost use Rattle.lf_latency.specs.Arrivals.{arrival_of};
-ghost use Rattle.lf_sim.specs.Schedules.{IsSchedule, slots_to};
+ghost use Rattle.std.specs.List.{Contains, AllPairs};
+ghost use Rattle.lf_sim.specs.declared.schedule.Slot.{Slot};
+ghost use Rattle.lf_sim.specs.Schedules.{IsArriving, IsBefore, IsSchedule, slots_to};
 
 use crate::Machine;
 use crate::schedule::{Schedule, Slot, part};
@@ -51,12 +53,16 @@ impl<M: Machine> Setting<M> {
         }
     }
 
-    /// The slots of what reaches a node at a step, by sender and then by sending step.
-    pub(crate) fn arriving(&self, to: u32, step: u32) -> &[Slot]
+    /// The slots of which a note would reach a node at a step, by sender and then by sending step. `to` is a node, and
+    /// `step` a step of the run. No set of faults changes them.
+    pub fn arriving(&self, to: u32, step: u32) -> &[Slot]
         requires to { to < self.now.network.nodes }
         requires first { 1 ≤ step }
         requires last { step ≤ self.now.network.horizon }
-        ensures { result.now ≡ slots_to (arrival_of self.now.network) self.now.network.nodes to step }
+        ensures value { result.now ≡ slots_to (arrival_of self.now.network) self.now.network.nodes to step }
+        ensures members { (slot : Slot) → (Contains result.now slot ↔
+            IsArriving (arrival_of self.now.network) self.now.network.nodes to step slot) }
+        ensures order { AllPairs IsBefore result.now }
     {
         let _nodes = self.network.nodes();
         let _horizon = self.network.horizon();

@@ -1,8 +1,11 @@
 //! Runs of machines that are like no protocol, beside a plain evaluation that walks all slots.
 
-ghost use Rattle.std.specs.Prelude.{◌≡◌, ◌<◌, ◌≤◌, length};
+ghost use Rattle.std.specs.Prelude.{◌≡◌, ℕ, ◌<◌, ◌≤◌, List, ◌∷◌, length, IfOk, IfSome};
+ghost use Rattle.lf_faults.specs.declared.fault.Parts.{Parts};
+ghost use Rattle.lf_faults.specs.Faults.{step_of};
+ghost use Rattle.lf_sim.specs.Runs.{World, is_up, view, sent};
 ghost use Rattle.lf_sim.specs.Samples.{told, ring_out, hub_out};
-ghost use Rattle.lf_sim.specs.Settings.{nodes_of, horizon_of};
+ghost use Rattle.lf_sim.specs.Settings.{world_of, nodes_of, horizon_of};
 
 use super::*;
 use lf_faults::{Fault, FaultSet, FaultSpec, Parts};
@@ -380,6 +383,7 @@ fn setting<M: Machine + Drop>(
     requires least_at_least { 1 ≤ least }
     requires least_at_most { least ≤ 16 }
     requires spread { spread ≤ 15 }
+    ensures { IfSome result (λ s. s.spec.horizon ≡ 14) }
 {
     let nodes = machine.nodes();
     let network = Network::new(
@@ -426,6 +430,56 @@ fn runs_are_the_plain_ones(rt: HostRuntime) -> Result<(), Fail> {
         assert_eq!(rt; ring, 12, "ring, spread {spread}");
         let hub = plain_runs_of(rt.alloc(), setting(Hub, least, spread, length))?;
         assert_eq!(rt; hub, 12, "hub, spread {spread}");
+    }
+    Ok(())
+}
+
+/// Whether a node is up at a step, its state after it, and what it sends to another in it: each as the definition of
+/// runs says.
+fn point<M: Machine>(
+    alloc: Global,
+    setting: &Setting<M>,
+    set: &FaultSet,
+    node: u32,
+    to: u32,
+    step: u32,
+) -> Result<(bool, M::State, Option<M::Note>), AllocError>
+    requires node { node < (M.rules setting.now.machine).nodes }
+    requires step { step ≤ setting.now.spec.horizon }
+    ensures up { IfOk result (λ found. found.0 ≡ is_up (world_of setting.now) set.now node step) }
+    ensures view { IfOk result (λ found. found.1 ≡ view (world_of setting.now) set.now node step) }
+    ensures sent { IfOk result (λ found. found.2 ≡ sent (world_of setting.now) set.now node to step) }
+{
+    let found = run(alloc, setting, set)?;
+    Ok((
+        found.up(node, step),
+        found.state(node, step),
+        found.sent(node, to, step),
+    ))
+}
+
+/// The law that a fault more changes nothing before its own step.
+fn nothing_changes_before<State, Note, Fact>()
+    ensures { (w : World State Note Fact) (faults : List Parts) (fault : Parts) (n t : ℕ) → t < step_of fault →
+        view w (fault ∷ faults) n t ≡ view w faults n t }
+{
+    same_until::<State, Note, Fact>();
+}
+
+#[test]
+fn laws_have_no_premise_left(rt: HostRuntime) -> Result<(), Fail> {
+    nothing_changes_before::<u32, u32, u32>();
+    let ring = setting(Ring, 1, 0, 2);
+    assert!(rt; ring.is_some());
+    if let Some(setting) = ring {
+        inboxes_of(&setting);
+        let slots = [(0, 2), (2, 2), (3, 2)].map(|(from, sent)| Slot { from, sent });
+        assert_eq!(rt; setting.arriving(1, 3), slots.as_slice());
+        let set = set_of(&[Fault::omit(0, 1, 1), Fault::crash(1, 4)]);
+        assert!(rt; !point(rt.alloc(), &setting, &set, 1, 3, 4)?.0);
+        // At step 2 the note 2, which node 2 sent at step 1, has reached node 3.
+        let found = point(rt.alloc(), &setting, &set, 3, 1, 2)?;
+        assert_eq!(rt; found, (true, 3 * 5 + 2 + 2 + 3, Some(2)));
     }
     Ok(())
 }

@@ -26,7 +26,7 @@ pub returns-clause-silent : goal.returns-clause-silent
 returns-clause-silent g c w faults n m t = sent-down w faults n m t
 
 pub returns-clause-members : goal.returns-clause-members
-returns-clause-members g c w faults later m u letter = (Reaches-inbox w faults m u letter, inbox-Reaches w faults later m u letter)
+returns-clause-members g c w faults later m u letter node = (Reaches-inbox w faults m u letter, inbox-Reaches w faults later m u letter node)
 
 pub returns-clause-order : goal.returns-clause-order
 returns-clause-order g c w faults m u = inbox-ordered w faults m u

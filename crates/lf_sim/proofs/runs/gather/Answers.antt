@@ -21,7 +21,7 @@ loop-slot-init g c =
     let nodes : net.nodes ≡ w.rules.nodes = c.args.setting.now.network_agrees ∙ sym c.args.setting.now.nodes_agree in
     record {
       found = ap (λ xs. xs ++ letters_at w F c.args.to (c.args.t + 1) c.arriving-slot-items.result.now) c.clear.ensures.items
-          ∙ ap (letters_at w F c.args.to (c.args.t + 1)) c.arriving-slot-items.ensures ∙ row-letters w F c.args.to (c.args.t + 1) net.nodes nodes;
+          ∙ ap (letters_at w F c.args.to (c.args.t + 1)) c.arriving-slot-items.ensures.value ∙ row-letters w F c.args.to (c.args.t + 1) net.nodes nodes;
       few = omega (arith, c.clear.ensures.len);
       kept = refl;
     }
@@ -29,31 +29,31 @@ loop-slot-init g c =
 pub letter_of-requires-clause-from : goal.letter_of-requires-clause-from
 letter_of-requires-clause-from g c =
     let net = c.args.setting.now.network in
-    let known = slot_known (arrival_of net) net.nodes c.args.to (c.args.t + 1) c.loop-slot.slot-index c.arriving-slot-items.result.now blank c.arriving-slot-items.ensures c.loop-slot-test.true in
+    let known = slot_known (arrival_of net) net.nodes c.args.to (c.args.t + 1) c.loop-slot.slot-index c.arriving-slot-items.result.now blank c.arriving-slot-items.ensures.value c.loop-slot-test.true in
     omega (arith, known.sender, c.requires.nodes, c.args.setting.now.network_agrees, c.args.setting.now.nodes_agree)
 
 pub letter_of-requires-clause-apart : goal.letter_of-requires-clause-apart
 letter_of-requires-clause-apart g c =
     let net = c.args.setting.now.network in
-    (slot_known (arrival_of net) net.nodes c.args.to (c.args.t + 1) c.loop-slot.slot-index c.arriving-slot-items.result.now blank c.arriving-slot-items.ensures c.loop-slot-test.true).apart
+    (slot_known (arrival_of net) net.nodes c.args.to (c.args.t + 1) c.loop-slot.slot-index c.arriving-slot-items.result.now blank c.arriving-slot-items.ensures.value c.loop-slot-test.true).apart
 
 pub letter_of-requires-clause-sent : goal.letter_of-requires-clause-sent
 letter_of-requires-clause-sent g c =
     let net = c.args.setting.now.network in
-    let known = slot_known (arrival_of net) net.nodes c.args.to (c.args.t + 1) c.loop-slot.slot-index c.arriving-slot-items.result.now blank c.arriving-slot-items.ensures c.loop-slot-test.true in
+    let known = slot_known (arrival_of net) net.nodes c.args.to (c.args.t + 1) c.loop-slot.slot-index c.arriving-slot-items.result.now blank c.arriving-slot-items.ensures.value c.loop-slot-test.true in
     (known.first, omega (arith, known.early))
 
 pub letter_of-requires-clause-arrives : goal.letter_of-requires-clause-arrives
 letter_of-requires-clause-arrives g c =
     let net = c.args.setting.now.network in
-    (slot_known (arrival_of net) net.nodes c.args.to (c.args.t + 1) c.loop-slot.slot-index c.arriving-slot-items.result.now blank c.arriving-slot-items.ensures c.loop-slot-test.true).arrives
+    (slot_known (arrival_of net) net.nodes c.args.to (c.args.t + 1) c.loop-slot.slot-index c.arriving-slot-items.result.now blank c.arriving-slot-items.ensures.value c.loop-slot-test.true).arrives
 
 pub push_reserved-requires : goal.push_reserved-requires
 push_reserved-requires g c =
     let net = c.args.setting.now.network in
     let nodes : net.nodes ≤ 8 = omega (arith, c.requires.few, c.requires.nodes, c.args.setting.now.network_agrees, c.args.setting.now.nodes_agree) in
     let few : length (slots_to (arrival_of net) net.nodes c.args.to (c.args.t + 1)) ≤ 384 = row_few (arrival_of net) c.args.to (c.args.t + 1) net.nodes nodes (omega (arith, c.requires.short)) in
-    omega (arith, few, ap length c.arriving-slot-items.ensures, c.loop-slot-test.true, c.loop-slot.invariant.few, c.loop-slot.invariant.kept, c.clear.ensures.capacity, c.requires.letters)
+    omega (arith, few, ap length c.arriving-slot-items.ensures.value, c.loop-slot-test.true, c.loop-slot.invariant.few, c.loop-slot.invariant.kept, c.clear.ensures.capacity, c.requires.letters)
 
 pub loop-slot-preserved : goal.loop-slot-preserved
 loop-slot-preserved g c =
