@@ -1,5 +1,6 @@
 mod Coning
 mod Covering
 mod Gathering
+mod HearingLemmas
 mod Light
 mod Sweeping

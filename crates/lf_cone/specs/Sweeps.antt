@@ -1,8 +1,12 @@
 -- How a reach grows, step by step. This page is about inner functions.
-use Rattle.std.specs.Prelude.{◌≡◌, ◌≢◌, ◌⊎◌, ℕ, ◌+◌, ◌<◌, ◌≤◌, List, length, slice_index, slice_index_or}
+use Rattle.std.specs.Prelude.{◌≡◌, ◌≢◌, ◌⊎◌, true, false, ℕ, ◌+◌, ◌<◌, ◌≤◌, List, length, slice_index, slice_index_or}
 use Rattle.std.specs.List.{Contains}
+use Rattle.lf_faults.specs.declared.fault.Parts.{Parts}
+use Rattle.lf_sim.specs.declared.schedule.Slot.{Slot}
+use Rattle.lf_faults.specs.Faults.{set_omits}
+use Rattle.lf_sim.specs.Runs.{World, is_up}
 use Rattle.lf_outcome.specs.declared.point.Point.{Point}
-use Rattle.lf_cone.specs.Cones.{IsReachOf, IsAtMost}
+use Rattle.lf_cone.specs.Cones.{IsReachOf, IsAtMost, CanHear}
 
 -- each n is raised to the steps t of P n t, and to no others
 pub record IsRaised (P : ℕ → ℕ → Type 0) (before after : List ℕ) : Type 0 where
@@ -54,3 +58,12 @@ PointAt points k n t = ((slice_index_or points k (record { node = 0; step = 0 })
 -- the points are of these nodes, and of steps up to this one
 abbrev pub AreInside : ℕ → ℕ → List Point → Type 0
 AreInside nodes last points = (p : Point) → Contains points p → (p.node < nodes) × (p.step ≤ last)
+
+-- m can hear at u the slot at a place
+abbrev pub HeardAt : {State Note Fact : Type 0} → World State Note Fact → List Parts → ℕ → ℕ → List Slot → ℕ → ℕ → ℕ → Type 0
+HeardAt w faults m u slots k n t =
+    ((slice_index_or slots k (record { from = 0; sent = 0 })).from ≡ n) × ((slice_index_or slots k (record { from = 0; sent = 0 })).sent ≡ t) × CanHear w faults n t m u
+
+-- n is up at t, and what it sends to m isn't lost
+abbrev pub MaySend : {State Note Fact : Type 0} → World State Note Fact → List Parts → ℕ → ℕ → ℕ → Type 0
+MaySend w faults n m t = (is_up w faults n t ≡ true) × (set_omits faults n m t ≡ false)

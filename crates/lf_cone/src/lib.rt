@@ -2,8 +2,10 @@
 #![tactic(auto)]
 
 mod delays;
+mod hearing;
 mod laws;
 mod points;
 
 pub use delays::cone;
+pub use hearing::{is_closed, sharp};
 pub use laws::agree_everywhere;
