@@ -10,7 +10,7 @@ ghost use Rattle.bench_runs.specs.Chatter.{heard};
 
 use lf_faults::{Fault, FaultSet, FaultSpec};
 use lf_latency::{Links, Network};
-use lf_sim::{Letter, Machine, Out, Run, Setting, Stepped, run_reusing, run};
+use lf_sim::{Letter, Machine, Out, Run, Setting, Stepped, run, run_reusing};
 use std::alloc::{AllocError, Global};
 use std::env;
 use std::process::ExitCode;

@@ -2,8 +2,8 @@
 use Rattle.std.proofs.Common.{◌≡◌, ℕ, ◌+◌, ◌<◌, ◌≤◌, Bool, true, false, List, [], ◌∷◌, ◌++◌, length, take, slice_set, get_or, refl, sym, ap, ◌∙◌, subst, arith, inl, inr, eq-eqb, nat_eq, nat_le}
 use Rattle.std.specs.Prelude.{◌||◌, ◌&&◌, not, ◌⊎◌, slice_index, slice_index_or}
 use Rattle.std.specs.List.{list_any}
-use Rattle.std.proofs.lemmas.Bool.{false_from_ne_true, false≢true, and_parts, eqb-true, leb-true, le-leb}
-use Rattle.std.proofs.lemmas.Bool.Decides.{eqb_tells}
+use Rattle.std.proofs.lemmas.Bool.{false_from_ne_true, false≢true, and_parts, eqb-true, leb-true, le-leb, lt-leb}
+use Rattle.std.proofs.lemmas.Bool.Decides.{eqb_tells, leb_tells}
 use Rattle.std.proofs.lemmas.List.{take_more, append-nil, take-append-drop, get_or-set_other, get_or-set_same}
 use Rattle.std.proofs.lemmas.List.Folds.{list_any-append}
 use Rattle.std.proofs.Math.Bool.{or-false, or-true}
@@ -15,16 +15,6 @@ use Rattle.lf_faults.specs.Faults.{IsFault, omits, crashes, pauses, wakes, set_c
 use Rattle.lf_sim.specs.Effects.{link_place, loses, AreLosing, AreCrashes, ArePausing}
 use Rattle.lf_sim.proofs.FaultTests.{omits-is}
 use Rattle.lf_sim.proofs.ListsLemmas.{found-in, passed-in}
-
-bool-cases : (b : Bool) → (b ≡ false) ⊎ (b ≡ true)
-bool-cases true = inr refl
-bool-cases false = inl refl
-
-leb-cases : (a b : ℕ) → (nat_le a b ≡ false) ⊎ (nat_le a b ≡ true)
-leb-cases a b = bool-cases (nat_le a b)
-
-leb-not : (a b : ℕ) → nat_le a b ≡ false → a ≤ b → ⊥
-leb-not a b fails h = false≢true (sym fails ∙ le-leb a b h)
 
 -- a test of the first elements, one more
 one-more : {X : Type 0} (p : X → Bool) (xs : List X) (i : ℕ) (x : X) → x ≡ get_or xs i x → i < length xs → list_any p (take (i + 1) xs) ≡ (list_any p (take i xs) || p x)
@@ -96,11 +86,11 @@ module _ (xs : List Parts) (i : ℕ) (x : Parts) (is : x ≡ get_or xs i x) (h :
             let here : slice_index steps n ≤ step = (let P : ℕ → Type 0 = λ k. slice_index steps k ≤ step in subst P (sym same.1) late) in
             let gives : crashes n t x ≡ nat_le step t = rw (made, same.0) refl in
             let old = before n t a b in
-            elim (leb-cases step t) [
-              | inl fails ↦ sym (one-false (crashes n t) xs i x is h (gives ∙ fails))
-              | inr holds ↦
-                  let reached : nat_le (slice_index steps n) t ≡ true = le-leb (slice_index steps n) t (omega (arith, leb-true step t holds, here)) in
-                  sym old ∙ reached ∙ sym (one-true (crashes n t) xs i x is h (gives ∙ holds))
+            elim (leb_tells step t) [
+              | inr fails ↦ sym (one-false (crashes n t) xs i x is h (gives ∙ fails.0))
+              | inl holds ↦
+                  let reached : nat_le (slice_index steps n) t ≡ true = le-leb (slice_index steps n) t (omega (arith, holds.1, here)) in
+                  sym old ∙ reached ∙ sym (one-true (crashes n t) xs i x is h (gives ∙ holds.0))
             ]
         | inr other ↦ sym (one-false (crashes n t) xs i x is h (rw (made, other.0) refl))
       ])
@@ -115,11 +105,11 @@ module _ (xs : List Parts) (i : ℕ) (x : Parts) (is : x ≡ get_or xs i x) (h :
             let at : slice_index (slice_set steps node step) n ≡ step = ap (λ k. slice_index (slice_set steps node step) k) same.1 ∙ get_or-set_same steps node step 0 (omega (arith, inside, long)) in
             let old : nat_le (slice_index steps n) t ≡ set_crashes (take i xs) n t = before n t a b in
             let here : step < slice_index steps n = (let P : ℕ → Type 0 = λ k. step < slice_index steps k in subst P (sym same.1) early) in
-            ap (λ k. nat_le k t) at ∙ (elim (leb-cases step t) [
-              | inl fails ↦
-                  let before-it : nat_le (slice_index steps n) t ≡ false = false_from_ne_true (nat_le (slice_index steps n) t) (λ k. leb-not step t fails (omega (arith, leb-true (slice_index steps n) t k, here))) in
-                  fails ∙ sym before-it ∙ old ∙ sym (one-false (crashes n t) xs i x is h (gives ∙ fails))
-              | inr holds ↦ holds ∙ sym (one-true (crashes n t) xs i x is h (gives ∙ holds))
+            ap (λ k. nat_le k t) at ∙ (elim (leb_tells step t) [
+              | inr fails ↦
+                  let before-it : nat_le (slice_index steps n) t ≡ false = lt-leb (slice_index steps n) t (omega (arith, fails.1, here)) in
+                  fails.0 ∙ sym before-it ∙ old ∙ sym (one-false (crashes n t) xs i x is h (gives ∙ fails.0))
+              | inl holds ↦ holds.0 ∙ sym (one-true (crashes n t) xs i x is h (gives ∙ holds.0))
             ])
         | inr other ↦
             ap (λ k. nat_le k t) (get_or-set_other steps node n step 0 other.1) ∙ before n t a b ∙ sym (one-false (crashes n t) xs i x is h (rw (made, other.0) refl))
@@ -179,7 +169,7 @@ leaves_crashed faults steps length n t ends a b late =
 
 pub leaves_uncrashed : (faults : List Parts) (steps : List ℕ) (n t : ℕ) → AreCrashes faults steps → n < 8 → t ≤ 48 → t < slice_index steps n → set_crashes faults n t ≡ false
 leaves_uncrashed faults steps n t ends a b early =
-    sym (ends n t a b) ∙ false_from_ne_true (nat_le (slice_index steps n) t) (λ k. omega (arith, leb-true (slice_index steps n) t k, early))
+    sym (ends n t a b) ∙ lt-leb (slice_index steps n) t early
 
 pub leaves_unpaused : (faults : List Parts) (pausing : List Bool) (length n t : ℕ) → ArePausing faults pausing → n < 8 → slice_index_or pausing n false ≡ false → set_crashes faults n t ≡ false
     → true ≡ (not (set_crashes faults n t) && not (set_pauses length faults n t))

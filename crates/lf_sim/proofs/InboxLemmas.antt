@@ -18,14 +18,8 @@ use Rattle.lf_sim.specs.Runs.{World, each_below, letter, letters, letters_from, 
 use Rattle.lf_sim.specs.Schedules.{IsArriving, IsBefore, slot_at, slots_from, slots_to}
 use Rattle.lf_sim.specs.Tables.{row_of, table, HasPast}
 use Rattle.lf_sim.proofs.ListsLemmas.{in-each_below, from-each_below, AllPairs-each_below, none_from_not}
-use Rattle.lf_sim.proofs.RunsLemmas.{letter-zero, letter-self, letter-elsewhere}
+use Rattle.lf_sim.proofs.RunsLemmas.{apart-from, letter-zero, letter-self, letter-elsewhere}
 use Rattle.lf_sim.proofs.SchedulesLemmas.{AllPairs-one, arrives, in-cond, in-one, slot_at-there, slot_at-elsewhere, slot_at-self}
-
-not-eq : (n m : ℕ) → not (nat_eq n m) ≡ true → n ≢ m
-not-eq n m h = elim (eqb_tells n m) [
-  | inl same ↦ absurd (let e : nat_eq n m ≡ true = same.0 in cc)
-  | inr other ↦ other.1
-]
 
 module _ (arrival : ℕ → ℕ → ℕ → ℕ) where
   slot-arrives : (nodes m u n t : ℕ) (s : Slot) → n < nodes → t < u → Contains (slot_at arrival m u n t) s → IsArriving arrival nodes m u s
@@ -37,7 +31,7 @@ module _ (arrival : ℕ → ℕ → ℕ → ℕ) where
       let last = and_parts (not (nat_eq n m)) (nat_eq (arrival n m t) u) tests.1 in
       let known : IsArriving arrival nodes m u made = record {
         sender = node;
-        apart = not-eq n m last.0;
+        apart = apart-from n m last.0;
         first = leb-true 1 t tests.0;
         early = early;
         arrives = eqb-true (arrival n m t) u last.1;

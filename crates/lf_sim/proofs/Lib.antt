@@ -1,8 +1,9 @@
-pub mod EffectsLemmas
+mod EffectsLemmas
 mod Examples
-pub mod FaultTests
-pub mod InboxLemmas
-pub mod ListsLemmas
-pub mod PointsLemmas
-pub mod RunsLemmas
-pub mod SchedulesLemmas
+mod FaultTests
+mod InboxLemmas
+pub mod Laws
+mod ListsLemmas
+mod PointsLemmas
+mod RunsLemmas
+mod SchedulesLemmas

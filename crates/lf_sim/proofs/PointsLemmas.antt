@@ -3,7 +3,7 @@ use Rattle.std.proofs.Common.{◌≡◌, ℕ, zero, suc, ◌+◌, ◌<◌, ◌�
 use Rattle.std.specs.Prelude.{nat_lt, nat_le, not, None, Some}
 use Rattle.std.specs.Option.{option_to_list}
 use Rattle.std.specs.List.{Contains, AllPairs}
-use Rattle.std.proofs.lemmas.Bool.{and_parts, ltb-true, leb-true, lt-ltb, le-leb, both_ways, false_from_ne_true, true_from_ne_false}
+use Rattle.std.proofs.lemmas.Bool.{and_parts, not-true, ltb-true, leb-true, lt-ltb, le-leb, both_ways, false_from_ne_true, true_from_ne_false}
 use Rattle.lf_faults.specs.declared.fault.Parts.{Parts}
 use Rattle.lf_faults.specs.Faults.{set_omits, set_crashes, set_pauses, set_wakes}
 use Rattle.lf_sim.specs.declared.letter.Letter.{Letter}
@@ -14,10 +14,6 @@ use Rattle.lf_sim.specs.Points.{IsRunning, EndsPause, StepsFrom, ArrivesLater, R
 use Rattle.lf_sim.proofs.FaultTests.{omitted-contains, contains-omitted, crashed-contains, contains-crashed, paused-contains, contains-paused, woken-contains, contains-woken, omitted-until, crashed-until, paused-until, woken-until}
 use Rattle.lf_sim.proofs.ListsLemmas.{in-each_below, from-each_below, in-option, from-option, AllPairs-option, AllPairs-each_below}
 use Rattle.lf_sim.proofs.RunsLemmas.{did-zero, did-suc, did-awake, did-woken, sent-down, Comes, Comes-letter, letter-Comes, letters-each}
-
-not-true : (b : Bool) → not b ≡ true → b ≡ false
-not-true true h = sym h
-not-true false h = refl
 
 module _ {State Note Fact : Type 0} (w : World State Note Fact) (faults : List Parts) where
   -- up is what it says

@@ -2,30 +2,18 @@
 use Rattle.std.proofs.Common.{◌≡◌, ℕ, zero, suc, ◌+◌, ◌<◌, ◌≤◌, Bool, true, false, cond, List, ◌∷◌, [], ◌++◌, refl, sym, ap, ◌∙◌, subst, arith, inl, inr, eq-eqb, add-one}
 use Rattle.std.specs.Prelude.{nat_eq, nat_le, not, ◌&&◌, ◌≢◌, Option, None, Some}
 use Rattle.std.specs.Option.{option_map, option_to_list}
-use Rattle.std.proofs.lemmas.Bool.{and_parts, ne_eqb, eqb-true, lt-ltb, le-leb}
+use Rattle.std.proofs.lemmas.Bool.{and_parts, not-true, ne_eqb, eqb-true, eqb-false, lt-ltb, le-leb}
 use Rattle.std.proofs.lemmas.Bool.Decides.{leb_tells, nat_tests}
+use Rattle.std.proofs.Math.Bool.{and-false}
 use Rattle.lf_faults.specs.declared.fault.Parts.{Parts}
 use Rattle.lf_faults.specs.Faults.{set_omits, set_crashes, set_pauses, set_wakes}
 use Rattle.lf_sim.specs.declared.letter.Letter.{Letter}
 use Rattle.lf_sim.specs.declared.out.Out.{Out}
 use Rattle.lf_sim.specs.declared.out.Stepped.{Stepped}
 use Rattle.lf_sim.specs.Outs.{note_to, nothing}
-use Rattle.lf_sim.specs.Runs.{World, Past, each_below, is_up, before_step, letter, letters, letters_from, turn, history, did, view, sent, inbox}
+use Rattle.lf_sim.specs.Runs.{World, Past, each_below, takes_step, is_up, before_step, letter, letters, letters_from, turn, history, did, view, sent, inbox}
 use Rattle.lf_sim.proofs.ListsLemmas.{each_below-same, more_some, more_none, none_from_not}
-use Rattle.lf_sim.specs.OutsLemmas.{note_to-nothing}
-use Rattle.lf_sim.specs.Settings.{takes_step}
-
-cond-same : {A : Type 0} (b : Bool) (x : A) → cond b x x ≡ x
-cond-same true x = refl
-cond-same false x = refl
-
-and-false : (b : Bool) → (b && false) ≡ false
-and-false true = refl
-and-false false = refl
-
-not-true : (b : Bool) → not b ≡ true → b ≡ false
-not-true true h = sym h
-not-true false h = refl
+use Rattle.lf_sim.specs.OutsLemmas.{cond-same, note_to-nothing}
 
 module _ {State Note Fact : Type 0} (w : World State Note Fact) (faults : List Parts) where
   -- what happens at t + 1 depends on what happened up to t
@@ -65,6 +53,9 @@ module _ {State Note Fact : Type 0} (w : World State Note Fact) (faults : List P
   -- what a node does at the step after t is its turn on what was done up to t
   pub did-suc : (n t : ℕ) → did w faults n (suc t) ≡ turn w faults (did w faults) n t
   did-suc n t = did-history n t ∙ turn-same _ _ n t (λ k s l. history-did t k s l)
+
+  pub did-next : (n t : ℕ) → did w faults n (t + 1) ≡ turn w faults (did w faults) n t
+  did-next n t = rw add-one (did-suc n t)
 
   pub did-zero : (n : ℕ) → did w faults n 0 ≡ record { state = w.rules.start n; out = nothing }
   unfolding did history
@@ -200,8 +191,9 @@ cond-Some : {A : Type 0} (b : Bool) (o : Option A) (x : A) → cond b o None ≡
 cond-Some true o x h = (refl, h)
 cond-Some false o x h = absurd (cc)
 
-eq-from : (n m : ℕ) → not (nat_eq n m) ≡ true → n ≢ m
-eq-from n m h e = let same : nat_eq n m ≡ true = eq-eqb n m e in let other : nat_eq n m ≡ false = not-true (nat_eq n m) h in cc
+-- a test for other numbers
+pub apart-from : (n m : ℕ) → not (nat_eq n m) ≡ true → n ≢ m
+apart-from n m h = eqb-false n m (not-true (nat_eq n m) h)
 
 module _ {State Note Fact : Type 0} (w : World State Note Fact) (faults : List Parts) where
   pub Comes-letter : (past : Past State Note) (m u n t : ℕ) (x : Letter Note) → letter w faults past m u n t ≡ Some x → Comes w faults past m u n t x
@@ -212,7 +204,7 @@ module _ {State Note Fact : Type 0} (w : World State Note Fact) (faults : List P
       let q = and_parts (nat_eq (w.arrival n m t) u) (not (set_omits faults n m t)) p.1 in
       let made = letter-made n t (note_to (past n t).out m) x tests.1 in
       record {
-        other = eq-from n m p.0;
+        other = apart-from n m p.0;
         arrives = eqb-true (w.arrival n m t) u q.0;
         kept = not-true (set_omits faults n m t) q.1;
         from = made.0;

@@ -5,6 +5,7 @@ use Rattle.std.specs.List.{Contains, AllPairs, slice_range}
 use Rattle.std.proofs.lemmas.Bool.{and_parts, cases_lt, eqb-true, lt-ltb, le-leb, ne_eqb}
 use Rattle.std.proofs.lemmas.Bool.Decides.{Decides-eqb}
 use Rattle.std.proofs.lemmas.List.{append-nil, take_more_set, take-append-le, drop-take, take-take, get_or-set_other, get_or-set_same}
+use Rattle.std.proofs.Math.Bool.{and-false}
 use Rattle.std.proofs.Math.Seq.{drop-append_seam, take-length}
 use Rattle.std.proofs.lemmas.Map.Made.{IsDistinct-from_AllPairs}
 use Rattle.std.proofs.lemmas.Map.Steps.{length-le_from_distinct_below}
@@ -54,10 +55,6 @@ length-cond : {A B : Type 0} (b : Bool) (xs : List A) (ys : List B) → length x
 length-cond true xs ys h = h
 length-cond false xs ys h = refl
 
-and-false : (b : Bool) → (b && false) ≡ false
-and-false true = refl
-and-false false = refl
-
 pub in-cond : {A : Type 0} (b : Bool) (xs : List A) (x : A) → Contains (cond b xs []) x → (b ≡ true) × Contains xs x
 in-cond true xs x c = (refl, c)
 in-cond false xs x c = absurd (omega (arith, c.1))
@@ -73,10 +70,6 @@ AllPairs-one R false x i j d lt within = absurd (omega arith)
 AllPairs-cond : {A : Type 0} (R : A → A → Type 0) (b : Bool) (xs : List A) → AllPairs R xs → AllPairs R (cond b xs [])
 AllPairs-cond R true xs h = h
 AllPairs-cond R false xs h = λ i j d lt within. absurd (omega arith)
-
-not-true : (b : Bool) → not b ≡ true → b ≡ false
-not-true true h = sym h
-not-true false h = refl
 
 module _ (arrival : ℕ → ℕ → ℕ → ℕ) where
   -- a slot of a schedule, by its tests

@@ -1,17 +1,16 @@
--- The notes of one step, read back. A machine cites these where it shows its law `silent`, so they stand here.
+-- The notes of one step, read back. A machine cites these where it shows its law `silent`, and can cite only what stands in
+-- specs/. A reader of contracts may pass by.
 use Rattle.std.proofs.Common.{◌≡◌, ℕ, zero, suc, ◌<◌, ◌≤◌, Bool, true, false, cond, refl, sym, ◌∙◌, arith, inl, inr, nat_eq, eq-eqb}
 use Rattle.std.specs.Prelude.{◌⊎◌, ◌≢◌, nat_lt, ◌&&◌, Option, None, Some}
 use Rattle.std.proofs.lemmas.Bool.{cases_lt, ne_eqb, le-ltb}
+use Rattle.std.proofs.Math.Bool.{and-false}
 use Rattle.lf_sim.specs.declared.out.Out.{Out}
 use Rattle.lf_sim.specs.Outs.{note_to, notes_by, nothing, note_to_other, to_others, with_note}
 
-cond-same : {A : Type 0} (b : Bool) (x : A) → cond b x x ≡ x
+-- a choice of the same
+pub cond-same : {A : Type 0} (b : Bool) (x : A) → cond b x x ≡ x
 cond-same true x = refl
 cond-same false x = refl
-
-and-false : (b : Bool) → (b && false) ≡ false
-and-false true = refl
-and-false false = refl
 
 pub note_to-nothing : {Note : Type 0} (m : ℕ) → note_to (nothing {Note = Note}) m ≡ None
 note_to-nothing m = simp cond-same

@@ -28,12 +28,15 @@ abbrev pub each_below : {A : Type 0} → (ℕ → List A) → ℕ → List A
 each_below f zero = []
 each_below f (suc n) = each_below f n ++ f n
 
+-- n takes step t: it is a node, t is a step of the run, and no crash and no pause takes the point out
+abbrev pub takes_step : ℕ → ℕ → ℕ → List Parts → ℕ → ℕ → Bool
+takes_step nodes horizon pause_length faults n t =
+    nat_lt n nodes && (nat_le 1 t && (nat_le t horizon && (not (set_crashes faults n t) && not (set_pauses pause_length faults n t))))
+
 module _ {State Note Fact : Type 0} (w : World State Note Fact) (faults : List Parts) where
-  -- n is up at t: it is a node, t is a step of the run, and no crash and no pause takes the point out
+  -- n is up at t
   unfoldable pub is_up : ℕ → ℕ → Bool
-  is_up n t =
-      nat_lt n w.rules.nodes && (nat_le 1 t && (nat_le t w.horizon
-      && (not (set_crashes faults n t) && not (set_pauses w.pause_length faults n t))))
+  is_up = takes_step w.rules.nodes w.horizon w.pause_length faults
 
   -- the state from which n's step at t starts: its last one, or what it wakes with where a pause of it has just ended
   unfoldable pub before_step : ℕ → ℕ → State → State

@@ -1,4 +1,4 @@
--- The machines for tests send to no node what they may not.
+-- The machines for tests send to no node what they may not. They cite these where they show their law `silent`.
 use Rattle.std.proofs.Common.{◌≡◌, ℕ, ◌+◌, ◌%◌, ◌<◌, ◌≤◌, Bool, true, false, cond, sym, ◌∙◌, arith, inl, inr, nat_eq}
 use Rattle.std.specs.Prelude.{◌⊎◌, ◌≢◌, None}
 use Rattle.std.proofs.lemmas.Bool.Decides.{eqb_tells}

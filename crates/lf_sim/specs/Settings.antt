@@ -1,15 +1,14 @@
 -- The world that a setting is, and what a run of it holds.
-use Rattle.std.specs.Prelude.{◌≡◌, ℕ, ◌+◌, ◌*◌, ◌<◌, ◌≤◌, Bool, not, ◌&&◌, nat_lt, nat_le, List, slice_get, Option, Some}
+use Rattle.std.specs.Prelude.{◌≡◌, ℕ, ◌+◌, ◌*◌, ◌<◌, ◌≤◌, Bool, List, slice_get, Option, Some}
 use Rattle.std.specs.Option.{option_map}
 use Rattle.lf_faults.specs.declared.fault.Parts.{Parts}
-use Rattle.lf_faults.specs.Faults.{set_crashes, set_pauses}
 use Rattle.lf_latency.specs.Arrivals.{arrival_of}
 use Rattle.lf_sim.specs.declared.machine.Machine.{Ghosts}
 use Rattle.lf_sim.specs.declared.out.Stepped.{Stepped}
 use Rattle.lf_sim.specs.declared.record.Run.{Run}
 use Rattle.lf_sim.specs.declared.setting.Setting.{Setting}
 use Rattle.lf_sim.specs.Outs.{note_to}
-use Rattle.lf_sim.specs.Runs.{World, did}
+use Rattle.lf_sim.specs.Runs.{World, takes_step, did}
 
 abbrev pub world_of : {M State Note Fact : Type 0} {g : Ghosts M State Note Fact} {p q r : _} → Setting M State Note Fact g p q r → World State Note Fact
 world_of {g = g} setting =
@@ -29,11 +28,6 @@ nodes_of run = run.grid.nodes
 
 abbrev pub horizon_of : {M State Note Fact : Type 0} → Run M State Note Fact → ℕ
 horizon_of run = run.grid.horizon
-
--- n takes step t: `is_up`, of plain numbers
-abbrev pub takes_step : ℕ → ℕ → ℕ → List Parts → ℕ → ℕ → Bool
-takes_step nodes horizon pause_length faults n t =
-    nat_lt n nodes && (nat_le 1 t && (nat_le t horizon && (not (set_crashes faults n t) && not (set_pauses pause_length faults n t))))
 
 -- what n did at t, by the run
 abbrev pub cell_of : {M State Note Fact : Type 0} → Run M State Note Fact → ℕ → ℕ → Option (Stepped State Note)

@@ -1,8 +1,15 @@
 //! What was done, by step and node.
 
 ghost use Rattle.std.specs.Prelude.{◌≡◌, ◌+◌, ◌*◌, ◌<◌, ◌≤◌, length, slice_get, vec_capacity};
+ghost use Rattle.lf_sim.specs.declared.grid.TheConstants.{CELLS, LETTERS};
 
 use crate::{Letter, Stepped};
+
+/// The cells of the largest run: 8 nodes, before step 1 and after each of 48 steps.
+pub(crate) const CELLS: usize = 392;
+
+/// The letters of the largest inbox: 8 senders and 48 steps.
+pub(crate) const LETTERS: usize = 384;
 
 /// A cell for each node at each step, the start first, with the memory for the largest run: 8 nodes and 48 steps.
 #[derive(Drop)]
@@ -17,8 +24,8 @@ pub(crate) struct Grid<S, N> {
     ghost short: { horizon ≤ 48 },
     ghost brief: { pause_length ≤ 8 },
     ghost whole: { length cells.items ≡ (horizon + 1) * nodes },
-    ghost cells_fit: { 392 ≤ vec_capacity cells },
-    ghost letters_fit: { 384 ≤ vec_capacity inbox },
+    ghost cells_fit: { CELLS ≤ vec_capacity cells },
+    ghost letters_fit: { LETTERS ≤ vec_capacity inbox },
 }
 
 impl<S: Copy, N: Copy> Grid<S, N> {
@@ -28,6 +35,22 @@ impl<S: Copy, N: Copy> Grid<S, N> {
         requires step { step ≤ self.now.horizon }
         ensures { slice_get self.now.cells.items (step * self.now.nodes + node) ≡ Some result.now }
     {
-        &self.cells[(step * self.nodes + node) as usize]
+        cell_at(&self.cells, self.nodes, node, step)
     }
+}
+
+/// The cell of a node at a step.
+pub(crate) fn cell_at<S: Copy, N: Copy>(
+    cells: &[Stepped<S, N>],
+    nodes: u32,
+    node: u32,
+    step: u32,
+) -> &Stepped<S, N>
+    requires few { nodes ≤ 8 }
+    requires node { node < nodes }
+    requires step { step ≤ 48 }
+    requires long { step * nodes + node < length cells.now }
+    ensures { slice_get cells.now (step * nodes + node) ≡ Some result.now }
+{
+    &cells[(step * nodes + node) as usize]
 }

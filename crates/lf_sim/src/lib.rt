@@ -9,6 +9,7 @@ mod grid;
 mod letter;
 mod machine;
 mod out;
+mod past;
 mod points;
 mod record;
 mod runs;

@@ -1,7 +1,7 @@
 //! What a run leaves.
 
 ghost use Rattle.std.specs.Prelude.{◌≡◌, ℕ, ◌<◌, ◌≤◌, IsTrue};
-ghost use Rattle.lf_sim.specs.Settings.{takes_step};
+ghost use Rattle.lf_sim.specs.Runs.{takes_step};
 
 use crate::Machine;
 use crate::grid::Grid;

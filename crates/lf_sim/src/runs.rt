@@ -1,23 +1,16 @@
 //! A run, round by round.
 
-ghost use Rattle.std.specs.Prelude.{◌≡◌, ◌≢◌, ℕ, ◌+◌, ◌*◌, ◌<◌, ◌≤◌, [], length, IfOk, slice_get, Some, vec_len, vec_capacity};
-ghost use Rattle.lf_latency.specs.Arrivals.{arrival_of};
-ghost use Rattle.lf_sim.specs.Runs.{World, letter, letters, before_step, did};
-ghost use Rattle.lf_sim.specs.Tables.{HasPast, row_of, table};
+ghost use Rattle.std.specs.Prelude.{◌≡◌, ℕ, ◌+◌, ◌*◌, ◌<◌, ◌≤◌, [], length, IfOk, slice_get, Some, vec_len, vec_capacity};
+ghost use Rattle.lf_sim.specs.Runs.{did};
+ghost use Rattle.lf_sim.specs.Tables.{row_of, table};
 ghost use Rattle.lf_sim.specs.Settings.{world_of, set_of, nodes_of, horizon_of, up_of, state_of, sent_of, IsRun};
 
 use crate::effects::Effects;
-use crate::grid::Grid;
-use crate::schedule::Slot;
+use crate::grid::{CELLS, Grid, LETTERS};
+use crate::past::Past;
 use crate::{Letter, Machine, Out, Run, Setting, Stepped};
 use lf_faults::FaultSet;
 use std::alloc::{AllocError, Global};
-
-/// The cells of the largest run: 8 nodes, before step 1 and after each of 48 steps.
-const CELLS: usize = 392;
-
-/// The letters of the largest inbox: 8 senders and 48 steps.
-const LETTERS: usize = 384;
 
 /// The run of a machine under a set of faults: what every node did after each step.
 ///
@@ -73,8 +66,8 @@ fn played<M: Machine>(
 ) -> Run<M>
     requires blank { cells.items ≡ [] }
     requires none { vec_len cells ≡ 0 }
-    requires cells { 392 ≤ vec_capacity cells }
-    requires letters { 384 ≤ vec_capacity inbox }
+    requires cells { CELLS ≤ vec_capacity cells }
+    requires letters { LETTERS ≤ vec_capacity inbox }
     ensures run { IsRun (world_of setting.now) result }
     ensures set { set_of result ≡ set.now }
 {
@@ -111,7 +104,7 @@ fn put_starts<M: Machine>(
     requires few { nodes ≤ 8 }
     requires blank { cells.old.items ≡ [] }
     requires none { vec_len cells.old ≡ 0 }
-    requires room { 392 ≤ vec_capacity cells.old }
+    requires room { CELLS ≤ vec_capacity cells.old }
     ensures cells { cells.new.items ≡ table (world_of setting.now) effects.now.set 1 }
     ensures len { vec_len cells.new ≡ nodes }
     ensures capacity { vec_capacity cells.new ≡ vec_capacity cells.old }
@@ -139,151 +132,22 @@ fn put_turns<M: Machine>(
     requires short { t < 48 }
     requires before { cells.old.items ≡ table (world_of setting.now) effects.now.set (t + 1) }
     requires len { vec_len cells.old ≡ (t + 1) * nodes }
-    requires room { 392 ≤ vec_capacity cells.old }
-    requires letters { 384 ≤ vec_capacity inbox.old }
+    requires room { CELLS ≤ vec_capacity cells.old }
+    requires letters { LETTERS ≤ vec_capacity inbox.old }
     ensures cells { cells.new.items ≡ table (world_of setting.now) effects.now.set (t + 2) }
     ensures len { vec_len cells.new ≡ (t + 2) * nodes }
     ensures capacity { vec_capacity cells.new ≡ vec_capacity cells.old }
     ensures letters { vec_capacity inbox.new ≡ vec_capacity inbox.old }
 {
     for node in 0..nodes {
-        let cell = turn(setting, effects, nodes, cells, inbox, node, t);
+        let past = Past {
+            setting,
+            effects,
+            nodes,
+            t,
+            cells,
+        };
+        let cell = past.turn(inbox, node);
         cells.push_reserved(cell);
     }
-}
-
-/// What a node does at the step after `t`.
-fn turn<M: Machine>(
-    setting: &Setting<M>,
-    effects: &Effects,
-    nodes: u32,
-    cells: &[Stepped<M::State, M::Note>],
-    inbox: &mut Vec<Letter<M::Note>>,
-    node: u32,
-    t: u32,
-) -> Stepped<M::State, M::Note>
-    requires nodes { nodes ≡ (M.rules setting.now.machine).nodes }
-    requires few { nodes ≤ 8 }
-    requires node { node < nodes }
-    requires step { t < setting.now.spec.horizon }
-    requires short { t < 48 }
-    requires past { HasPast (world_of setting.now) effects.now.set cells.now (t + 1) }
-    requires letters { 384 ≤ vec_capacity inbox.old }
-    ensures value { result ≡ did (world_of setting.now) effects.now.set node (t + 1) }
-    ensures letters { vec_capacity inbox.new ≡ vec_capacity inbox.old }
-{
-    let last = cell(cells, nodes, node, t).state;
-    let length = setting.spec.pause_length();
-    if !effects.leaves_up(node, t + 1, length) {
-        return Stepped {
-            state: last,
-            out: Out::none(),
-        };
-    }
-    let state = woken(setting, effects, length, node, t + 1, last);
-    gather(setting, effects, nodes, cells, inbox, node, t);
-    setting.machine.step(node, t + 1, state, inbox)
-}
-
-/// The state from which a node's step starts.
-fn woken<M: Machine>(
-    setting: &Setting<M>,
-    effects: &Effects,
-    length: u32,
-    node: u32,
-    step: u32,
-    last: M::State,
-) -> M::State
-    requires node { node < (M.rules setting.now.machine).nodes }
-    requires few { node < 8 }
-    requires step { (1 ≤ step) × (step ≤ 48) }
-    requires length { length ≡ setting.now.spec.pause_length }
-    requires brief { length ≤ 8 }
-    ensures { result ≡ before_step (world_of setting.now) effects.now.set node step last }
-{
-    if effects.wakes(node, step, length) {
-        setting.machine.wake(node, step, last)
-    } else {
-        last
-    }
-}
-
-/// Makes the inbox what reaches a node at the step after `t`.
-fn gather<M: Machine>(
-    setting: &Setting<M>,
-    effects: &Effects,
-    nodes: u32,
-    cells: &[Stepped<M::State, M::Note>],
-    inbox: &mut Vec<Letter<M::Note>>,
-    to: u32,
-    t: u32,
-)
-    requires nodes { nodes ≡ (M.rules setting.now.machine).nodes }
-    requires few { nodes ≤ 8 }
-    requires to { to < nodes }
-    requires step { t < setting.now.spec.horizon }
-    requires short { t < 48 }
-    requires past { HasPast (world_of setting.now) effects.now.set cells.now (t + 1) }
-    requires letters { 384 ≤ vec_capacity inbox.old }
-    ensures items { inbox.new.items ≡
-        letters (world_of setting.now) effects.now.set (did (world_of setting.now) effects.now.set) to (t + 1) }
-    ensures letters { vec_capacity inbox.new ≡ vec_capacity inbox.old }
-{
-    inbox.clear();
-    for slot in setting.arriving(to, t + 1) {
-        if let Some(letter) = letter_of(setting, effects, nodes, cells, *slot, to, t) {
-            inbox.push_reserved(letter);
-        }
-    }
-}
-
-/// What was sent in a slot, unless it is lost.
-fn letter_of<M: Machine>(
-    setting: &Setting<M>,
-    effects: &Effects,
-    nodes: u32,
-    cells: &[Stepped<M::State, M::Note>],
-    slot: Slot,
-    to: u32,
-    t: u32,
-) -> Option<Letter<M::Note>>
-    requires nodes { nodes ≡ (M.rules setting.now.machine).nodes }
-    requires few { nodes ≤ 8 }
-    requires to { to < nodes }
-    requires short { t < 48 }
-    requires past { HasPast (world_of setting.now) effects.now.set cells.now (t + 1) }
-    requires from { slot.from < nodes }
-    requires apart { slot.from ≢ to }
-    requires sent { (1 ≤ slot.sent) × (slot.sent ≤ t) }
-    requires arrives { arrival_of setting.now.network slot.from to slot.sent ≡ t + 1 }
-    ensures { result ≡
-        letter (world_of setting.now) effects.now.set (did (world_of setting.now) effects.now.set)
-        to (t + 1) slot.from slot.sent }
-{
-    let _setting = setting;
-    let from = u32::from(slot.from);
-    let sent = u32::from(slot.sent);
-    if effects.omits(from, to, sent) {
-        return None;
-    }
-    match cell(cells, nodes, from, sent).out.to(to) {
-        Some(note) => Some(Letter { from, sent, note }),
-        None => None,
-    }
-}
-
-/// What a node did at a step.
-fn cell<S: Copy, N: Copy>(
-    cells: &[Stepped<S, N>],
-    nodes: u32,
-    node: u32,
-    step: u32,
-) -> &Stepped<S, N>
-    requires few { nodes ≤ 8 }
-    requires node { node < nodes }
-    requires step { step ≤ 48 }
-    requires long { step * nodes + node < length cells.now }
-    ensures { slice_get cells.now (step * nodes + node) ≡ Some result.now }
-{
-    &cells[(step * nodes + node) as usize]
 }

@@ -9,6 +9,9 @@ use lf_latency::Network;
 /// The places for slots: 8 senders, 8 receivers and 48 steps.
 const SLOTS: usize = 3072;
 
+/// The rows: 48 steps and 8 receivers.
+const ROWS: u32 = 384;
+
 /// A slot of one receiver: what the node `from`, 0..=7, sends to it at the step `sent`, 1..=48.
 #[derive(Clone, Copy, Debug, PartialEq, Eq)]
 pub struct Slot {
@@ -35,7 +38,7 @@ impl Schedule {
         let mut slots = [Slot { from: 0, sent: 0 }; SLOTS];
         let mut starts = [0; 385];
         let mut end = 0;
-        for row in 0..384 {
+        for row in 0..ROWS {
             if is_row(nodes, horizon, row) {
                 end = put_row(network, nodes, &mut slots, end, row % 8, row / 8 + 1);
             }
@@ -47,7 +50,7 @@ impl Schedule {
 
 /// Whether a row of the schedule is of a node and a step of the run.
 fn is_row(nodes: u32, horizon: u32, row: u32) -> bool
-    requires { row < 384 }
+    requires { row < ROWS }
     ensures { result ≡ is_row nodes horizon row }
 {
     row % 8 < nodes && row / 8 + 1 <= horizon

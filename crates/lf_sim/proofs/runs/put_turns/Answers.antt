@@ -5,11 +5,12 @@ use Rattle.lf_sim.specs.Tables.{row_of, table}
 use Rattle.lf_sim.proofs.InboxLemmas.{past_of, row_more}
 use Rattle.lf_sim.proofs.runs.put_turns.Goals as goal
 
-pub turn-cell-requires-clause-past : goal.turn-cell-requires-clause-past
-turn-cell-requires-clause-past g c =
+pub invariant_of-past : goal.invariant_of-past
+invariant_of-past g c =
     let w = world_of c.args.setting.now in
     let F = c.args.effects.now.set in
-    past_of w F c.deref.result.now (c.args.t + 1) (row_of w F (c.args.t + 1) c.loop-node.node) (c.deref.ensures.value ∙ c.loop-node.invariant.cells)
+    let done = past_of w F c.deref.result.now (c.args.t + 1) (row_of w F (c.args.t + 1) c.loop-node.node) (c.deref.ensures.value ∙ c.loop-node.invariant.cells) in
+    record { nodes_agree = c.requires.nodes; few = c.requires.few; early = c.requires.step; short = c.requires.short; done = done }
 
 pub push_reserved-requires : goal.push_reserved-requires
 push_reserved-requires g c =

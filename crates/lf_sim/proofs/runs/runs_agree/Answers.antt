@@ -1,5 +1,5 @@
 use Rattle.std.proofs.Common.{sym, ap, ◌∙◌}
-use Rattle.lf_sim.specs.Settings.{takes_step}
+use Rattle.lf_sim.specs.Runs.{takes_step}
 use Rattle.lf_sim.proofs.runs.runs_agree.Goals as goal
 
 pub returns-clause-up : goal.returns-clause-up
