@@ -7,7 +7,7 @@ use Rattle.lf_latency.specs.Arrivals.{IsTiming, arrival_of}
 use Rattle.lf_latency.proofs.Laws.{arrival-late}
 use Rattle.lf_faults.specs.declared.fault.Parts.{Parts}
 use Rattle.lf_sim.specs.Runs.{World, is_up}
-use Rattle.lf_sim.proofs.PointsLemmas.{IsRunning-up}
+use Rattle.lf_sim.proofs.Laws.{IsRunning-up}
 use Rattle.lf_outcome.specs.declared.point.Point.{Point}
 use Rattle.lf_cone.specs.Cones.{IsReachOf, IsAtMost, Covers, KeepsLeast, IsCone, IsClosed, IsHeard, CanHear}
 use Rattle.lf_cone.specs.Sweeps.{IsRaised, SomeBelow, PointAt, AreInside, KeepsTo, IsLeastFrom, RestsByLeast}

@@ -1,17 +1,19 @@
 -- Faults are gathered place by place, and stand in order.
-use Rattle.std.proofs.Common.{◌≡◌, ℕ, suc, ◌+◌, ◌-◌, ◌*◌, ◌<◌, ◌≤◌, true, false, List, [], ◌∷◌, ◌++◌, refl, sym, ap, ◌∙◌, inl, inr, arith, subst}
-use Rattle.std.specs.Prelude.{◌⊎◌, ◌↔◌}
+use Rattle.std.proofs.Common.{◌≡◌, ℕ, suc, Bool, length, get_or, take, replicate, ◌+◌, ◌-◌, ◌*◌, ◌<◌, ◌≤◌, true, false, List, [], ◌∷◌, ◌++◌, refl, sym, ap, ◌∙◌, inl, inr, arith, subst}
+use Rattle.std.specs.Prelude.{◌⊎◌, ◌↔◌, slice_set}
 use Rattle.std.specs.List.{Contains, AllByRecursion}
 use Rattle.std.specs.Cmp.{nat_cmp_is}
 use Rattle.std.specs.declared.cmp.Ordering.{Ordering}
 use Rattle.std.specs.declared.cmp.Ordering.TheVariants.{Less, Equal, Greater}
 use Rattle.std.specs.Ordering.{nat_cmp, ordering_then, is_lt}
-use Rattle.std.proofs.lemmas.Bool.{cases_lt}
+use Rattle.std.proofs.lemmas.Bool.{cases_lt, cases_eq, both_ways}
+use Rattle.std.proofs.lemmas.List.{take_more, get_or-set_same, get_or-set_other, get_or-replicate, length-replicate}
+use Rattle.std.proofs.Math.ListN.{get_or-eq_default}
 use Rattle.std.proofs.lemmas.List.Elements.{Contains-push, Contains-push_cases, Contains-append_left}
 use Rattle.lf_faults.specs.declared.fault.Parts.{Parts}
 use Rattle.lf_faults.specs.declared.fault.Parts.TheVariants.{Omit, Crash, Pause}
 use Rattle.lf_faults.specs.Faults.{IsFault, IsAscending, is_before, fault_cmp, step_of, rank_of, node_of, receiver_of}
-use Rattle.lf_cone.specs.Places.{place_in_step, place_of, IsGathered}
+use Rattle.lf_cone.specs.Places.{place_in_step, place_of, IsGathered, AreMarks}
 
 -- a comparison by its first difference
 first-less : (a b : ℕ) (rest : Ordering) → a < b → is_lt (ordering_then (nat_cmp a b) rest) ≡ true
@@ -129,3 +131,30 @@ module _ (P : Parts → Type 0) (faults : (f : Parts) → P f → IsFault f) whe
         ],
       );
   }
+
+-- the marks of faults, one after another
+pub marks-none : (places : List Bool) → ((k : ℕ) → get_or places k false ≡ false) → AreMarks [] places
+marks-none places none f is = (λ h. absurd (both_ways (get_or places (place_of f) false) (none (place_of f)) h), λ c. absurd (omega (arith, c.1)))
+
+pub marks-more : (xs : List Parts) (i : ℕ) (places : List Bool) (g : Parts) → i < length xs → g ≡ get_or xs i g → IsFault g → place_of g < length places
+    → AreMarks (take i xs) places → AreMarks (take (i + 1) xs) (slice_set places (place_of g) true)
+marks-more xs i places g inside at in_range below h f is =
+    let whole : take (i + 1) xs ≡ take i xs ++ g ∷ [] = take_more xs i g inside ∙ ap (λ x. take i xs ++ x ∷ []) (sym at) in
+    elim (cases_eq (place_of f) (place_of g)) [
+      | inl same ↦
+          let one : g ≡ f = place-one g f in_range is (sym same) in (
+            λ _. rw whole (subst (Contains (take i xs ++ g ∷ [])) one (Contains-push (take i xs) g)),
+            λ _. rw same (get_or-set_same places (place_of g) true false below),
+          )
+      | inr other ↦
+          let kept : get_or (slice_set places (place_of g) true) (place_of f) false ≡ get_or places (place_of f) false = get_or-set_other places (place_of g) (place_of f) true false other in (
+            λ e. rw whole (Contains-append_left (take i xs) (g ∷ []) f ((h f is).0 (sym kept ∙ e))),
+            λ c. kept ∙ (h f is).1 (elim (Contains-push_cases (take i xs) g f (rw whole at c)) [ inl old ↦ old | inr new ↦ absurd (other (ap place_of (sym new))) ]),
+          )
+    ]
+
+pub unmarked : (n k : ℕ) → get_or (replicate n false) k false ≡ false
+unmarked n k = elim (cases_lt k n) [
+  | inl there ↦ get_or-replicate n k false false there
+  | inr past ↦ get_or-eq_default (replicate n false) false {n = k} (omega (arith, past, length-replicate n false))
+]

@@ -11,7 +11,7 @@ use Rattle.lf_sim.specs.declared.schedule.Slot.{Slot}
 use Rattle.lf_sim.specs.Points.{ArrivesLater}
 use Rattle.lf_sim.specs.Runs.{World, is_up}
 use Rattle.lf_sim.specs.Schedules.{IsArriving}
-use Rattle.lf_sim.proofs.PointsLemmas.{IsRunning-up}
+use Rattle.lf_sim.proofs.Laws.{IsRunning-up}
 use Rattle.lf_outcome.specs.declared.point.Point.{Point}
 use Rattle.lf_cone.specs.Cones.{CanHear, IsHeard, IsReachOf, IsAtMost, Covers, IsClosed, IsSharp}
 use Rattle.lf_cone.specs.Sweeps.{IsRaised, SomeBelow, HeardAt, MaySend, KeepsTo, IsLeastFrom, PointAt}

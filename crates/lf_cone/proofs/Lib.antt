@@ -3,4 +3,5 @@ mod Covering
 mod Gathering
 mod HearingLemmas
 mod Light
+mod RequiredLemmas
 mod Sweeping

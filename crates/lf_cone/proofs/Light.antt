@@ -11,9 +11,7 @@ use Rattle.lf_sim.specs.declared.out.Stepped.{Stepped}
 use Rattle.lf_sim.specs.Outs.{note_to, nothing}
 use Rattle.lf_sim.specs.Points.{IsRunning}
 use Rattle.lf_sim.specs.Runs.{World, is_up, before_step, did, view, sent, inbox, letter}
-use Rattle.lf_sim.proofs.FaultTests.{omitted-contains, contains-omitted, woken-contains, contains-woken}
-use Rattle.lf_sim.proofs.RunsLemmas.{did-up, did-down, did-zero, sent-down, letters-each, letter-self, letter-elsewhere, letter-omitted, letter-comes, letter-silent}
-use Rattle.lf_sim.proofs.PointsLemmas.{IsRunning-up, up-IsRunning}
+use Rattle.lf_sim.proofs.Laws.{omitted-contains, contains-omitted, woken-contains, contains-woken, IsRunning-up, up-IsRunning, did-up, did-down, did-zero, sent-down, letters-each, letter-self, letter-elsewhere, letter-omitted, letter-comes, letter-silent}
 use Rattle.lf_cone.specs.Cones.{CanHear, IsHeard, IsClosed, IsLive, Supports, IsOutside, AgreesWithin}
 
 both_ways' : (a b : Bool) → (a ≡ true → b ≡ true) → (b ≡ true → a ≡ true) → a ≡ b

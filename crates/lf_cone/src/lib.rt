@@ -4,8 +4,11 @@
 mod delays;
 mod hearing;
 mod laws;
+mod marks;
 mod points;
+mod required;
 
 pub use delays::cone;
 pub use hearing::{is_closed, sharp};
 pub use laws::agree_everywhere;
+pub use required::{edges, put_edges};
