@@ -1,5 +1,5 @@
 -- Which faults are to be tried, place by place.
-use Rattle.std.proofs.Common.{◌≡◌, ◌≢◌, ℕ, ◌+◌, ◌-◌, ◌*◌, ◌<◌, ◌≤◌, true, false, List, [], ◌∷◌, ◌++◌, refl, sym, ap, ◌∙◌, inl, inr, arith, subst, get_or}
+use Rattle.std.proofs.Common.{◌≡◌, ◌≢◌, ℕ, ◌+◌, ◌-◌, ◌*◌, ◌<◌, ◌≤◌, true, false, List, length, [], ◌∷◌, ◌++◌, refl, sym, ap, ◌∙◌, inl, inr, arith, subst, get_or}
 use Rattle.std.specs.Prelude.{IsSome}
 use Rattle.std.specs.List.{Contains}
 use Rattle.std.proofs.lemmas.Bool.{both_ways}
@@ -8,9 +8,10 @@ use Rattle.lf_faults.specs.declared.fault.Parts.TheVariants.{Omit, Crash, Pause}
 use Rattle.lf_faults.specs.Faults.{IsFault, IsAscending, inserted}
 use Rattle.lf_faults.specs.Allowed.{Bounds, IsInLimits, IsAdmitted, IsAllowed, IsSubset, CanAdd}
 use Rattle.lf_faults.proofs.Allowing.{admitted-from_allowed, subset_allowed}
-use Rattle.lf_faults.proofs.Counts.{still-in}
+use Rattle.lf_faults.proofs.Counts.{still-in, length-inserted}
 use Rattle.lf_faults.proofs.Stepping.{fault-from_admitted}
 use Rattle.lf_sim.specs.Runs.{World, is_up, sent}
+use Rattle.lf_sim.proofs.Laws.{IsRunning-up}
 use Rattle.lf_cone.specs.Cones.{CanHear, IsHeard, Supports, IsRequired, AreRequired, IsLive}
 use Rattle.lf_cone.specs.Places.{place_in_step, place_of, IsGathered, MayTry, LivesBetween}
 use Rattle.lf_cone.proofs.Gathering.{place-one, gathered-none, gathered-push, gathered-leap}
@@ -157,12 +158,25 @@ module _ {State Note Fact : Type 0} (w : World State Note Fact) (faults : List P
     each = λ f. (λ c. ((h.members f).0 c).0, λ p. (h.members f).1 (p, late-place b last f (is-fault f p) (is-admitted f p) limits.last_omission short));
   }
 
-  -- to a set that isn't allowed nothing may be added
-  pub none_allowed : IsAscending faults → (IsAllowed b faults → ⊥) → AreRequired w faults b reach excluded []
-  none_allowed ascending none = record {
+  -- where no fault may be added, none is required
+  none_added : ((f : Parts) → CanAdd b faults f → ⊥) → AreRequired w faults b reach excluded []
+  none_added none = record {
     ascending = tt;
-    each = λ f. (
-        λ c. absurd (omega (arith, c.1)),
-        λ p. absurd (none (subset_allowed b (inserted f faults) faults p.allowed.1 ascending (λ g c. still-in f faults g c))),
-      );
+    each = λ f. (λ c. absurd (omega (arith, c.1)), λ p. absurd (none f p.allowed));
   }
+
+  pub none_allowed : IsAscending faults → (IsAllowed b faults → ⊥) → AreRequired w faults b reach excluded []
+  none_allowed ascending none = none_added (λ f can. none (subset_allowed b (inserted f faults) faults can.1 ascending (λ g c. still-in f faults g c)))
+
+  pub none_left : b.budget ≤ length faults → AreRequired w faults b reach excluded []
+  none_left full = none_added (λ f can. omega (arith, full, can.1.budget, length-inserted f faults))
+
+  pub moved : (fs : List Parts) (k l : ℕ) → k ≡ l → Gathered k fs → Gathered l fs
+  moved fs k l e h = subst (λ x. Gathered x fs) e h
+
+  -- a crash could change something where the node is up at a later step within the reach
+  pub crash-lives : (n t end : ℕ) → LivesBetween w faults reach n t end → Supports w faults reach (Crash n t)
+  crash-lives n t end h = (h.0, h.1, h.3)
+
+  pub lives-crash : (n t end : ℕ) → w.horizon < end → Supports w faults reach (Crash n t) → LivesBetween w faults reach n t end
+  lives-crash n t end far h = (h.0, h.1, omega (arith, (IsRunning-up w faults n h.0 h.2.0).last, far), h.2)

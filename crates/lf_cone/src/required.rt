@@ -58,6 +58,9 @@ pub fn put_edges<M: Machine>(
 {
     found.clear();
     let set = run.set();
+    if set.len() >= setting.spec.budget() as usize {
+        return Ok(());
+    }
     if !admits(&setting.spec, &set) {
         return Ok(());
     }
@@ -128,7 +131,7 @@ fn put_omissions_of<M: Machine>(
 {
     for to in 0..setting.spec.nodes() {
         if from != to && is_heard(setting, run, view, from, to, step) {
-            put(setting, view, Fault::omit(from, to, step).unwrap(), found)?;
+            put(setting, view, omission(from, to, step), found)?;
         }
     }
     Ok(())
@@ -152,7 +155,7 @@ fn put_crashes<M: Machine>(
 {
     for node in 0..setting.spec.nodes() {
         if lives(setting, view, node, step, setting.spec.horizon() + 1) {
-            put(setting, view, Fault::crash(node, step).unwrap(), found)?;
+            put(setting, view, crash(node, step), found)?;
         }
     }
     Ok(())
@@ -176,10 +179,34 @@ fn put_pauses<M: Machine>(
 {
     for node in 0..setting.spec.nodes() {
         if lives(setting, view, node, step, step + setting.spec.pause_length()) {
-            put(setting, view, Fault::pause(node, step).unwrap(), found)?;
+            put(setting, view, pause(node, step), found)?;
         }
     }
     Ok(())
+}
+
+/// The loss of what a node sends to another at a step.
+fn omission(from: u32, to: u32, step: u32) -> Fault
+    requires { IsFault (Omit from to step) }
+    ensures { result ≡ Omit from to step }
+{
+    Fault::omit(from, to, step).unwrap()
+}
+
+/// The crash of a node at a step.
+fn crash(node: u32, step: u32) -> Fault
+    requires { IsFault (Crash node step) }
+    ensures { result ≡ Crash node step }
+{
+    Fault::crash(node, step).unwrap()
+}
+
+/// The pause of a node from a step on.
+fn pause(node: u32, step: u32) -> Fault
+    requires { IsFault (Pause node step) }
+    ensures { result ≡ Pause node step }
+{
+    Fault::pause(node, step).unwrap()
 }
 
 /// Puts a fault that could change something, unless it is excluded or may not be added.
