@@ -6,7 +6,8 @@ use Rattle.lf_faults.specs.declared.fault.Parts.{Parts}
 use Rattle.lf_faults.specs.declared.fault.Parts.TheVariants.{Omit, Crash, Pause}
 use Rattle.lf_faults.specs.Faults.{IsAscending, inserted}
 use Rattle.lf_faults.specs.Allowed.{Bounds, IsAdmitted, IsAllowed, IsSubset, CanAdd, HasRoom, is_omission, is_crash, is_pause, is_crash_of, is_pause_of}
-use Rattle.lf_faults.proofs.Members.{each-in, each-from, counted, uncounted, one-is, none-is, count-cons}
+use Rattle.lf_list.proofs.Laws.{each-in, each-from}
+use Rattle.lf_faults.proofs.Members.{counted, uncounted, one-is, none-is, count-cons}
 use Rattle.lf_faults.proofs.Orders.{each-inserted, each-from_inserted, inserted-ascending, ascending-from_inserted}
 use Rattle.lf_faults.proofs.Counts.{count-inserted, length-inserted, still-in, at_most, fresh, total, total-zero, total-one, total_less, count-total}
 
@@ -30,7 +31,9 @@ module _ (b : Bounds) (fs : List Parts) (allowed : IsAllowed b fs) where
   allowed_more (Crash n t) is none few room = record {
     ascending = inserted-ascending (Crash n t) fs none allowed.ascending;
     admitted = each-inserted (IsAdmitted b) (Crash n t) fs is allowed.admitted;
-    crash_once = λ k h. once_more _ _ n k (count-inserted (is_crash_of k) (Crash n t) fs) (allowed.crash_once k h) (λ e. ap (λ x. count_by (is_crash_of x) fs) e ∙ room.0);
+    crash_once =
+        λ k h. once_more _ _ n k (count-inserted (is_crash_of k) (Crash n t) fs) (allowed.crash_once k h)
+        (λ e. ap (λ x. count_by (is_crash_of x) fs) e ∙ room.0);
     pause_once = λ k h. omega (arith, count-inserted (is_pause_of k) (Crash n t) fs, allowed.pause_once k h);
     crashes = omega (arith, count-inserted is_crash (Crash n t) fs, room.1);
     pauses = omega (arith, count-inserted is_pause (Crash n t) fs, allowed.pauses);
@@ -40,7 +43,9 @@ module _ (b : Bounds) (fs : List Parts) (allowed : IsAllowed b fs) where
     ascending = inserted-ascending (Pause n t) fs none allowed.ascending;
     admitted = each-inserted (IsAdmitted b) (Pause n t) fs is allowed.admitted;
     crash_once = λ k h. omega (arith, count-inserted (is_crash_of k) (Pause n t) fs, allowed.crash_once k h);
-    pause_once = λ k h. once_more _ _ n k (count-inserted (is_pause_of k) (Pause n t) fs) (allowed.pause_once k h) (λ e. ap (λ x. count_by (is_pause_of x) fs) e ∙ room.0);
+    pause_once =
+        λ k h. once_more _ _ n k (count-inserted (is_pause_of k) (Pause n t) fs) (allowed.pause_once k h)
+        (λ e. ap (λ x. count_by (is_pause_of x) fs) e ∙ room.0);
     crashes = omega (arith, count-inserted is_crash (Pause n t) fs, allowed.crashes);
     pauses = omega (arith, count-inserted is_pause (Pause n t) fs, room.1);
     budget = omega (arith, length-inserted (Pause n t) fs, few);
@@ -130,8 +135,12 @@ module _ (b : Bounds) (fs gs : List Parts) (small : IsAllowed b fs) (large : IsA
       let at = total_less (λ k. count_by (is_crash_of k) fs) (λ k. count_by (is_crash_of k) gs) b.nodes (omega (arith, h, of_small, of_large)) in
       let found = counted (is_crash_of at.0) gs (omega (arith, at.2)) in
       let none : count_by (is_crash_of at.0) fs ≡ 0 = omega (arith, at.2, large.crash_once at.0 at.1) in
-      let other : Contains fs found.0 → ⊥ = λ k. uncounted (is_crash_of at.0) fs none found.0 k found.2 in
-      (found.0, found.1, other, allowed_more b fs small found.0 (each-in (IsAdmitted b) gs large.admitted found.0 found.1) other few (room at.0 none found.0 found.2))
+      let other : Contains fs found.0 → ⊥ = λ k. uncounted (is_crash_of at.0) fs none found.0 k found.2 in (
+        found.0,
+        found.1,
+        other,
+        allowed_more b fs small found.0 (each-in (IsAdmitted b) gs large.admitted found.0 found.1) other few (room at.0 none found.0 found.2),
+      )
     where
       room : (n : ℕ) → count_by (is_crash_of n) fs ≡ 0 → (f : Parts) → is_crash_of n f ≡ true → HasRoom b fs f
       room n none (Omit k m t) e = tt
@@ -145,8 +154,12 @@ module _ (b : Bounds) (fs gs : List Parts) (small : IsAllowed b fs) (large : IsA
       let at = total_less (λ k. count_by (is_pause_of k) fs) (λ k. count_by (is_pause_of k) gs) b.nodes (omega (arith, h, of_small, of_large)) in
       let found = counted (is_pause_of at.0) gs (omega (arith, at.2)) in
       let none : count_by (is_pause_of at.0) fs ≡ 0 = omega (arith, at.2, large.pause_once at.0 at.1) in
-      let other : Contains fs found.0 → ⊥ = λ k. uncounted (is_pause_of at.0) fs none found.0 k found.2 in
-      (found.0, found.1, other, allowed_more b fs small found.0 (each-in (IsAdmitted b) gs large.admitted found.0 found.1) other few (room at.0 none found.0 found.2))
+      let other : Contains fs found.0 → ⊥ = λ k. uncounted (is_pause_of at.0) fs none found.0 k found.2 in (
+        found.0,
+        found.1,
+        other,
+        allowed_more b fs small found.0 (each-in (IsAdmitted b) gs large.admitted found.0 found.1) other few (room at.0 none found.0 found.2),
+      )
     where
       room : (n : ℕ) → count_by (is_pause_of n) fs ≡ 0 → (f : Parts) → is_pause_of n f ≡ true → HasRoom b fs f
       room n none (Omit k m t) e = tt
@@ -163,7 +176,8 @@ module _ (b : Bounds) (fs gs : List Parts) (small : IsAllowed b fs) (large : IsA
   ]
 
 -- what `fits` tests
-pub can_add-iff : (b : Bounds) (fs : List Parts) (f : Parts) → IsAllowed b fs → IsAdmitted b f → (Contains fs f → ⊥) → length fs < b.budget → (HasRoom b fs f → CanAdd b fs f) × (CanAdd b fs f → HasRoom b fs f)
+pub can_add-iff : (b : Bounds) (fs : List Parts) (f : Parts) → IsAllowed b fs → IsAdmitted b f → (Contains fs f → ⊥) → length fs < b.budget
+    → (HasRoom b fs f → CanAdd b fs f) × (CanAdd b fs f → HasRoom b fs f)
 can_add-iff b fs f allowed is none few = (λ room. (none, allowed_more b fs allowed f is none few room), λ can. room-from_allowed b fs f can.1)
 
 pub subset-inserted : (f : Parts) (fs : List Parts) → IsSubset fs (inserted f fs)

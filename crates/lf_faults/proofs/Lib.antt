@@ -1,12 +1,16 @@
-pub mod Allowing
-pub mod Counts
-pub mod Filling
-pub mod Members
-pub mod Nexts
-pub mod Orders
-pub mod PlacesLemmas
-pub mod Stepping
-pub mod Texts
-pub mod TextsBytes
-pub mod TextsDigits
-pub mod Walks
+mod Allowing
+mod Counts
+mod Deciding
+mod Ending
+mod Filling
+pub mod Laws
+mod Members
+mod Nexts
+mod Orders
+mod PlacesLemmas
+mod Sameness
+mod Stepping
+mod Texts
+mod TextsBytes
+mod TextsDigits
+mod Walks

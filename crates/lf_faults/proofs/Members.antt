@@ -1,37 +1,9 @@
--- Members of a list, element by element.
-use Rattle.std.proofs.Common.{◌≡◌, ℕ, ◌+◌, cond, zero-add, zero, suc, ◌<◌, Bool, true, false, List, [], ◌∷◌, ◌++◌, length, refl, sym, ap, ◌∙◌, subst, arith, inl, inr, get_or}
-use Rattle.std.specs.Prelude.{◌⊎◌}
+-- What holds of each element of a list, and what a test counts.
+use Rattle.std.proofs.Common.{◌≡◌, ℕ, ◌+◌, cond, zero-add, ◌<◌, ◌≤◌, Bool, true, false, List, [], ◌∷◌, ◌++◌, refl, sym, ap, ◌∙◌, arith, inl, inr}
 use Rattle.std.specs.List.{Contains, AllByRecursion, count_by}
 use Rattle.std.proofs.lemmas.Bool.{cases_Bool}
 use Rattle.std.proofs.lemmas.List.Sums.{sum_by-cons}
-
-pub none-in : {X : Type 0} (x : X) → Contains [] x → ⊥
-none-in x h = absurd (omega (arith, h.1))
-
-pub Contains-first : {X : Type 0} (x : X) (xs : List X) → Contains (x ∷ xs) x
-Contains-first x xs = (0, omega arith, refl)
-
-pub Contains-more : {X : Type 0} (y : X) (xs : List X) (x : X) → Contains xs x → Contains (y ∷ xs) x
-Contains-more y xs x h = (suc h.0, omega (arith, h.1), h.2)
-
-cases_place : {X : Type 0} (y : X) (xs : List X) (x : X) (k : ℕ) → k < length (y ∷ xs) → get_or (y ∷ xs) k x ≡ x → (y ≡ x) ⊎ Contains xs x
-cases_place y xs x zero h e = inl e
-cases_place y xs x (suc k) h e = inr (k, omega (arith, h), e)
-
-pub cases_in : {X : Type 0} (y : X) (xs : List X) (x : X) → Contains (y ∷ xs) x → (y ≡ x) ⊎ Contains xs x
-cases_in y xs x h = cases_place y xs x h.0 h.1 h.2
-
--- what holds of each element
-pub each-in : {X : Type 0} (P : X → Type 0) (xs : List X) → AllByRecursion P xs → (x : X) → Contains xs x → P x
-each-in P [] a x h = absurd (none-in x h)
-each-in P (y ∷ ys) a x h = elim (cases_in y ys x h) [
-  | inl same ↦ subst P same a.0
-  | inr later ↦ each-in P ys a.1 x later
-]
-
-pub each-from : {X : Type 0} (P : X → Type 0) (xs : List X) → ((x : X) → Contains xs x → P x) → AllByRecursion P xs
-each-from P [] h = tt
-each-from P (y ∷ ys) h = (h y (Contains-first y ys), each-from P ys (λ x k. h x (Contains-more y ys x k)))
+use Rattle.lf_list.proofs.Laws.{none-in, Contains-first, Contains-more, cases_in}
 
 pub each-append : {X : Type 0} (P : X → Type 0) (xs ys : List X) → AllByRecursion P xs → AllByRecursion P ys → AllByRecursion P (xs ++ ys)
 each-append P [] ys a b = b
@@ -85,3 +57,25 @@ uncounted p (y ∷ ys) h x k e = elim (cases_Bool (p y)) [
     | inr later ↦ uncounted p ys (sym (count-isnt p y ys isnt) ∙ h) x later e
   ]
 ]
+
+-- where a test counts one at the most, two that pass are one
+pub counted_once : {X : Type 0} (p : X → Bool) (xs : List X) → count_by p xs ≤ 1 → (x y : X) → Contains xs x → Contains xs y → p x ≡ true → p y ≡ true → x ≡ y
+counted_once p [] few x y here there passes_x passes_y = absurd (none-in x here)
+counted_once {X = X} p (z ∷ zs) few x y here there passes_x passes_y = elim (cases_Bool (p z)) [
+  | inr isnt ↦ counted_once p zs (omega (arith, few, count-isnt p z zs isnt)) x y (later x here passes_x isnt) (later y there passes_y isnt) passes_x passes_y
+  | inl is ↦
+      let rest : count_by p zs ≡ 0 = omega (arith, few, count-is p z zs is) in
+      sym (first x here passes_x rest) ∙ first y there passes_y rest
+]
+  where
+    first : (x : X) → Contains (z ∷ zs) x → p x ≡ true → count_by p zs ≡ 0 → z ≡ x
+    first x here passes rest = elim (cases_in z zs x here) [
+      | inl same ↦ same
+      | inr after ↦ absurd (uncounted p zs rest x after passes)
+    ]
+
+    later : (x : X) → Contains (z ∷ zs) x → p x ≡ true → p z ≡ false → Contains zs x
+    later x here passes isnt = elim (cases_in z zs x here) [
+      | inl same ↦ let but : p z ≡ true = ap p same ∙ passes in cc
+      | inr after ↦ after
+    ]

@@ -13,10 +13,13 @@ use Rattle.std.proofs.lemmas.Bool.{cond_both, both_ways, false_from_ne_true}
 use Rattle.lf_faults.specs.declared.fault.Parts.{Parts}
 use Rattle.lf_faults.specs.declared.fault.Parts.TheVariants.{Omit, Crash, Pause}
 use Rattle.lf_faults.specs.Faults.{step_of, rank_of, node_of, receiver_of, fault_cmp, is_before, IsAscending, inserted, set_cmp, set_is_before}
-use Rattle.lf_faults.proofs.Members.{Contains-first, Contains-more, each-in, each-left, each-weaker}
+use Rattle.lf_list.proofs.Laws.{Contains-first, Contains-more, each-in}
+use Rattle.lf_faults.proofs.Members.{each-left, each-weaker}
 
 pub fault_total : IsTotalOrder fault_cmp
-fault_total = then_total (on_total step_of nat_cmp_total) (then_total (on_total rank_of nat_cmp_total) (then_total (on_total node_of nat_cmp_total) (on_total receiver_of nat_cmp_total)))
+fault_total =
+    then_total (on_total step_of nat_cmp_total)
+    (then_total (on_total rank_of nat_cmp_total) (then_total (on_total node_of nat_cmp_total) (on_total receiver_of nat_cmp_total)))
 
 pub set_total : IsTotalOrder set_cmp
 set_total = then_total (on_total length nat_cmp_total) (lists_total fault_total)
@@ -75,7 +78,8 @@ cases_Ordering Less = inl refl
 cases_Ordering Equal = inr (inl refl)
 cases_Ordering Greater = inr (inr refl)
 
-cases_total : {K : Type 0} (R : K → K → Ordering) → IsTotalOrder R → ((x y : K) → R x y ≡ Equal → x ≡ y) → (x y : K) → (is_lt (R x y) ≡ true) ⊎ ((x ≡ y) ⊎ (is_lt (R y x) ≡ true))
+cases_total : {K : Type 0} (R : K → K → Ordering) → IsTotalOrder R → ((x y : K) → R x y ≡ Equal → x ≡ y) → (x y : K)
+    → (is_lt (R x y) ≡ true) ⊎ ((x ≡ y) ⊎ (is_lt (R y x) ≡ true))
 cases_total R total exact x y = elim (cases_Ordering (R x y)) [
   | inl less ↦ inl (ap is_lt less)
   | inr rest ↦ elim rest [
@@ -129,7 +133,8 @@ not_before_trans g f h a b = false_from_ne_true (is_before h g) (λ k. elim (bef
 -- an inserted fault
 pub each-inserted : (P : Parts → Type 0) (f : Parts) (gs : List Parts) → P f → AllByRecursion P gs → AllByRecursion P (inserted f gs)
 each-inserted P f [] p a = (p, tt)
-each-inserted P f (g ∷ gs) p a = cond_both (is_before g f) (g ∷ inserted f gs) (f ∷ g ∷ gs) (AllByRecursion P) (λ _. (a.0, each-inserted P f gs p a.1)) (λ _. (p, a))
+each-inserted P f (g ∷ gs) p a =
+    cond_both (is_before g f) (g ∷ inserted f gs) (f ∷ g ∷ gs) (AllByRecursion P) (λ _. (a.0, each-inserted P f gs p a.1)) (λ _. (p, a))
 
 pub each-from_inserted : (P : Parts → Type 0) (f : Parts) (gs : List Parts) → AllByRecursion P (inserted f gs) → P f × AllByRecursion P gs
 each-from_inserted P f [] a = (a.0, tt)

@@ -1,8 +1,10 @@
 -- A set's six places, with one fault more.
-use Rattle.std.proofs.Common.{◌≡◌, ℕ, zero, suc, ◌+◌, ◌-◌, ◌<◌, ◌≤◌, Bool, List, [], ◌∷◌, ◌++◌, length, set, take, drop, replicate, refl, sym, ap, ◌∙◌, subst, inl, inr, arith, one-add, append_assoc}
+use Rattle.std.proofs.Common.{◌≡◌, ℕ, zero, suc, ◌+◌, ◌-◌, ◌<◌, ◌≤◌, Bool, List, [], ◌∷◌, ◌++◌, length, set, take}
+use Rattle.std.proofs.Common.{drop, replicate, refl, sym, ap, ◌∙◌, subst, inl, inr, arith, one-add, append_assoc}
 use Rattle.std.specs.List.{prefix_len}
 use Rattle.std.proofs.lemmas.Bool.{cases_Bool, cond_both}
-use Rattle.std.proofs.lemmas.List.{length-drop, length-take, drop_all, append-nil, take_at, length-take-le, take-append-drop, take-replicate, take-take, length-replicate, drop_at, length-append}
+use Rattle.std.proofs.lemmas.List.{length-drop, length-take, drop_all, append-nil, take_at, length-take-le, take-append-drop}
+use Rattle.std.proofs.lemmas.List.{take-replicate, take-take, length-replicate, drop_at, length-append}
 use Rattle.std.proofs.Math.Seq.{take-append-add}
 use borrow.Rule.Slice.PartMut.{put_mid}
 use Rattle.lf_faults.specs.declared.fault.Parts.{Parts}
@@ -12,7 +14,8 @@ use Rattle.lf_faults.specs.Places.{FillsSix}
 use Rattle.lf_faults.proofs.Orders.{ascending-left}
 
 -- where a fault is inserted
-pub inserted-is : (f : Parts) (fs : List Parts) → inserted f fs ≡ take (prefix_len (λ g. is_before g f) fs) fs ++ f ∷ drop (prefix_len (λ g. is_before g f) fs) fs
+pub inserted-is : (f : Parts) (fs : List Parts)
+    → inserted f fs ≡ take (prefix_len (λ g. is_before g f) fs) fs ++ f ∷ drop (prefix_len (λ g. is_before g f) fs) fs
 inserted-is f [] = refl
 inserted-is f (g ∷ gs) = elim (cases_Bool (is_before g f)) [
   | inl before ↦ rw (before, one-add) (ap (λ xs. g ∷ xs) (inserted-is f gs))
@@ -27,7 +30,8 @@ one_left (y ∷ z ∷ xs) ys zero x h = absurd (omega arith)
 one_left (y ∷ xs) ys (suc n) x h = one_left xs ys n x (omega arith)
 
 -- a tail that is turned by one, with its new first element replaced
-pub shifted : {A : Type 0} (xs tail turned : List A) (at : ℕ) (x : A) → at < length xs → tail ≡ drop at xs → turned ≡ drop (length tail - 1) tail ++ take (length tail - 1) tail
+pub shifted : {A : Type 0} (xs tail turned : List A) (at : ℕ) (x : A) → at < length xs → tail ≡ drop at xs
+    → turned ≡ drop (length tail - 1) tail ++ take (length tail - 1) tail
     → put_mid at (length xs - at) xs (set turned 0 x) ≡ take at xs ++ x ∷ take (length xs - 1 - at) (drop at xs)
 shifted xs tail turned at x h e is =
     let one : length (drop at xs) ≡ suc (length (drop at xs) - 1) = omega (arith, length-drop at xs) in
@@ -41,6 +45,11 @@ one_more : {A : Type 0} (xs front back spare : List A) (f : A) (at k : ℕ) → 
     → take at xs ++ f ∷ take (length back + k) (drop at xs) ≡ (front ++ f ∷ back) ++ take k spare
 one_more xs front back spare f at k split here =
     rw (split, take_at front (back ++ spare) at here, drop_at front (back ++ spare) at here, take-append-add back spare k, append_assoc) refl
+
+-- a set has at most six faults
+pub at_most_six : (count : ℕ) (faults now : List Parts) → FillsSix count faults → take count faults ≡ now → length now ≤ 6
+at_most_six count faults now fills view =
+    omega (arith, fills.few, sym (ap length view), length-take-le count faults (omega (arith, fills.few, fills.six)))
 
 -- what a set's places are with one fault more
 module _ (count : ℕ) (faults : List Parts) (f : Parts) (new : List Parts) (fills : FillsSix count faults) where
@@ -68,7 +77,9 @@ module _ (count : ℕ) (faults : List Parts) (f : Parts) (new : List Parts) (fil
     pub more_fills : FillsSix (count + 1) new
     more_fills = let left : 5 - count ≡ 6 - (count + 1) = omega arith in record {
       few = omega arith;
-      six = rw parts (length-append (take at (take count faults) ++ f ∷ drop at (take count faults)) (take (5 - count) (drop count faults)) ∙ omega (arith, long, length-take (5 - count) (drop count faults), length-drop count faults, fills.six));
+      six = rw parts
+          (length-append (take at (take count faults) ++ f ∷ drop at (take count faults)) (take (5 - count) (drop count faults))
+          ∙ omega (arith, long, length-take (5 - count) (drop count faults), length-drop count faults, fills.six));
       rest = rw parts (drop_at (take at (take count faults) ++ f ∷ drop at (take count faults)) (take (5 - count) (drop count faults)) (count + 1) long)
           ∙ (ap (take (5 - count)) fills.rest ∙ (take-replicate (5 - count) (6 - count) filler (omega arith) ∙ ap (λ n. replicate n filler) left));
     }
@@ -78,7 +89,8 @@ place_early p [] = omega arith
 place_early p (f ∷ fs) = cond_both (p f) (1 + prefix_len p fs) 0 (λ n. n ≤ suc (length fs)) (λ _. omega (arith, place_early p fs)) (λ _. omega arith)
 
 -- what a set is after an insert
-module _ (count : ℕ) (faults now : List Parts) (f : Parts) (at : ℕ) (fills : FillsSix count faults) (view : take count faults ≡ now) (place : at ≡ prefix_len (λ g. is_before g f) now) where
+module _ (count : ℕ) (faults now : List Parts) (f : Parts) (at : ℕ) (fills : FillsSix count faults) (view : take count faults ≡ now)
+    (place : at ≡ prefix_len (λ g. is_before g f) now) where
   pub place_within : at ≤ count
   place_within = omega (arith, place, place_early (λ g. is_before g f) now, sym (ap length view), few count faults f faults fills)
 
@@ -92,7 +104,8 @@ module _ (count : ℕ) (faults now : List Parts) (f : Parts) (at : ℕ) (fills :
     insert_fills = more_fills count faults f new fills room at place_within is
 
 -- a set's first faults
-module _ (count : ℕ) (faults now : List Parts) (fills : FillsSix count faults) (view : take count faults ≡ now) (ascending : IsAscending now) (n : ℕ) (few : n ≤ length now) (new : List Parts) (is : new ≡ take n faults ++ replicate (6 - n) filler) where
+module _ (count : ℕ) (faults now : List Parts) (fills : FillsSix count faults) (view : take count faults ≡ now) (ascending : IsAscending now) (n : ℕ)
+    (few : n ≤ length now) (new : List Parts) (is : new ≡ take n faults ++ replicate (6 - n) filler) where
   early : n ≤ count
   early = omega (arith, few, sym (ap length view), length-take-le count faults (omega (arith, fills.few, fills.six)))
 

@@ -1,5 +1,6 @@
 -- Two faults never share a text, and what a reader of texts gives.
-use Rattle.std.proofs.Common.{◌≡◌, ◌≢◌, ℕ, ◌<◌, ◌≤◌, true, false, List, ◌∷◌, ◌++◌, codes, Option, None, Some, IsSome, IfSome, refl, sym, ap, subst, ◌∙◌, arith, get_or}
+use Rattle.std.proofs.Common.{◌≡◌, ◌≢◌, ℕ, ◌<◌, ◌≤◌, true, false, List, ◌∷◌, ◌++◌, codes, Option, None}
+use Rattle.std.proofs.Common.{Some, IsSome, IfSome, refl, sym, ap, subst, ◌∙◌, arith, get_or}
 use Rattle.std.proofs.lemmas.Fmt.{decimal_injective}
 use Rattle.std.specs.Fmt.{decimal}
 use Rattle.lf_faults.specs.declared.fault.Parts.{Parts}
@@ -38,7 +39,8 @@ node_and_step m n s t m_low n_low s_low t_low same =
     let parts = digit_parts m n (32 ∷ 64 ∷ decimal s) (32 ∷ 64 ∷ decimal t) m_low n_low same in
     (parts.0, decimal_injective s t (omega arith) (omega arith) (after_two 32 64 (decimal s) (decimal t) parts.1))
 
-same_omission : (a b m n s t : ℕ) → a < 10 → b < 10 → m < 10 → n < 10 → s < 100 → t < 100 → spelling (Omit a m s) ≡ spelling (Omit b n t) → Omit a m s ≡ Omit b n t
+same_omission : (a b m n s t : ℕ) → a < 10 → b < 10 → m < 10 → n < 10 → s < 100 → t < 100 → spelling (Omit a m s) ≡ spelling (Omit b n t)
+    → Omit a m s ≡ Omit b n t
 same_omission a b m n s t a_low b_low m_low n_low s_low t_low same =
     let rest = after_word 111 109 105 116 32 (decimal a ++ (62 ∷ node_at_step m s)) (decimal b ++ (62 ∷ node_at_step n t)) same in
     let first = digit_parts a b (62 ∷ node_at_step m s) (62 ∷ node_at_step n t) a_low b_low rest in
@@ -80,7 +82,8 @@ pub spelling_injective : (f g : Parts) → IsFault f → IsFault g → spelling 
 spelling_injective f g f_fault g_fault same = same_short f g (short_from_fault f f_fault) (short_from_fault g g_fault) same
 
 -- what a constructor of faults makes of the parts of a text
-pub reads_made : (text : List ℕ) (f : Parts) (made : Option Parts) → IsShort f → text ≡ spelling f → ((IsSome made → IsFault f) × (IsFault f → IsSome made)) → IfSome made (λ g. g ≡ f) → Reads text made
+pub reads_made : (text : List ℕ) (f : Parts) (made : Option Parts) → IsShort f → text ≡ spelling f → ((IsSome made → IsFault f) × (IsFault f → IsSome made))
+    → IfSome made (λ g. g ≡ f) → Reads text made
 reads_made text f None short is some value = λ g fault same.
     let one : f ≡ g = same_short f g short (short_from_fault g fault) (sym is ∙ same) in
     let none : false ≡ true = some.1 (subst IsFault (sym one) fault) in
@@ -88,14 +91,16 @@ reads_made text f None short is some value = λ g fault same.
 reads_made text f (Some g) short is some value = (subst IsFault (sym value) (some.0 refl), is ∙ ap spelling (sym value))
 
 -- the one fault of the text
-pub reads_fault : (text : List ℕ) (read : Option Parts) → Reads text read → (f : Parts) → IsFault f → (read ≡ Some f → text ≡ spelling f) × (text ≡ spelling f → read ≡ Some f)
+pub reads_fault : (text : List ℕ) (read : Option Parts) → Reads text read → (f : Parts) → IsFault f
+    → (read ≡ Some f → text ≡ spelling f) × (text ≡ spelling f → read ≡ Some f)
 reads_fault text None h f fault = (λ same. cc, λ same. absurd (h f fault same))
 reads_fault text (Some g) h f fault = (
   (λ same. let one : g ≡ f = cc in h.1 ∙ ap spelling one),
   (λ same. ap Some (spelling_injective g f h.0 fault (sym h.1 ∙ same))),
 )
 
-pub reads_some : (text : List ℕ) (read : Option Parts) → Reads text read → (IsSome read → (f : Parts) × IsFault f × (text ≡ spelling f)) × (((f : Parts) × IsFault f × (text ≡ spelling f)) → IsSome read)
+pub reads_some : (text : List ℕ) (read : Option Parts) → Reads text read
+    → (IsSome read → (f : Parts) × IsFault f × (text ≡ spelling f)) × (((f : Parts) × IsFault f × (text ≡ spelling f)) → IsSome read)
 reads_some text None h = (λ some. let never : false ≡ true = some in absurd (cc), λ w. absurd (h w.0 w.1 w.2))
 reads_some text (Some g) h = (λ some. (g, h.0, h.1), λ w. refl)
 
@@ -107,16 +112,21 @@ reads_in_range text (Some g) h = h.0
 pub reads_same : (text bytes : List ℕ) (read : Option Parts) → bytes ≡ text → Reads bytes read → Reads text read
 reads_same text bytes read same h = let P : List ℕ → Type 0 = λ bs. Reads bs read in subst P same h
 
-pub reads_crash : (text bytes rest : List ℕ) (node step : ℕ) (made : Option Parts) → bytes ≡ text → bytes ≡ codes "crash " ++ rest → (node < 10) × (1 ≤ step) × (step < 100) × (rest ≡ node_at_step node step) → ((IsSome made → IsFault (Crash node step)) × (IsFault (Crash node step) → IsSome made)) → IfSome made (λ g. g ≡ Crash node step) → Reads text made
+pub reads_crash : (text bytes rest : List ℕ) (node step : ℕ) (made : Option Parts) → bytes ≡ text → bytes ≡ codes "crash " ++ rest
+    → (node < 10) × (1 ≤ step) × (step < 100) × (rest ≡ node_at_step node step)
+    → ((IsSome made → IsFault (Crash node step)) × (IsFault (Crash node step) → IsSome made)) → IfSome made (λ g. g ≡ Crash node step) → Reads text made
 reads_crash text bytes rest node step made same is h some value =
     reads_made text (Crash node step) made (h.0, h.2) (sym same ∙ is ∙ ap (λ ds. codes "crash " ++ ds) h.3) some value
 
-pub reads_pause : (text bytes rest : List ℕ) (node step : ℕ) (made : Option Parts) → bytes ≡ text → bytes ≡ codes "pause " ++ rest → (node < 10) × (1 ≤ step) × (step < 100) × (rest ≡ node_at_step node step) → ((IsSome made → IsFault (Pause node step)) × (IsFault (Pause node step) → IsSome made)) → IfSome made (λ g. g ≡ Pause node step) → Reads text made
+pub reads_pause : (text bytes rest : List ℕ) (node step : ℕ) (made : Option Parts) → bytes ≡ text → bytes ≡ codes "pause " ++ rest
+    → (node < 10) × (1 ≤ step) × (step < 100) × (rest ≡ node_at_step node step)
+    → ((IsSome made → IsFault (Pause node step)) × (IsFault (Pause node step) → IsSome made)) → IfSome made (λ g. g ≡ Pause node step) → Reads text made
 reads_pause text bytes rest node step made same is h some value =
     reads_made text (Pause node step) made (h.0, h.2) (sym same ∙ is ∙ ap (λ ds. codes "pause " ++ ds) h.3) some value
 
 -- what a text of another form reads as: no fault
-pub no_omission : (bs rest : List ℕ) (d : ℕ) → d < 10 → bs ≡ decimal d ++ rest → ((more : List ℕ) → rest ≢ 62 ∷ more) → (f : Parts) → IsFault f → codes "omit " ++ bs ≢ spelling f
+pub no_omission : (bs rest : List ℕ) (d : ℕ) → d < 10 → bs ≡ decimal d ++ rest → ((more : List ℕ) → rest ≢ 62 ∷ more) → (f : Parts) → IsFault f
+    → codes "omit " ++ bs ≢ spelling f
 no_omission bs rest d d_low is none (Omit from to step) fault same =
     let after = after_word 111 109 105 116 32 bs (decimal from ++ (62 ∷ node_at_step to step)) same in
     let parts = digit_parts d from rest (62 ∷ node_at_step to step) d_low (omega arith) (sym is ∙ after) in
@@ -124,7 +134,8 @@ no_omission bs rest d d_low is none (Omit from to step) fault same =
 no_omission bs rest d d_low is none (Crash node step) fault same = omega (arith, ap (λ ds. get_or ds 0 0) same)
 no_omission bs rest d d_low is none (Pause node step) fault same = omega (arith, ap (λ ds. get_or ds 0 0) same)
 
-pub no_receiver : (bs rest more : List ℕ) (d : ℕ) → d < 10 → bs ≡ decimal d ++ rest → rest ≡ 62 ∷ more → ((node step : ℕ) → node < 10 → 1 ≤ step → step < 100 → more ≢ node_at_step node step) → (f : Parts) → IsFault f → codes "omit " ++ bs ≢ spelling f
+pub no_receiver : (bs rest more : List ℕ) (d : ℕ) → d < 10 → bs ≡ decimal d ++ rest → rest ≡ 62 ∷ more
+    → ((node step : ℕ) → node < 10 → 1 ≤ step → step < 100 → more ≢ node_at_step node step) → (f : Parts) → IsFault f → codes "omit " ++ bs ≢ spelling f
 no_receiver bs rest more d d_low is rest_is none (Omit from to step) fault same =
     let after = after_word 111 109 105 116 32 bs (decimal from ++ (62 ∷ node_at_step to step)) same in
     let parts = digit_parts d from rest (62 ∷ node_at_step to step) d_low (omega arith) (sym is ∙ after) in
@@ -133,10 +144,12 @@ no_receiver bs rest more d d_low is rest_is none (Crash node step) fault same = 
 no_receiver bs rest more d d_low is rest_is none (Pause node step) fault same = omega (arith, ap (λ ds. get_or ds 0 0) same)
 
 -- a node that is followed by something else than a space, `@` and a step
-pub no_at : (bs rest : List ℕ) (d : ℕ) → d < 10 → bs ≡ decimal d ++ rest → ((more : List ℕ) → rest ≢ 32 ∷ 64 ∷ more) → (node step : ℕ) → node < 10 → 1 ≤ step → step < 100 → bs ≢ node_at_step node step
+pub no_at : (bs rest : List ℕ) (d : ℕ) → d < 10 → bs ≡ decimal d ++ rest → ((more : List ℕ) → rest ≢ 32 ∷ 64 ∷ more) → (node step : ℕ) → node < 10
+    → 1 ≤ step → step < 100 → bs ≢ node_at_step node step
 no_at bs rest d d_low is none node step low one high same =
     none (decimal step) (digit_parts d node rest (32 ∷ 64 ∷ decimal step) d_low low (sym is ∙ same)).1
 
-pub no_step : (bs rest more : List ℕ) (d : ℕ) → d < 10 → bs ≡ decimal d ++ rest → rest ≡ 32 ∷ 64 ∷ more → ((step : ℕ) → 1 ≤ step → step < 100 → more ≢ decimal step) → (node step : ℕ) → node < 10 → 1 ≤ step → step < 100 → bs ≢ node_at_step node step
+pub no_step : (bs rest more : List ℕ) (d : ℕ) → d < 10 → bs ≡ decimal d ++ rest → rest ≡ 32 ∷ 64 ∷ more
+    → ((step : ℕ) → 1 ≤ step → step < 100 → more ≢ decimal step) → (node step : ℕ) → node < 10 → 1 ≤ step → step < 100 → bs ≢ node_at_step node step
 no_step bs rest more d d_low is rest_is none node step low one high same =
     none step one high (after_two 32 64 more (decimal step) (sym rest_is ∙ (digit_parts d node rest (32 ∷ 64 ∷ decimal step) d_low low (sym is ∙ same)).1))

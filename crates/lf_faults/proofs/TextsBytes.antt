@@ -1,11 +1,11 @@
 -- A text of a fault has no comma and no line feed.
 use Rattle.std.proofs.Common.{◌≡◌, ◌≢◌, ℕ, ◌+◌, ◌/◌, ◌%◌, ◌<◌, Bool, true, false, ◌||◌, ◌==◌, nat_lt, List, ◌++◌, codes, refl, sym, ap, ◌∙◌, inl, inr, arith}
-use Rattle.std.specs.List.{list_all, All, Contains}
+use Rattle.std.specs.List.{list_all, All}
 use Rattle.std.specs.Fmt.{decimal}
 use Rattle.std.proofs.lemmas.Bool.{cases_lt, and_from}
 use Rattle.std.proofs.lemmas.Bool.Decides.{nat_tests}
 use Rattle.std.proofs.lemmas.Fmt.{decimal_digit}
-use Rattle.std.proofs.lemmas.List.Elements.{All-weaker, All-contains}
+use Rattle.std.proofs.lemmas.List.Elements.{All-weaker}
 use Rattle.std.proofs.lemmas.List.Folds.{list_all-append}
 use Rattle.std.proofs.lemmas.List.Sums.{AllPass-from_list_all}
 use Rattle.lf_faults.specs.declared.fault.Parts.{Parts}
@@ -58,9 +58,3 @@ neither b plain = (
 pub spelling_bytes : (f : Parts) → IsFault f → All (λ b. (b ≢ 44) × (b ≢ 10)) (spelling f)
 spelling_bytes f h =
     All-weaker (λ b. is_plain b ≡ true) (λ b. (b ≢ 44) × (b ≢ 10)) neither (spelling f) (AllPass-from_list_all is_plain (spelling f) (plain_text f h))
-
-pub no_comma : (f : Parts) → IsFault f → ¬ (Contains (spelling f) 44)
-no_comma f h found = (All-contains (λ b. (b ≢ 44) × (b ≢ 10)) (spelling f) 44 (spelling_bytes f h) found).0 refl
-
-pub no_line_feed : (f : Parts) → IsFault f → ¬ (Contains (spelling f) 10)
-no_line_feed f h found = (All-contains (λ b. (b ≢ 44) × (b ≢ 10)) (spelling f) 10 (spelling_bytes f h) found).1 refl

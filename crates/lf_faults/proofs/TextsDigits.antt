@@ -49,19 +49,22 @@ zero_first bs rest d is zero n one high same =
     omega (arith, first, first_decimal n (omega arith) (omega arith))
 
 -- nor is a digit that is followed by something else than a digit
-pub no_second : (bs rest : List ℕ) (d : ℕ) → d < 10 → bs ≡ decimal d ++ rest → 0 < length rest → ((e : ℕ) (more : List ℕ) → e < 10 → rest ≢ decimal e ++ more) → (n : ℕ) → 1 ≤ n → n < 100 → bs ≢ decimal n
+pub no_second : (bs rest : List ℕ) (d : ℕ) → d < 10 → bs ≡ decimal d ++ rest → 0 < length rest
+    → ((e : ℕ) (more : List ℕ) → e < 10 → rest ≢ decimal e ++ more) → (n : ℕ) → 1 ≤ n → n < 100 → bs ≢ decimal n
 no_second bs rest d d_low is filled none n one high same =
     elim (cases_lt n 10) [
       | inl low ↦
           let bare : rest ≡ [] = (digit_parts d n rest [] d_low low (sym is ∙ same ∙ sym (append-nil (decimal n)))).1 in
           omega (arith, ap length bare)
       | inr ten ↦
-          let second : rest ≡ decimal (n % 10) = (digit_parts d (n / 10) rest (decimal (n % 10)) d_low (omega arith) (sym is ∙ same ∙ tens_and_units n ten high)).1 in
+          let second : rest ≡ decimal (n % 10) =
+          (digit_parts d (n / 10) rest (decimal (n % 10)) d_low (omega arith) (sym is ∙ same ∙ tens_and_units n ten high)).1 in
           none (n % 10) [] (omega arith) (second ∙ sym (append-nil (decimal (n % 10))))
     ]
 
 -- nor are two digits that are followed by anything
-pub too_long : (bs rest more : List ℕ) (d e : ℕ) → d < 10 → e < 10 → bs ≡ decimal d ++ rest → rest ≡ decimal e ++ more → 0 < length more → (n : ℕ) → 1 ≤ n → n < 100 → bs ≢ decimal n
+pub too_long : (bs rest more : List ℕ) (d e : ℕ) → d < 10 → e < 10 → bs ≡ decimal d ++ rest → rest ≡ decimal e ++ more → 0 < length more → (n : ℕ) → 1 ≤ n
+    → n < 100 → bs ≢ decimal n
 too_long bs rest more d e d_low e_low is rest_is filled n one high same =
     elim (cases_lt n 10) [
       | inl low ↦
@@ -69,7 +72,8 @@ too_long bs rest more d e d_low e_low is rest_is filled n one high same =
           let byte : (48 + e) ∷ more ≡ [] = sym (digit_first e more e_low) ∙ sym rest_is ∙ bare in
           cc
       | inr ten ↦
-          let second : rest ≡ decimal (n % 10) = (digit_parts d (n / 10) rest (decimal (n % 10)) d_low (omega arith) (sym is ∙ same ∙ tens_and_units n ten high)).1 in
+          let second : rest ≡ decimal (n % 10) =
+          (digit_parts d (n / 10) rest (decimal (n % 10)) d_low (omega arith) (sym is ∙ same ∙ tens_and_units n ten high)).1 in
           let bare : more ≡ [] = (digit_parts e (n % 10) more [] e_low (omega arith) (sym rest_is ∙ second ∙ sym (append-nil (decimal (n % 10))))).1 in
           omega (arith, ap length bare)
     ]

@@ -4,17 +4,14 @@ use Rattle.std.specs.List.{AllByRecursion, Contains, count_by}
 use Rattle.lf_faults.specs.declared.fault.Parts.{Parts}
 use Rattle.lf_faults.specs.declared.fault.Parts.TheVariants.{Omit, Crash, Pause}
 use Rattle.lf_faults.specs.Faults.{IsAscending, inserted, set_is_before}
+-- how many nodes and steps there are, and what bounds the faults: its fields are `nodes`, `horizon`, `last_omission`,
+-- `crashes`, `budget`, `pauses` and `pause_length`, which is how many steps a pause takes
+pub use Rattle.lf_faults.specs.declared.spec.Bounds.{Bounds}
 
--- how many nodes and steps there are, and what bounds the faults
-pub record Bounds : Type 0 where
-  pub nodes : ℕ
-  pub horizon : ℕ
-  pub last_omission : ℕ
-  pub crashes : ℕ
-  pub budget : ℕ
-  pub pauses : ℕ
-  -- how many steps a pause takes
-  pub pause_length : ℕ
+-- bounds with no pauses, of length 1
+abbrev pub without_pauses : ℕ → ℕ → ℕ → ℕ → ℕ → Bounds
+without_pauses nodes horizon last_omission crashes budget =
+    record { nodes = nodes; horizon = horizon; last_omission = last_omission; crashes = crashes; budget = budget; pauses = 0; pause_length = 1 }
 
 -- the limits of a scenario
 pub record IsInLimits (b : Bounds) : Type 0 where

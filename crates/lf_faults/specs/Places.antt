@@ -13,7 +13,8 @@ pub record FillsSix (count : ℕ) (faults : List Parts) : Type 0 where
   pub rest : drop count faults ≡ replicate (6 - count) filler
 
 -- the set's faults give its places back
-pub six_again : (s : Inside) → FillsSix s.count s.faults → record { count = length (take s.count s.faults); faults = take s.count s.faults ++ replicate (6 - length (take s.count s.faults)) filler } ≡ s
+pub six_again : (s : Inside) → FillsSix s.count s.faults
+    → record { count = length (take s.count s.faults); faults = take s.count s.faults ++ replicate (6 - length (take s.count s.faults)) filler } ≡ s
 six_again s h =
     let few : s.count ≤ length s.faults = omega (arith, h.few, h.six) in
     let counted : ℕ → Inside = λ n. record { count = n; faults = take s.count s.faults ++ replicate (6 - n) filler } in

@@ -5,6 +5,12 @@ ghost use Rattle.lf_faults.specs.Faults.{IsFault, is_before};
 
 use std::marker::Model;
 
+/// The most nodes that a run has.
+pub(crate) const MOST_NODES: u32 = 8;
+
+/// The most steps that a run has.
+pub(crate) const MOST_STEPS: u32 = 48;
+
 /// What a fault is.
 #[derive(Clone, Copy, Debug, PartialEq, Eq)]
 pub enum Parts {
@@ -16,38 +22,45 @@ pub enum Parts {
     Pause { node: u32, step: u32 },
 }
 
-/// What happens, but for the step, in the order of a step's faults.
+/// What happens, in the order of a step's faults.
 #[derive(Clone, Copy, Debug, PartialEq, Eq, PartialOrd, Ord)]
 enum Kind {
-    Omit { from: u32, to: u32 },
-    Crash { node: u32 },
-    Pause { node: u32 },
+    Omit,
+    Crash,
+    Pause,
 }
 
-/// A fault whose nodes are in 0..=7, two different ones for an omission, and whose step is in 1..=48.
+/// A fault whose nodes are in 0..=7, two different ones for an omission, and whose step is in 1..=48. It is four bytes.
 ///
 /// Faults are ordered by step, then omissions before crashes before pauses, then by sender or node, then by receiver.
 #[derive(Clone, Copy, Debug, PartialEq, Eq, PartialOrd, Ord)]
 pub struct Fault {
-    step: u32,
+    step: u8,
     kind: Kind,
+    /// The sender, or the node.
+    node: u8,
+    /// 0 for a crash and a pause.
+    receiver: u8,
 }
+
+const _: () = prove!(size_of::<Fault>() == 4);
 
 impl Model for Fault {
     ghost use Rattle.lf_faults.specs.declared.fault.Parts.{Parts};
 
     ghost Value = { Parts };
 
-    ghost use Rattle.lf_faults.specs.Faults.{IsFault};
-    ghost use Rattle.lf_faults.specs.Kinds.{parts_of, when, kind_of, parts_again};
+    ghost use Rattle.std.specs.Prelude.{◌≡◌};
+    ghost use Rattle.lf_faults.specs.Faults.{IsFault, receiver_of};
+    ghost use Rattle.lf_faults.specs.Kinds.{parts_of, fields_of, fields_again};
 
-    ghost view = { λ f. parts_of f.step f.kind };
+    ghost view = { λ f. parts_of f.step f.kind f.node f.receiver };
 
-    ghost invariant = { λ f. IsFault (parts_of f.step f.kind) };
+    ghost invariant = { λ f. IsFault (parts_of f.step f.kind f.node f.receiver) × (f.receiver ≡ receiver_of (parts_of f.step f.kind f.node f.receiver)) };
 
-    ghost inverse = { λ p. record { step = when p; kind = kind_of p } };
+    ghost inverse = { fields_of };
 
-    ghost inverse_ok = { λ f h. parts_again f };
+    ghost inverse_ok = { λ f h. fields_again f h.1 };
 }
 
 impl Fault {
@@ -56,7 +69,7 @@ impl Fault {
         ensures some { IsSome result ↔ IsFault (Parts.Omit from to step) }
         ensures value { IfSome result (λ f. f ≡ Parts.Omit from to step) }
     {
-        if is_point(from, step) && to < 8 && from != to {
+        if is_point(from, step) && to < MOST_NODES && from != to {
             Some(Fault::from_parts(Parts::Omit { from, to, step }))
         } else {
             None
@@ -92,11 +105,16 @@ impl Fault {
         ensures value { result ≡ self.now }
         ensures in_range { IsFault self.now }
     {
-        let step = self.step;
+        let step = u32::from(self.step);
+        let node = u32::from(self.node);
         match self.kind {
-            Kind::Omit { from, to } => Parts::Omit { from, to, step },
-            Kind::Crash { node } => Parts::Crash { node, step },
-            Kind::Pause { node } => Parts::Pause { node, step },
+            Kind::Omit => Parts::Omit {
+                from: node,
+                to: u32::from(self.receiver),
+                step,
+            },
+            Kind::Crash => Parts::Crash { node, step },
+            Kind::Pause => Parts::Pause { node, step },
         }
     }
 
@@ -107,16 +125,22 @@ impl Fault {
     {
         match parts {
             Parts::Omit { from, to, step } => Fault {
-                step,
-                kind: Kind::Omit { from, to },
+                step: step as u8,
+                kind: Kind::Omit,
+                node: from as u8,
+                receiver: to as u8,
             },
             Parts::Crash { node, step } => Fault {
-                step,
-                kind: Kind::Crash { node },
+                step: step as u8,
+                kind: Kind::Crash,
+                node: node as u8,
+                receiver: 0,
             },
             Parts::Pause { node, step } => Fault {
-                step,
-                kind: Kind::Pause { node },
+                step: step as u8,
+                kind: Kind::Pause,
+                node: node as u8,
+                receiver: 0,
             },
         }
     }
@@ -125,10 +149,7 @@ impl Fault {
     pub(crate) fn filler() -> Fault
         ensures { result ≡ Parts.Crash 0 1 }
     {
-        Fault {
-            step: 1,
-            kind: Kind::Crash { node: 0 },
-        }
+        Fault::from_parts(Parts::Crash { node: 0, step: 1 })
     }
 
     /// Whether it comes before another, in the order of faults.
@@ -143,5 +164,5 @@ impl Fault {
 fn is_point(node: u32, step: u32) -> bool
     ensures { IsTrue result ↔ (node < 8) × (1 ≤ step) × (step ≤ 48) }
 {
-    node < 8 && 1 <= step && step <= 48
+    node < MOST_NODES && 1 <= step && step <= MOST_STEPS
 }

@@ -5,16 +5,16 @@
 #![tactic(auto)]
 
 mod allowed;
+mod facts;
 mod fault;
-mod laws;
 mod order;
 mod set;
 mod spec;
 mod text;
 
 pub use allowed::{admits, can_add, fits, with};
+pub use facts::{first_set_is_one, orders_are_total, subsets_are_allowed, walks_end};
 pub use fault::{Fault, Parts};
-pub use laws::{first_set_is_one, orders_are_total, subsets_are_allowed};
 pub use order::next_set;
 pub use set::FaultSet;
 pub use spec::FaultSpec;

@@ -8,12 +8,17 @@ ghost use Rattle.lf_faults.specs.Kinds.{filler};
 use crate::{Fault, Parts};
 use std::marker::Model;
 
-/// An ascending list of at most six different faults. It takes no memory beside its own fixed size.
+/// The most faults that a set has.
+pub(crate) const MOST_FAULTS: usize = 6;
+
+/// An ascending list of at most six different faults. It takes no memory beside its own 25 bytes.
 #[derive(Clone, Copy, Debug, PartialEq, Eq)]
 pub struct FaultSet {
-    count: usize,
-    faults: [Fault; 6],
+    count: u8,
+    faults: [Fault; MOST_FAULTS],
 }
+
+const _: () = prove!(size_of::<FaultSet>() == 25);
 
 impl Model for FaultSet {
     ghost use Rattle.std.specs.Prelude.{List};
@@ -42,7 +47,7 @@ impl FaultSet {
     {
         FaultSet {
             count: 0,
-            faults: [Fault::filler(); 6],
+            faults: [Fault::filler(); MOST_FAULTS],
         }
     }
 
@@ -52,7 +57,7 @@ impl FaultSet {
         ensures ascending { IsAscending self.now }
         ensures few { length self.now ≤ 6 }
     {
-        &self.faults[..self.count]
+        &self.faults[..usize::from(self.count)]
     }
 
     /// How many faults there are, at most six.
@@ -83,7 +88,7 @@ impl FaultSet {
         ensures some { IsSome result ↔ (¬ (Contains self.now fault)) × (length self.now < 6) }
         ensures value { IfSome result (λ s. s ≡ inserted fault self.now) }
     {
-        if self.count == 6 || self.contains(&fault) {
+        if usize::from(self.count) == MOST_FAULTS || self.contains(&fault) {
             return None;
         }
         let at = self.place(&fault);
@@ -107,10 +112,9 @@ impl FaultSet {
     pub fn is_before(&self, other: &FaultSet) -> bool
         ensures { result ≡ set_is_before self.now other.now }
     {
-        self.len()
-            .cmp(&other.len())
-            .then(self.items().cmp(other.items()))
-            .is_lt()
+        let sizes = self.len().cmp(&other.len());
+        let lists = self.items().cmp(other.items());
+        sizes.then(lists).is_lt()
     }
 
     /// The first faults of the set, as many as `count`.
@@ -118,9 +122,10 @@ impl FaultSet {
         requires { count ≤ length self.now }
         ensures { result ≡ take count self.now }
     {
+        let faults = kept(self.faults, count);
         FaultSet {
-            count,
-            faults: kept(self.faults, count),
+            count: count as u8,
+            faults,
         }
     }
 
@@ -167,7 +172,7 @@ impl FaultSet {
 }
 
 /// The faults with one more at a place, and without the last.
-fn with_at(faults: [Fault; 6], at: usize, fault: Fault) -> [Fault; 6]
+fn with_at(faults: [Fault; MOST_FAULTS], at: usize, fault: Fault) -> [Fault; MOST_FAULTS]
     requires { at < 6 }
     ensures { result ≡ take at faults ++ fault ∷ take (5 - at) (drop at faults) }
 {
@@ -177,7 +182,7 @@ fn with_at(faults: [Fault; 6], at: usize, fault: Fault) -> [Fault; 6]
 }
 
 /// The faults before a place, and the filler from there on.
-fn kept(faults: [Fault; 6], count: usize) -> [Fault; 6]
+fn kept(faults: [Fault; MOST_FAULTS], count: usize) -> [Fault; MOST_FAULTS]
     requires { count ≤ 6 }
     ensures { result ≡ take count faults ++ replicate (6 - count) filler }
 {

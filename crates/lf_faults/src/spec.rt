@@ -1,14 +1,19 @@
 //! Bounds on faults.
 
 ghost use Rattle.std.specs.Prelude.{◌≡◌, ◌<◌, ◌≤◌, ◌↔◌, IsTrue, IsSome, IfSome};
-ghost use Rattle.lf_faults.specs.Allowed.{Bounds, IsInLimits, IsAdmitted};
+ghost use Rattle.lf_faults.specs.Allowed.{IsInLimits, IsAdmitted, without_pauses};
 
+use crate::fault::{MOST_NODES, MOST_STEPS};
+use crate::set::MOST_FAULTS;
 use crate::{Fault, Parts};
 use std::marker::Model;
 
-/// How many nodes and steps there are, and what bounds the faults.
+/// The longest pause, in steps.
+const LONGEST_PAUSE: u32 = 8;
+
+/// The numbers of the bounds.
 #[derive(Clone, Copy, Debug, PartialEq, Eq)]
-pub struct FaultSpec {
+struct Bounds {
     nodes: u32,
     horizon: u32,
     last_omission: u32,
@@ -18,16 +23,22 @@ pub struct FaultSpec {
     pause_length: u32,
 }
 
+/// How many nodes and steps there are, and what bounds the faults.
+#[derive(Clone, Copy, Debug, PartialEq, Eq)]
+pub struct FaultSpec {
+    bounds: Bounds,
+}
+
 impl Model for FaultSpec {
     ghost use Rattle.lf_faults.specs.Allowed.{Bounds, IsInLimits};
 
     ghost Value = { Bounds };
 
-    ghost view = { λ s. record { nodes = s.nodes; horizon = s.horizon; last_omission = s.last_omission; crashes = s.crashes; budget = s.budget; pauses = s.pauses; pause_length = s.pause_length } };
+    ghost view = { λ s. s.bounds };
 
-    ghost invariant = { λ s. IsInLimits (record { nodes = s.nodes; horizon = s.horizon; last_omission = s.last_omission; crashes = s.crashes; budget = s.budget; pauses = s.pauses; pause_length = s.pause_length }) };
+    ghost invariant = { λ s. IsInLimits s.bounds };
 
-    ghost inverse = { λ b. record { nodes = b.nodes; horizon = b.horizon; last_omission = b.last_omission; crashes = b.crashes; budget = b.budget; pauses = b.pauses; pause_length = b.pause_length } };
+    ghost inverse = { λ b. record { bounds = b } };
 }
 
 impl FaultSpec {
@@ -41,18 +52,18 @@ impl FaultSpec {
         crashes: u32,
         budget: u32,
     ) -> Option<FaultSpec>
-        ensures some { IsSome result ↔ IsInLimits (record { nodes = nodes; horizon = horizon; last_omission = last_omission; crashes = crashes; budget = budget; pauses = 0; pause_length = 1 }) }
-        ensures value { IfSome result (λ s. s ≡ record { nodes = nodes; horizon = horizon; last_omission = last_omission; crashes = crashes; budget = budget; pauses = 0; pause_length = 1 }) }
+        ensures some { IsSome result ↔ IsInLimits (without_pauses nodes horizon last_omission crashes budget) }
+        ensures value { IfSome result (λ s. s ≡ without_pauses nodes horizon last_omission crashes budget) }
     {
         if 2 <= nodes
-            && nodes <= 8
+            && nodes <= MOST_NODES
             && 1 <= horizon
-            && horizon <= 48
+            && horizon <= MOST_STEPS
             && last_omission < horizon
             && crashes <= nodes
-            && budget <= 6
+            && budget as usize <= MOST_FAULTS
         {
-            Some(FaultSpec {
+            let bounds = Bounds {
                 nodes,
                 horizon,
                 last_omission,
@@ -60,7 +71,8 @@ impl FaultSpec {
                 budget,
                 pauses: 0,
                 pause_length: 1,
-            })
+            };
+            Some(FaultSpec { bounds })
         } else {
             None
         }
@@ -72,12 +84,13 @@ impl FaultSpec {
         ensures some { IsSome result ↔ (pauses ≤ self.nodes) × ((1 ≤ length) × (length ≤ 8)) }
         ensures value { IfSome result (λ s. s ≡ record self { pauses = pauses; pause_length = length }) }
     {
-        if pauses <= self.nodes && 1 <= length && length <= 8 {
-            Some(FaultSpec {
+        if pauses <= self.bounds.nodes && 1 <= length && length <= LONGEST_PAUSE {
+            let bounds = Bounds {
                 pauses,
                 pause_length: length,
-                ..self
-            })
+                ..self.bounds
+            };
+            Some(FaultSpec { bounds })
         } else {
             None
         }
@@ -88,7 +101,7 @@ impl FaultSpec {
         ensures value { result ≡ self.now.nodes }
         ensures limits { IsInLimits self.now }
     {
-        self.nodes
+        self.bounds.nodes
     }
 
     /// The last step, 1..=48.
@@ -96,7 +109,7 @@ impl FaultSpec {
         ensures value { result ≡ self.now.horizon }
         ensures limits { IsInLimits self.now }
     {
-        self.horizon
+        self.bounds.horizon
     }
 
     /// The last step at which a note may be omitted, 0 for none, below the horizon.
@@ -104,7 +117,7 @@ impl FaultSpec {
         ensures value { result ≡ self.now.last_omission }
         ensures limits { IsInLimits self.now }
     {
-        self.last_omission
+        self.bounds.last_omission
     }
 
     /// The greatest number of crashes in a set.
@@ -112,7 +125,7 @@ impl FaultSpec {
         ensures value { result ≡ self.now.crashes }
         ensures limits { IsInLimits self.now }
     {
-        self.crashes
+        self.bounds.crashes
     }
 
     /// The greatest number of faults in a set, 0..=6.
@@ -120,7 +133,7 @@ impl FaultSpec {
         ensures value { result ≡ self.now.budget }
         ensures limits { IsInLimits self.now }
     {
-        self.budget
+        self.bounds.budget
     }
 
     /// The greatest number of pauses in a set.
@@ -128,7 +141,7 @@ impl FaultSpec {
         ensures value { result ≡ self.now.pauses }
         ensures limits { IsInLimits self.now }
     {
-        self.pauses
+        self.bounds.pauses
     }
 
     /// How many steps a pause takes, 1..=8.
@@ -136,7 +149,7 @@ impl FaultSpec {
         ensures value { result ≡ self.now.pause_length }
         ensures limits { IsInLimits self.now }
     {
-        self.pause_length
+        self.bounds.pause_length
     }
 
     /// Whether it is a fault of these bounds: its nodes are there, its step is one of the run, and an omission comes
@@ -146,14 +159,14 @@ impl FaultSpec {
     {
         match fault.parts() {
             Parts::Omit { from, to, step } => {
-                from < self.nodes
-                    && to < self.nodes
+                from < self.bounds.nodes
+                    && to < self.bounds.nodes
                     && from != to
                     && 1 <= step
-                    && step <= self.last_omission
+                    && step <= self.bounds.last_omission
             }
             Parts::Crash { node, step } | Parts::Pause { node, step } => {
-                node < self.nodes && 1 <= step && step <= self.horizon
+                node < self.bounds.nodes && 1 <= step && step <= self.bounds.horizon
             }
         }
     }

@@ -1,5 +1,7 @@
 //! The order of the allowed sets, against an enumeration written apart from it; and a few examples.
 
+ghost use Rattle.lf_faults.specs.Allowed.{IsAllowed, IsLast};
+
 use crate::{Fault, FaultSet, FaultSpec, Parts, admits, can_add, next_set, with};
 use std::alloc::{AllocError, Global};
 use std::process::Abort;
@@ -132,6 +134,27 @@ fn the_walk_is_the_enumeration(rt: HostRuntime) -> Result<(), Fail> {
     }
     // no omission, one of two or both, with at most one of four crashes and at most one of four pauses
     assert_eq!(rt; walk(&rt, rt.alloc(), [2, 2, 1, 1, 3, 1])?, 25 + 2 * 25 + 9);
+    Ok(())
+}
+
+/// The last allowed set, by a loop that takes the next set at each step: it ends, as is proved of it.
+fn last_set(spec: &FaultSpec) -> FaultSet
+    ensures allowed { IsAllowed spec.now result }
+    ensures last { IsLast spec.now result }
+{
+    let _limits = spec.nodes();
+    let mut set = FaultSet::empty();
+    'sets: while let Some(next) = next_set(spec, &set) {
+        set = next;
+    }
+    set
+}
+
+#[test]
+fn a_loop_over_next_set_ends(rt: HostRuntime) -> Result<(), Fail> {
+    let spec = FaultSpec::new(2, 2, 0, 1, 2).ok_or("bounds")?;
+    let last = FaultSet::empty().insert(Fault::crash(1, 2).ok_or("fault")?);
+    assert_eq!(rt; Some(last_set(&spec)), last);
     Ok(())
 }
 

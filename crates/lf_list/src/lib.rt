@@ -37,7 +37,8 @@ impl<T> Listed<T> {
     pub fn into_vec(self) -> Vec<T>
         ensures { result.items ≡ self }
     {
-        self.items
+        let Listed { items } = self;
+        items
     }
 
     /// The items, in order.

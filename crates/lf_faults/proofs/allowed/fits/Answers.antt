@@ -6,7 +6,14 @@ use Rattle.lf_faults.proofs.allowed.fits.Goals as goal
 pub returns-then-len-budget : goal.returns-then-len-budget
 returns-then-len-budget c = (
   λ h. absurd (false≢true h),
-  λ can. absurd (omega (arith, budget-from_allowed c.args.spec.now c.args.set.now c.args.fault.now can.1, c.if-len-budget.true, c.len.ensures.value, c.budget.ensures.value)),
+  λ can. absurd
+      (omega (
+        arith,
+        budget-from_allowed c.args.spec.now c.args.set.now c.args.fault.now can.1,
+        c.if-len-budget.true,
+        c.len.ensures.value,
+        c.budget.ensures.value,
+      )),
 )
 
 pub returns-then-not-admits_fault : goal.returns-then-not-admits_fault
@@ -18,5 +25,6 @@ returns-then-not-admits_fault c = (
 pub returns : goal.returns
 returns c =
     let few : length c.args.set.now < c.args.spec.now.budget = omega (arith, c.if-len-budget.false, c.len.ensures.value, c.budget.ensures.value) in
-    let iff = can_add-iff c.args.spec.now c.args.set.now c.args.fault.now c.requires (c.admits_fault.ensures.0 c.if-not-admits_fault.false) (iff_false c.contains.ensures c.if-contains.false) few in
+    let iff = can_add-iff c.args.spec.now c.args.set.now c.args.fault.now c.requires (c.admits_fault.ensures.0 c.if-not-admits_fault.false)
+    (iff_false c.contains.ensures c.if-contains.false) few in
     (λ room. iff.0 (c.has_room.ensures.0 room), λ can. c.has_room.ensures.1 (iff.1 can))

@@ -3,7 +3,8 @@ use Rattle.lf_faults.proofs.TextsDigits.{digit_first}
 use Rattle.lf_faults.proofs.text.read_digit.Goals as goal
 
 pub returns-in_err-first : goal.returns-in_err-first
-returns-in_err-first c = rw c.from_residual.ensures (λ digit rest low same. omega (arith, ap length (same ∙ digit_first digit rest low), c.in_err-first.ensures.cases))
+returns-in_err-first c =
+    rw c.from_residual.ensures (λ digit rest low same. omega (arith, ap length (same ∙ digit_first digit rest low), c.in_err-first.ensures.cases))
 
 pub returns-then-not-is_ascii_digit : goal.returns-then-not-is_ascii_digit
 returns-then-not-is_ascii_digit c = λ digit rest low same.

@@ -22,7 +22,8 @@ returns-then-first-eq0 c = zero_first c.args.bytes.now c.in_ok-first.rest.now c.
 pub returns-in_err-second : goal.returns-in_err-second
 returns-in_err-second c =
     rw c.from_residual-in_err-second.ensures
-    (no_second c.args.bytes.now c.in_ok-first.rest.now c.in_ok-first.first c.in_ok-first.ensures.0 c.in_ok-first.ensures.1 (filled _ _ c.is_empty.ensures c.if-is_empty.false) c.in_err-second.ensures)
+    (no_second c.args.bytes.now c.in_ok-first.rest.now c.in_ok-first.first c.in_ok-first.ensures.0 c.in_ok-first.ensures.1
+    (filled _ _ c.is_empty.ensures c.if-is_empty.false) c.in_err-second.ensures)
 
 pub returns-then-is_empty-2 : goal.returns-then-is_empty-2
 returns-then-is_empty-2 c =
@@ -30,9 +31,15 @@ returns-then-is_empty-2 c =
     let second : c.in_ok-second.second < 10 = c.in_ok-second.ensures.0 in
     let some : 1 ≤ c.in_ok-first.first = omega arith in
     let ends : c.in_ok-second.rest.now ≡ [] = bare _ _ c.is_empty-2.ensures c.if-is_empty-2.true in
-    let units : c.in_ok-first.rest.now ≡ decimal c.in_ok-second.second = c.in_ok-second.ensures.1 ∙ ap (λ ds. decimal c.in_ok-second.second ++ ds) ends ∙ append-nil (decimal c.in_ok-second.second) in
-    (omega arith, omega arith, c.in_ok-first.ensures.1 ∙ ap (λ ds. decimal c.in_ok-first.first ++ ds) units ∙ sym (from_digits c.in_ok-first.first c.in_ok-second.second some first second))
+    let units : c.in_ok-first.rest.now ≡ decimal c.in_ok-second.second =
+    c.in_ok-second.ensures.1 ∙ ap (λ ds. decimal c.in_ok-second.second ++ ds) ends ∙ append-nil (decimal c.in_ok-second.second) in (
+      omega arith,
+      omega arith,
+      c.in_ok-first.ensures.1 ∙ ap (λ ds. decimal c.in_ok-first.first ++ ds) units
+          ∙ sym (from_digits c.in_ok-first.first c.in_ok-second.second some first second),
+    )
 
 pub returns-else-is_empty-2 : goal.returns-else-is_empty-2
 returns-else-is_empty-2 c =
-    too_long c.args.bytes.now c.in_ok-first.rest.now c.in_ok-second.rest.now c.in_ok-first.first c.in_ok-second.second c.in_ok-first.ensures.0 c.in_ok-second.ensures.0 c.in_ok-first.ensures.1 c.in_ok-second.ensures.1 (filled _ _ c.is_empty-2.ensures c.if-is_empty-2.false)
+    too_long c.args.bytes.now c.in_ok-first.rest.now c.in_ok-second.rest.now c.in_ok-first.first c.in_ok-second.second c.in_ok-first.ensures.0
+    c.in_ok-second.ensures.0 c.in_ok-first.ensures.1 c.in_ok-second.ensures.1 (filled _ _ c.is_empty-2.ensures c.if-is_empty-2.false)

@@ -1,5 +1,5 @@
 use Rattle.lf_faults.proofs.Orders.{fault_total, set_total, set_exact}
-use Rattle.lf_faults.proofs.laws.orders_are_total.Goals as goal
+use Rattle.lf_faults.proofs.facts.orders_are_total.Goals as goal
 
 pub returns-clause-faults : goal.returns-clause-faults
 returns-clause-faults c = fault_total
