@@ -4,7 +4,8 @@ use Rattle.std.specs.List.{Contains}
 use Rattle.lf_faults.specs.declared.fault.Parts.{Parts}
 use Rattle.lf_faults.specs.declared.fault.Parts.TheVariants.{Omit, Crash, Pause}
 use Rattle.lf_faults.specs.Faults.{step_of}
-use Rattle.lf_faults.specs.Allowed.{Bounds, IsAdmitted, IsAllowed}
+use Rattle.lf_faults.specs.declared.spec.Bounds.{Bounds}
+use Rattle.lf_faults.specs.Allowed.{IsAdmitted, IsAllowed}
 use Rattle.lf_faults.proofs.Laws.{in_allowed-admitted, same_members}
 use Rattle.lf_sim.specs.Runs.{World, is_up}
 use Rattle.lf_outcome.specs.declared.formula.Formula.{Formula}

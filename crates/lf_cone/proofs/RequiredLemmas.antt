@@ -7,7 +7,8 @@ use Rattle.std.proofs.lemmas.Bool.{both_ways}
 use Rattle.lf_faults.specs.declared.fault.Parts.{Parts}
 use Rattle.lf_faults.specs.declared.fault.Parts.TheVariants.{Omit, Crash, Pause}
 use Rattle.lf_faults.specs.Faults.{IsFault, IsAscending, inserted}
-use Rattle.lf_faults.specs.Allowed.{Bounds, IsInLimits, IsAdmitted, IsAllowed, IsSubset, CanAdd}
+use Rattle.lf_faults.specs.declared.spec.Bounds.{Bounds}
+use Rattle.lf_faults.specs.Allowed.{IsInLimits, IsAdmitted, IsAllowed, IsSubset, CanAdd}
 use Rattle.lf_faults.proofs.Laws.{in_allowed-admitted, admitted-fault, subset_allowed, in-inserted, still-in, length-inserted}
 use Rattle.lf_sim.specs.Runs.{World, is_up, sent}
 use Rattle.lf_sim.proofs.Laws.{IsRunning-up}

@@ -6,7 +6,8 @@ use Rattle.std.specs.List.{Contains}
 use Rattle.lf_faults.specs.declared.fault.Parts.{Parts}
 use Rattle.lf_faults.specs.declared.fault.Parts.TheVariants.{Omit, Crash, Pause}
 use Rattle.lf_faults.specs.Faults.{set_omits, IsAscending}
-use Rattle.lf_faults.specs.Allowed.{Bounds, IsSubset, CanAdd}
+use Rattle.lf_faults.specs.declared.spec.Bounds.{Bounds}
+use Rattle.lf_faults.specs.Allowed.{IsSubset, CanAdd}
 use Rattle.lf_sim.specs.Runs.{World, is_up, view, sent}
 use Rattle.lf_outcome.specs.declared.point.Point.{Point}
 use Rattle.lf_outcome.specs.Evidence.{Covers}

@@ -27,7 +27,11 @@ fn is_heard<M: Machine>(
     if from == to || from >= network.nodes() || to >= network.nodes() {
         return false;
     }
-    if step < 1 || step > network.horizon() || !run.up(from, step) || run.set().omits(from, to, step) {
+    if step < 1
+        || step > network.horizon()
+        || !run.up(from, step)
+        || run.set().omits(from, to, step)
+    {
         return false;
     }
     let arrival = network.arrival(from, to, step);
@@ -72,7 +76,12 @@ fn plainly_lives<M: Machine>(run: &Run<M>, reach: &Reach, node: u32, first: u32,
 }
 
 /// Whether a fault could change something within the reach, by its definition.
-fn plainly_supported<M: Machine>(setting: &Setting<M>, run: &Run<M>, reach: &Reach, fault: &Fault) -> bool {
+fn plainly_supported<M: Machine>(
+    setting: &Setting<M>,
+    run: &Run<M>,
+    reach: &Reach,
+    fault: &Fault,
+) -> bool {
     match fault.parts() {
         Parts::Omit { from, to, step } => {
             from < run.nodes()
@@ -160,7 +169,10 @@ fn check_run<M: Machine>(
     let nodes = setting.spec.nodes();
     for number in 0..64 {
         let reach = reach_numbered(nodes, number).ok_or("reach")?;
-        assert_eq!(rt; is_closed(setting, run, &reach), plainly_closed(setting, run, &reach));
+        assert_eq!(rt;
+            is_closed(setting, run, &reach),
+            plainly_closed(setting, run, &reach)
+        );
         let plain = plain_edges(alloc, setting, run, &reach, &[])?;
         let found = edges(alloc, setting, run, &reach, &[])?;
         assert_eq!(rt; found.as_slice(), plain.as_slice());
@@ -188,7 +200,9 @@ fn check_point<M: Machine>(
     narrow: &Reach,
 ) -> Result<(), Fail> {
     assert!(rt; plainly_closed(setting, run, narrow) && step <= narrow.at(node));
-    assert!(rt; plainly_closed(setting, run, wide) && plainly_keeps(setting, wide) && step <= wide.at(node));
+    assert!(rt;
+        plainly_closed(setting, run, wide) && plainly_keeps(setting, wide) && step <= wide.at(node)
+    );
     for number in 0..64 {
         let reach = reach_numbered(setting.spec.nodes(), number).ok_or("reach")?;
         if step <= reach.at(node) {
@@ -213,7 +227,11 @@ fn check_protocol(
 {
     let network = Network::new([7; 32], Links::new(nodes, 1, spread), nodes, 3);
     let bounds = FaultSpec::new(nodes, 3, 2, 1, 3).and_then(|spec| spec.with_pauses(1, 2));
-    let setting = Setting::new(protocol.ok_or("protocol")?, network, bounds.ok_or("bounds")?);
+    let setting = Setting::new(
+        protocol.ok_or("protocol")?,
+        network,
+        bounds.ok_or("bounds")?,
+    );
     let setting = setting.ok_or("setting")?;
     let omission = Fault::omit(0, 1, 1).ok_or("fault")?;
     let crash = Fault::crash(1, 3).ok_or("fault")?;
@@ -235,7 +253,13 @@ fn reaches_and_edges_are_the_plain_ones(rt: HostRuntime) -> Result<(), Fail> {
         check_protocol(&rt, rt.alloc(), Protocol::retry(2, 2), 2, spread)?;
         check_protocol(&rt, rt.alloc(), Protocol::redundant(3, 2), 3, spread)?;
         check_protocol(&rt, rt.alloc(), Protocol::two_phase(3, 2, votes), 3, spread)?;
-        check_protocol(&rt, rt.alloc(), Protocol::three_phase(2, 2, votes), 2, spread)?;
+        check_protocol(
+            &rt,
+            rt.alloc(),
+            Protocol::three_phase(2, 2, votes),
+            2,
+            spread,
+        )?;
         check_protocol(&rt, rt.alloc(), Protocol::primary_backup(3, 2), 3, spread)?;
     }
     Ok(())

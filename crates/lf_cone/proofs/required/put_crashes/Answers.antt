@@ -19,6 +19,15 @@ put-requires-clause-supports g c =
     (world_of s) v.effects.set s.spec v.reach v.marks.faults.now c.nodes-node-end.ensures.limits c.loop-node.node t (c.horizon.result + 1)
     (c.lives.ensures.0 c.if-lives.true))
 
+pub put-requires-clause-so_far : goal.put-requires-clause-so_far
+put-requires-clause-so_far g c =
+    let s = c.args.setting.now in
+    let v = c.args.view.now in
+    let t = c.args.step in
+    let is : place_of c.crash.result ≡ place_of (Crash c.loop-node.node t) = ap place_of c.crash.ensures in
+    moved (world_of s) v.effects.set s.spec v.reach v.marks.faults.now c.nodes-node-end.ensures.limits c.loop-node.found.items
+    ((t - 1) * 80 + 64 + c.loop-node.node) (place_of c.crash.result) (omega (arith, is)) c.loop-node.invariant
+
 pub loop-node-preserved : goal.loop-node-preserved
 loop-node-preserved g c =
     let s = c.args.setting.now in

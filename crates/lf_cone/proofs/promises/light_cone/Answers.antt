@@ -1,5 +1,5 @@
 use Rattle.lf_cone.proofs.Laws.{agrees, still_reaches}
-use Rattle.lf_cone.proofs.laws.light_cone.Goals as goal
+use Rattle.lf_cone.proofs.promises.light_cone.Goals as goal
 
 pub returns-clause-agrees : goal.returns-clause-agrees
 returns-clause-agrees g c = λ w b faults wider reach lasts closed allowed outside. agrees w b faults wider reach lasts closed allowed outside

@@ -1,5 +1,5 @@
 use Rattle.lf_cone.proofs.Laws.{cone_one, sharp_one, required_one}
-use Rattle.lf_cone.proofs.laws.reaches_are_one.Goals as goal
+use Rattle.lf_cone.proofs.promises.reaches_are_one.Goals as goal
 
 pub returns-clause-cones : goal.returns-clause-cones
 returns-clause-cones g c = cone_one

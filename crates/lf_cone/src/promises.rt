@@ -2,7 +2,8 @@
 
 ghost use Rattle.std.specs.Prelude.{◌≡◌, ◌≤◌, ℕ, true, List};
 ghost use Rattle.lf_faults.specs.declared.fault.Parts.{Parts};
-ghost use Rattle.lf_faults.specs.Allowed.{Bounds, IsAllowed};
+ghost use Rattle.lf_faults.specs.declared.spec.Bounds.{Bounds};
+ghost use Rattle.lf_faults.specs.Allowed.{IsAllowed};
 ghost use Rattle.lf_sim.specs.Runs.{World};
 ghost use Rattle.lf_sim.specs.Settings.{world_of, set_of, IsRun};
 ghost use Rattle.lf_outcome.specs.declared.formula.Formula.{Formula};
