@@ -4,7 +4,8 @@ use Rattle.std.specs.List.{Contains}
 use Rattle.lf_faults.specs.declared.fault.Parts.{Parts}
 use Rattle.lf_faults.specs.declared.fault.Parts.TheVariants.{Omit, Crash, Pause}
 use Rattle.lf_faults.specs.Faults.{IsFault, IsAscending, step_of}
-use Rattle.lf_faults.specs.Allowed.{Bounds, CanAdd}
+use Rattle.lf_faults.specs.declared.spec.Bounds.{Bounds}
+use Rattle.lf_faults.specs.Allowed.{CanAdd}
 use Rattle.lf_sim.specs.Runs.{World}
 use Rattle.lf_cone.specs.Cones.{IsLive}
 

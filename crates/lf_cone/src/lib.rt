@@ -3,12 +3,15 @@
 
 mod delays;
 mod hearing;
-mod laws;
 mod marks;
 mod points;
+mod promises;
 mod required;
 
 pub use delays::cone;
 pub use hearing::{is_closed, sharp};
-pub use laws::agree_everywhere;
+pub use promises::{agree, light_cone, reaches_are_one};
 pub use required::{edges, put_edges};
+
+#[cfg(test)]
+mod tests;
