@@ -1,7 +1,8 @@
 -- The answer to a scenario: the first allowed set of faults that misses its outcome.
 use Rattle.std.specs.Prelude.{◌≡◌, ◌<◌, Bool, true, false, not, List, length, Option, MatchOption}
 use Rattle.lf_faults.specs.declared.fault.Parts.{Parts}
-use Rattle.lf_faults.specs.Allowed.{Bounds, IsAllowed, IsFirst}
+use Rattle.lf_faults.specs.Allowed.{IsAllowed, IsFirst}
+use Rattle.lf_faults.specs.declared.spec.Bounds.{Bounds}
 use Rattle.lf_sim.specs.Settings.{world_of}
 use Rattle.lf_outcome.specs.Truth.{reaches}
 use Rattle.lf_scenario.specs.declared.scenario.Scenario.{Scenario}

@@ -6,7 +6,7 @@ use Rattle.toml.specs.Data.{string, array, item}
 use Rattle.toml.specs.View.{view, items_view}
 use Rattle.toml.specs.declared.value.Value.{Value, Array, String as Text}
 use Rattle.toml.proofs.Views.{items_view-drop, view-Array, view-String}
-use Rattle.lf_faults.specs.Allowed.{Bounds}
+use Rattle.lf_faults.specs.declared.spec.Bounds.{Bounds}
 use Rattle.lf_protocols.specs.declared.protocol.Kind.{Kind}
 use Rattle.lf_scenario.specs.declared.error.ScenarioError.TheVariants as refusals
 use Rattle.lf_scenario.specs.Outcomes.{by_word, down_in, shows_in, formula_in, parts_in}

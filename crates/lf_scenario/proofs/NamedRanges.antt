@@ -4,7 +4,8 @@ use Rattle.std.specs.Prelude.{nat_le, nat_lt}
 use Rattle.std.specs.List.{AllByRecursion, fold, range_with_len, list_all}
 use Rattle.std.proofs.lemmas.Bool.{and_from, lt-ltb, le-leb}
 use Rattle.std.proofs.lemmas.List.Folds.{list_all-map}
-use Rattle.lf_faults.specs.Allowed.{Bounds, IsInLimits}
+use Rattle.lf_faults.specs.Allowed.{IsInLimits}
+use Rattle.lf_faults.specs.declared.spec.Bounds.{Bounds}
 use Rattle.lf_protocols.specs.declared.fact.Fact.{Fact}
 use Rattle.lf_protocols.specs.declared.fact.Fact.TheVariants.{Has, Lacks, NotCommitted, NotAborted, Free, Backup, NotDone, Holds}
 use Rattle.lf_protocols.specs.declared.protocol.Kind.{Kind}

@@ -10,7 +10,7 @@
 use Rattle.std.specs.Prelude.{ℕ, ◌-◌, ◌&&◌, nat_le, if◌then◌else◌, List, [], ◌∷◌, Option, Some, None, codes, Ok, Err}
 use Rattle.std.specs.Str.{bytes_eq}
 use Rattle.toml.specs.Data.{Data, string, array, Items, no_items, item}
-use Rattle.lf_faults.specs.Allowed.{Bounds}
+use Rattle.lf_faults.specs.declared.spec.Bounds.{Bounds}
 use Rattle.lf_protocols.specs.declared.fact.Fact.{Fact}
 use Rattle.lf_protocols.specs.declared.protocol.Kind.{Kind}
 use Rattle.lf_protocols.specs.Words.{fact_named}
