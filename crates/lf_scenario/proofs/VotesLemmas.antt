@@ -64,7 +64,7 @@ module _ (vs : List Value) (nodes : ℕ) (some : 2 ≤ nodes) (few : nodes ≤ 8
       (later (vote_of (items_view vs)) (8 - nodes) (0 + nodes) (λ k low. agrees k (omega (arith, low)))))
 
   pub are_votes : AreVotes nodes (votes_of (items_view vs))
-  are_votes patience positive short = (some, few, positive, short, refl, silent)
+  are_votes patience positive short = (some, few, positive, short, (refl, silent))
 
   pub counts : (count_items (items_view vs) + 1 == nodes) ≡ true
   counts = eq-eqb (count_items (items_view vs) + 1) nodes (omega (arith, count-length vs, counted))
