@@ -7,7 +7,7 @@ use Rattle.std.proofs.lemmas.List.{take_all, length-take}
 use Rattle.lf_faults.specs.declared.fault.Parts.{Parts}
 use Rattle.lf_faults.specs.Allowed.{Bounds, IsAllowed}
 use Rattle.lf_scenario.specs.declared.error.ScenarioError.{ScenarioError}
-use Rattle.lf_scenario.specs.declared.reader.TheConstants.{LONGEST}
+use Rattle.lf_scenario.specs.Limits.{longest}
 use Rattle.lf_scenario.specs.declared.scenario.Scenario.{Scenario}
 use Rattle.lf_scenario.specs.Scenarios.{IsRefused, IsText}
 use Rattle.lf_sim.specs.Settings.{world_of}
@@ -70,28 +70,28 @@ run_of_set words text reply status s set reads chosen is ends = inr (s, reads, i
 
 -- past the longest text, the bytes at the front say all
 module _ (held reply : List ℕ) (status : ℕ) where
-  front : LONGEST < length held → length (take most_taken held) ≤ LONGEST → ⊥
+  front : longest < length held → length (take most_taken held) ≤ longest → ⊥
   front more short = omega (arith, more, short, length-take most_taken held)
 
-  refused : (e : ScenarioError) → LONGEST < length held → IsRefused (take most_taken held) e → IsRefused held e
+  refused : (e : ScenarioError) → longest < length held → IsRefused (take most_taken held) e → IsRefused held e
   refused e more (inl why) = inl (more, why.1)
   refused e more (inr (inl why)) = absurd (front more why.0)
   refused e more (inr (inr why)) = absurd (front more why.0)
 
-  refused_reply : LONGEST < length held → RepliesRefusal (take most_taken held) reply status → RepliesRefusal held reply status
+  refused_reply : longest < length held → RepliesRefusal (take most_taken held) reply status → RepliesRefusal held reply status
   refused_reply more refusal = (refusal.0, refused refusal.0 more refusal.1, refusal.2, refusal.3)
 
-  search_long : LONGEST < length held → IsSearchReply (take most_taken held) reply status → IsSearchReply held reply status
+  search_long : longest < length held → IsSearchReply (take most_taken held) reply status → IsSearchReply held reply status
   search_long more (inl refusal) = inl (refused_reply more refusal)
   search_long more (inr found) = absurd (front more found.2.short)
 
-  run_long : (words : List ℕ) → LONGEST < length held → IsRunReply words (take most_taken held) reply status → IsRunReply words held reply status
+  run_long : (words : List ℕ) → longest < length held → IsRunReply words (take most_taken held) reply status → IsRunReply words held reply status
   run_long words more (inl refusal) = inl (refused_reply more refusal)
   run_long words more (inr found) = absurd (front more found.1.short)
 
 -- of an engine: a text that is too long has the replies of its front
 abbrev pub GoesByFront : (List ℕ → List ℕ → ℕ → Type 0) → Type 0
-GoesByFront IsReply = (held reply : List ℕ) (status : ℕ) → LONGEST < length held → IsReply (take most_taken held) reply status → IsReply held reply status
+GoesByFront IsReply = (held reply : List ℕ) (status : ℕ) → longest < length held → IsReply (take most_taken held) reply status → IsReply held reply status
 
 pub search_by_front : GoesByFront IsSearchReply
 search_by_front held reply status = search_long held reply status
@@ -102,7 +102,7 @@ run_by_front words held reply status = run_long held reply status words
 -- the reply to the bytes that were read is the reply to what the source held, where it tells
 module _ (IsReply : List ℕ → List ℕ → ℕ → Type 0) (by_front : GoesByFront IsReply) where
   from_front : (held reply : List ℕ) (status : ℕ) → IsReply (take most_taken held) reply status → IsReply held reply status
-  from_front held reply status is = elim (cases_lt LONGEST (length held)) [
+  from_front held reply status is = elim (cases_lt longest (length held)) [
     | inl more ↦ by_front held reply status more is
     | inr few ↦ subst (λ text. IsReply text reply status) (take_all most_taken held (omega (arith, few))) is
   ]

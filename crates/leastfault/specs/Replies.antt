@@ -5,7 +5,7 @@ use Rattle.lf_faults.specs.declared.fault.Parts.{Parts}
 use Rattle.lf_faults.specs.Allowed.{IsAllowed}
 use Rattle.lf_sim.specs.Settings.{world_of}
 use Rattle.lf_scenario.specs.declared.error.ScenarioError.{ScenarioError}
-use Rattle.lf_scenario.specs.declared.reader.TheConstants.{LONGEST}
+use Rattle.lf_scenario.specs.Limits.{longest}
 use Rattle.lf_scenario.specs.declared.scenario.Scenario.{Scenario}
 use Rattle.lf_scenario.specs.Scenarios.{IsRefused, IsText}
 use Rattle.lf_trace.specs.Namings.{Names}
@@ -61,7 +61,7 @@ module _ (IsReply : List ℕ → List ℕ → ℕ → Type 0) where
 
 -- how many bytes are taken of a source at most: one past the longest text
 abbrev pub most_taken : ℕ
-most_taken = LONGEST + 1
+most_taken = longest + 1
 
 -- no more of them were taken
 abbrev pub TookLittle : Option (List ℕ) → Option (List ℕ) → Type 0

@@ -143,17 +143,17 @@ total-past : (m n : ℕ) → n ≤ m → total (λ k. cond (nat_eq k m) 1 0) n �
 total-past m zero h = refl
 total-past m (suc n) h =
     let other : nat_eq n m ≡ false = ne_eqb n m (λ e. absurd (omega (arith, e, h))) in
-    let here : cond (nat_eq n m) 1 0 ≡ 0 = none-is (nat_eq n m) other in
+    let here : cond {A = ℕ} (nat_eq n m) 1 0 ≡ 0 = none-is (nat_eq n m) other in
     omega (arith, total-past m n (omega (arith, h)), here)
 
 pub total-one : (m n : ℕ) → m < n → total (λ k. cond (nat_eq k m) 1 0) n ≡ 1
 total-one m zero h = absurd (omega arith)
 total-one m (suc n) h = elim (cases_eq n m) [
   | inl same ↦
-      let here : cond (nat_eq n m) 1 0 ≡ 1 = one-is (nat_eq n m) (eq-eqb n m same) in
+      let here : cond {A = ℕ} (nat_eq n m) 1 0 ≡ 1 = one-is (nat_eq n m) (eq-eqb n m same) in
       omega (arith, total-past m n (omega (arith, same)), here)
   | inr other ↦
-      let here : cond (nat_eq n m) 1 0 ≡ 0 = none-is (nat_eq n m) (ne_eqb n m other) in
+      let here : cond {A = ℕ} (nat_eq n m) 1 0 ≡ 0 = none-is (nat_eq n m) (ne_eqb n m other) in
       let early : m < n = elim (cases_lt m n) [ inl early ↦ early | inr late ↦ absurd (other (omega (arith, h, late))) ] in
       omega (arith, total-one m n early, here)
 ]

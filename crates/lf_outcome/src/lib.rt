@@ -7,6 +7,7 @@ mod measure;
 mod outcome;
 mod point;
 mod reach;
+mod support;
 mod truth;
 mod words;
 
@@ -19,7 +20,8 @@ pub use outcome::{
 };
 pub use point::Point;
 pub use reach::Reach;
-pub use truth::{by_cases, holds};
+pub use support::evidence;
+pub use truth::{by_cases, holds, holds_within};
 pub use words::outcome_named;
 
 #[cfg(test)]

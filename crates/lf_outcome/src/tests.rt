@@ -1,5 +1,6 @@
 //! Runs walked by hand, and small formulas.
 
+mod evidence;
 mod reaches;
 mod traces;
 mod words;

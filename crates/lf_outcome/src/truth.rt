@@ -7,9 +7,9 @@ ghost use Rattle.lf_sim.specs.Runs.{World, is_up, view};
 ghost use Rattle.lf_outcome.specs.declared.formula.Formula.{Formula};
 ghost use Rattle.lf_outcome.specs.declared.formula.Formula.TheVariants as kind;
 ghost use Rattle.lf_sim.specs.Settings.{IsRun, set_of, world_of};
-ghost use Rattle.lf_outcome.specs.Truth.{is_shown, reaches};
+ghost use Rattle.lf_outcome.specs.Truth.{truth, counts, is_down, is_shown, is_shown_where, reaches, reaches_within};
 
-use crate::Formula;
+use crate::{Formula, Reach};
 use lf_sim::{Machine, Run, Setting};
 
 /// When a set of faults reaches an outcome, by the four kinds of formulas, for every world and every list of faults.
@@ -29,49 +29,101 @@ pub fn by_cases<State, Note, Fact>()
 {}
 
 /// Whether the run reaches the outcome, where it is a run of this setting. It takes no memory.
-#[cycle(holds)]
 pub fn holds<M: Machine>(setting: &Setting<M>, formula: &Formula<M::Fact>, run: &Run<M>) -> bool
     requires { IsRun (world_of setting.now) run.now }
     ensures { result ≡ reaches (world_of setting.now) (set_of run.now) formula.now }
 {
+    is_true(setting, formula, run, &None)
+}
+
+/// Whether the run reaches the outcome by what it shows within the reach: a fact at a step past the reach counts as not
+/// shown. It takes no memory.
+pub fn holds_within<M: Machine>(
+    setting: &Setting<M>,
+    formula: &Formula<M::Fact>,
+    run: &Run<M>,
+    reach: &Reach,
+) -> bool
+    requires { IsRun (world_of setting.now) run.now }
+    ensures { result ≡ reaches_within (world_of setting.now) (set_of run.now) reach.now formula.now }
+{
+    is_true(setting, formula, run, &Some(*reach))
+}
+
+/// Whether the formula is true in the run, by what it shows anywhere, or within a reach.
+#[cycle(is_true)]
+fn is_true<M: Machine>(
+    setting: &Setting<M>,
+    formula: &Formula<M::Fact>,
+    run: &Run<M>,
+    limit: &Option<Reach>,
+) -> bool
+    requires { IsRun (world_of setting.now) run.now }
+    ensures { result ≡ truth (is_down (world_of setting.now) (set_of run.now))
+        (is_shown_where (world_of setting.now) (set_of run.now) limit.now) formula.now }
+{
     match formula {
-        Formula::All(parts) => all_hold(setting, parts.as_slice(), run),
-        Formula::Any(parts) => any_holds(setting, parts.as_slice(), run),
+        Formula::All(parts) => all_true(setting, parts.as_slice(), run, limit),
+        Formula::Any(parts) => any_true(setting, parts.as_slice(), run, limit),
         Formula::Down { node, step } => !run.up(*node, *step),
-        Formula::Shows { node, step, fact } => shows(setting, run, *node, *step, *fact),
+        Formula::Shows { node, step, fact } => {
+            is_within(limit, *node, *step) && shows(setting, run, *node, *step, *fact)
+        }
     }
 }
 
-/// Whether the run reaches all of the outcomes.
-#[cycle(holds)]
-fn all_hold<M: Machine>(setting: &Setting<M>, parts: &[Formula<M::Fact>], run: &Run<M>) -> bool
+/// Whether all parts are true.
+#[cycle(is_true)]
+fn all_true<M: Machine>(
+    setting: &Setting<M>,
+    parts: &[Formula<M::Fact>],
+    run: &Run<M>,
+    limit: &Option<Reach>,
+) -> bool
     requires { IsRun (world_of setting.now) run.now }
-    ensures { result ≡ list_all (reaches (world_of setting.now) (set_of run.now)) parts.now }
+    ensures { result ≡ list_all (truth (is_down (world_of setting.now) (set_of run.now))
+        (is_shown_where (world_of setting.now) (set_of run.now) limit.now)) parts.now }
 {
     'all: for part in parts {
-        if !holds(setting, part, run) {
+        if !is_true(setting, part, run, limit) {
             return false;
         }
     }
     true
 }
 
-/// Whether the run reaches one of the outcomes.
-#[cycle(holds)]
-fn any_holds<M: Machine>(setting: &Setting<M>, parts: &[Formula<M::Fact>], run: &Run<M>) -> bool
+/// Whether one of the parts is true.
+#[cycle(is_true)]
+fn any_true<M: Machine>(
+    setting: &Setting<M>,
+    parts: &[Formula<M::Fact>],
+    run: &Run<M>,
+    limit: &Option<Reach>,
+) -> bool
     requires { IsRun (world_of setting.now) run.now }
-    ensures { result ≡ list_any (reaches (world_of setting.now) (set_of run.now)) parts.now }
+    ensures { result ≡ list_any (truth (is_down (world_of setting.now) (set_of run.now))
+        (is_shown_where (world_of setting.now) (set_of run.now) limit.now)) parts.now }
 {
     'any: for part in parts {
-        if holds(setting, part, run) {
+        if is_true(setting, part, run, limit) {
             return true;
         }
     }
     false
 }
 
+/// Whether a step of a node counts.
+fn is_within(limit: &Option<Reach>, node: u32, step: u32) -> bool
+    ensures { result ≡ counts limit.now node step }
+{
+    match limit {
+        Some(reach) => step <= reach.at(node),
+        None => true,
+    }
+}
+
 /// Whether a node is up at a step, and its state after it shows a fact.
-fn shows<M: Machine>(
+pub(crate) fn shows<M: Machine>(
     setting: &Setting<M>,
     run: &Run<M>,
     node: u32,

@@ -1,4 +1,7 @@
-pub mod LinkSteps
-pub mod NamedRanges
-pub mod VotesLemmas
-pub mod Refusing
+pub mod Laws
+mod AskedLemmas
+mod FormulaLemmas
+mod LinkSteps
+mod NamedRanges
+mod ReadRanges
+mod VotesLemmas

@@ -1,6 +1,6 @@
 -- One table more among those of links.
-use Rattle.std.proofs.Common.{◌≡◌, ℕ, ◌+◌, ◌<◌, ◌==◌, ◌&&◌, cond, List, [], ◌∷◌, ◌++◌, length, get_or, drop, fold, Ok, String, BTreeMap, Global, inl, inr, sym, ap, ◌∙◌}
-use Rattle.std.proofs.lemmas.Bool.{cases_eq, eq-eqb, ne_eqb, and_right}
+use Rattle.std.proofs.Common.{◌≡◌, ℕ, ◌+◌, ◌<◌, ◌≤◌, refl, nat_lt, ◌==◌, ◌&&◌, cond, List, [], ◌∷◌, ◌++◌, length, get_or, drop, fold, map, Ok, String, BTreeMap, Global, inl, inr, sym, ap, ◌∙◌}
+use Rattle.std.proofs.lemmas.Bool.{and_from, and_parts, cases_Bool, cases_eq, eq-eqb, false≢true, lt-ltb, ltb-true, ne_eqb, and_right}
 use Rattle.std.proofs.lemmas.List.{drop_more}
 use Rattle.toml.specs.Data.{item, table, Items}
 use Rattle.toml.specs.View.{view, items_view, members_view}
@@ -8,7 +8,11 @@ use Rattle.toml.specs.declared.value.Value.{Value, Table}
 use Rattle.toml.proofs.Views.{items_view-drop, view-Table}
 use Rattle.lf_scenario.specs.declared.links.Link.{Link}
 use Rattle.lf_scenario.specs.Values.{◌>>=◌}
-use Rattle.lf_scenario.specs.LinkTables.{link_in, links_from}
+use Rattle.lf_scenario.specs.LinkTables.{least_given, link_in, links_from, links_of, spread_given, table_by}
+use Rattle.std.specs.List.{range_with_len}
+use Rattle.std.proofs.lemmas.List.FromFn.{fill_by_all}
+use Rattle.lf_latency.specs.declared.links.Links.{Links}
+use Rattle.lf_latency.specs.Links.{entry_at, IsLinks, IsPair, least_of, pair_entry, spread_of}
 
 -- the first of the items is a table
 shape : (vs : List Value) (i : ℕ) (v : Value) (t : BTreeMap (String Global) Value) → i < length vs → v ≡ get_or vs i v → v ≡ Table t
@@ -53,3 +57,42 @@ pub own_delay : (from to n m own old new : ℕ) (delay : ℕ → ℕ → ℕ) �
     → cond ((from == n) && (to == m)) own old ≡ new
 own_delay from to n m own old new delay is here others =
     chosen from to n m own old new (λ same equal. sym is ∙ ap (λ k. delay k m) same ∙ ap (delay from) equal ∙ here) others
+
+-- a table of eight rows of eight, by its entries
+pub table-by : (rows : List (List ℕ)) (entry : ℕ → ℕ → ℕ) → length rows ≡ 8 → ((n : ℕ) → n < 8 → length (get_or rows n []) ≡ 8)
+    → ((n m : ℕ) → n < 8 → m < 8 → entry_at rows n m ≡ entry n m) → rows ≡ table_by entry
+table-by rows entry eight long each =
+    fill_by_all (λ n. map (entry n) (range_with_len 0 8)) rows 8 [] eight
+    (λ n low. fill_by_all (entry n) (get_or rows n []) 8 0 (long n low) (λ m below. each n m low below))
+
+-- an entry by its pair, and another elsewhere
+entry-by : (nodes value other entry n m : ℕ) → (IsPair nodes n m → entry ≡ value) → (¬ IsPair nodes n m → entry ≡ other) → entry ≡ pair_entry nodes value other n m
+entry-by nodes value other entry n m here elsewhere =
+    elim (cases_eq n m) [
+      | inl same ↦ rw (eq-eqb n m same) (elsewhere (λ pair. pair.apart same))
+      | inr apart ↦
+          elim (cases_Bool (nat_lt n nodes && nat_lt m nodes)) [
+            | inl inside ↦
+                let (low, high) = and_parts (nat_lt n nodes) (nat_lt m nodes) inside in
+                rw (ne_eqb n m apart, inside) (here (record { sender = ltb-true n nodes low; receiver = ltb-true m nodes high; apart = apart }))
+            | inr outside ↦
+                rw (ne_eqb n m apart, outside)
+                (elsewhere (λ pair. false≢true (sym outside ∙ and_from (nat_lt n nodes) (nat_lt m nodes) (lt-ltb n nodes pair.sender) (lt-ltb m nodes pair.receiver))))
+          ]
+    ]
+
+-- the delays of all links, by those between nodes
+pub links-by : (nodes least spread : ℕ) (given : List Link) (delays : Links) → nodes ≤ 8 → IsLinks nodes delays
+    → length delays.least ≡ 8 → ((n : ℕ) → n < 8 → length (get_or delays.least n []) ≡ 8)
+    → length delays.spread ≡ 8 → ((n : ℕ) → n < 8 → length (get_or delays.spread n []) ≡ 8)
+    → ((n m : ℕ) → IsPair nodes n m → least_of delays n m ≡ least_given given least n m)
+    → ((n m : ℕ) → IsPair nodes n m → spread_of delays n m ≡ spread_given given spread n m)
+    → delays ≡ links_of nodes least spread given
+links-by nodes least spread given delays few form rows entries more_rows more_entries at_least at_spread =
+    let one : delays.least ≡ table_by (λ n m. pair_entry nodes (least_given given least n m) 1 n m) =
+    table-by delays.least (λ n m. pair_entry nodes (least_given given least n m) 1 n m) rows entries
+    (λ n m low high. entry-by nodes (least_given given least n m) 1 (least_of delays n m) n m (at_least n m) (form.least_elsewhere n m low high)) in
+    let other : delays.spread ≡ table_by (λ n m. pair_entry nodes (spread_given given spread n m) 0 n m) =
+    table-by delays.spread (λ n m. pair_entry nodes (spread_given given spread n m) 0 n m) more_rows more_entries
+    (λ n m low high. entry-by nodes (spread_given given spread n m) 0 (spread_of delays n m) n m (at_spread n m) (form.spread_elsewhere n m low high)) in
+    rw (one, other) refl

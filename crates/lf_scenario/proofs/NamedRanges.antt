@@ -1,7 +1,7 @@
 -- The formulas of the named outcomes are in range.
 use Rattle.std.proofs.Common.{◌≡◌, ℕ, zero, suc, ◌+◌, ◌*◌, ◌<◌, ◌≤◌, Bool, true, ◌&&◌, List, [], ◌∷◌, refl, sym, ap, ◌∙◌, map, max, inl, inr, arith}
 use Rattle.std.specs.Prelude.{nat_le, nat_lt}
-use Rattle.std.specs.List.{fold, range_with_len, list_all}
+use Rattle.std.specs.List.{AllByRecursion, fold, range_with_len, list_all}
 use Rattle.std.proofs.lemmas.Bool.{and_from, lt-ltb, le-leb}
 use Rattle.std.proofs.lemmas.List.Folds.{list_all-map}
 use Rattle.lf_faults.specs.Allowed.{Bounds, IsInLimits}
@@ -15,13 +15,12 @@ use Rattle.lf_outcome.specs.declared.formula.Formula.{Formula, fold-roll-Formula
 use Rattle.lf_outcome.specs.declared.formula.Formula.TheVariants.{rolls-All, rolls-Any, rolls-Down, rolls-Shows}
 use Rattle.lf_outcome.specs.declared.formula.Formula.TheVariants as kind
 use Rattle.lf_outcome.specs.declared.formula.Formula.TheOpen.{Formula-F}
-use Rattle.lf_outcome.specs.declared.outcome.Outcome.{Outcome}
-use Rattle.lf_outcome.specs.declared.outcome.Outcome.TheVariants.{Delivered, Agreement, Unblocked, OnePrimary, Durable}
+use Rattle.lf_outcome.specs.declared.outcome.Outcome.TheVariants.{OnePrimary, Durable}
+use Rattle.lf_outcome.specs.Outcomes.{outcomes_of}
 use Rattle.lf_outcome.specs.Measures.{depth_of, atoms_of}
 use Rattle.lf_outcome.specs.Named.{shows_or_down, each_shows, formula_of}
 use Rattle.lf_outcome.proofs.MeasuresLemmas.{depth_of-parts, atoms_of-parts, depth_of-Down, depth_of-Shows, atoms_of-Down, atoms_of-Shows}
 use Rattle.lf_scenario.specs.Formulas.{is_point, is_fact_of, range_step, is_in_range, IsFormulaOf}
-use Rattle.lf_scenario.specs.Reading.{is_of_delivery, is_of_commit, is_of_replica, is_outcome_of}
 
 -- a node that shows a fact or is down
 module _ (t : ℕ) (fact : Fact) where
@@ -63,21 +62,21 @@ module _ (t : ℕ) (fact : Fact) where
 
 -- what is in range
 module _ (k : Kind) (nodes horizon : ℕ) where
-  range-All : (parts : List (Formula Fact)) → is_in_range k nodes horizon (kind.All parts) ≡ list_all (is_in_range k nodes horizon) parts
+  pub range-All : (parts : List (Formula Fact)) → is_in_range k nodes horizon (kind.All parts) ≡ list_all (is_in_range k nodes horizon) parts
   range-All parts =
       ap (is_in_range k nodes horizon) (sym (rolls-All parts)) ∙ fold-roll-Formula Fact Bool (range_step k nodes horizon) (Formula-F.All parts)
       ∙ list_all-map (λ b. b) (is_in_range k nodes horizon) parts
 
-  range-Any : (parts : List (Formula Fact)) → is_in_range k nodes horizon (kind.Any parts) ≡ list_all (is_in_range k nodes horizon) parts
+  pub range-Any : (parts : List (Formula Fact)) → is_in_range k nodes horizon (kind.Any parts) ≡ list_all (is_in_range k nodes horizon) parts
   range-Any parts =
       ap (is_in_range k nodes horizon) (sym (rolls-Any parts)) ∙ fold-roll-Formula Fact Bool (range_step k nodes horizon) (Formula-F.Any parts)
       ∙ list_all-map (λ b. b) (is_in_range k nodes horizon) parts
 
-  range-Down : (n t : ℕ) → is_in_range k nodes horizon (kind.Down n t) ≡ is_point nodes horizon n t
+  pub range-Down : (n t : ℕ) → is_in_range k nodes horizon (kind.Down n t) ≡ is_point nodes horizon n t
   range-Down n t =
       ap (is_in_range k nodes horizon) (sym (rolls-Down n t)) ∙ fold-roll-Formula Fact Bool (range_step k nodes horizon) (Formula-F.Down n t)
 
-  range-Shows : (n t : ℕ) (fact : Fact) → is_in_range k nodes horizon (kind.Shows n t fact) ≡ (is_point nodes horizon n t && is_fact_of k fact)
+  pub range-Shows : (n t : ℕ) (fact : Fact) → is_in_range k nodes horizon (kind.Shows n t fact) ≡ (is_point nodes horizon n t && is_fact_of k fact)
   range-Shows n t fact =
       ap (is_in_range k nodes horizon) (sym (rolls-Shows n t fact)) ∙ fold-roll-Formula Fact Bool (range_step k nodes horizon) (Formula-F.Shows n t fact)
 
@@ -205,44 +204,14 @@ module _ (k : Kind) (b : Bounds) (limits : IsInLimits b) where
       (depth_of-Down Fact 2 last) (depth_of-Shows 2 last NotDone) (depth_of-Shows 0 last Holds) (depth_of-Shows 1 last Holds)
       (atoms_of-Down Fact 2 last) (atoms_of-Shows 2 last NotDone) (atoms_of-Shows 0 last Holds) (atoms_of-Shows 1 last Holds)
 
-  delivery_fits : (outcome : Outcome) → is_fact_of k Has ≡ true → is_fact_of k Lacks ≡ true → is_of_delivery outcome ≡ true
-      → IsFormulaOf k b (formula_of outcome b.nodes b.horizon)
-  delivery_fits Delivered has lacks own = either_each k b limits Has Lacks has lacks
-  delivery_fits Agreement has lacks own = absurd cc
-  delivery_fits Unblocked has lacks own = absurd cc
-  delivery_fits OnePrimary has lacks own = absurd cc
-  delivery_fits Durable has lacks own = absurd cc
-
-  commit_fits : (outcome : Outcome) → is_fact_of k NotCommitted ≡ true → is_fact_of k NotAborted ≡ true → is_fact_of k Free ≡ true
-      → is_of_commit outcome ≡ true → IsFormulaOf k b (formula_of outcome b.nodes b.horizon)
-  commit_fits Delivered committed aborted free own = absurd cc
-  commit_fits Agreement committed aborted free own = either_each k b limits NotCommitted NotAborted committed aborted
-  commit_fits Unblocked committed aborted free own = all_each k b limits Free free
-  commit_fits OnePrimary committed aborted free own = absurd cc
-  commit_fits Durable committed aborted free own = absurd cc
-
-  replica_fits : (outcome : Outcome) → 3 ≤ b.nodes → is_fact_of k Backup ≡ true → is_fact_of k NotDone ≡ true → is_fact_of k Holds ≡ true
-      → is_of_replica outcome ≡ true → IsFormulaOf k b (formula_of outcome b.nodes b.horizon)
-  replica_fits Delivered three backup done holds own = absurd cc
-  replica_fits Agreement three backup done holds own = absurd cc
-  replica_fits Unblocked three backup done holds own = absurd cc
-  replica_fits OnePrimary three backup done holds own = one_primary_fits backup
-  replica_fits Durable three backup done holds own = durable_fits three done holds
-
-formula_of-fits : (k : Kind) (b : Bounds) (outcome : Outcome) → IsInLimits b → IsWithinLimits k → nodes_of k ≡ b.nodes → is_outcome_of k outcome ≡ true
-    → IsFormulaOf k b (formula_of outcome b.nodes b.horizon)
-formula_of-fits (kinds.Retry nodes tries) b outcome limits within same own = delivery_fits (kinds.Retry nodes tries) b limits outcome refl refl own
-formula_of-fits (kinds.Redundant nodes tries) b outcome limits within same own = delivery_fits (kinds.Redundant nodes tries) b limits outcome refl refl own
-formula_of-fits (kinds.TwoPhase nodes patience votes) b outcome limits within same own =
-    commit_fits (kinds.TwoPhase nodes patience votes) b limits outcome refl refl refl own
-formula_of-fits (kinds.ThreePhase nodes patience votes) b outcome limits within same own =
-    commit_fits (kinds.ThreePhase nodes patience votes) b limits outcome refl refl refl own
-formula_of-fits (kinds.PrimaryBackup nodes patience) b outcome limits within same own =
-    replica_fits (kinds.PrimaryBackup nodes patience) b limits outcome (omega (arith, within.0, same)) refl refl refl own
-
--- of a setting with this protocol and these bounds
-pub formula_of-setting : (k m : Kind) (b s : Bounds) (outcome : Outcome) (nodes horizon : ℕ) (formula : Formula Fact) → m ≡ k → s ≡ b
-    → nodes ≡ b.nodes → horizon ≡ b.horizon → formula ≡ formula_of outcome nodes horizon → IsInLimits b → IsWithinLimits k → nodes_of k ≡ b.nodes
-    → is_outcome_of k outcome ≡ true → IsFormulaOf m s formula
-formula_of-setting k m b s outcome nodes horizon formula machine spec at_nodes at_horizon is limits within same own =
-    rw (machine, spec, is, at_nodes, at_horizon) (formula_of-fits k b outcome limits within same own)
+-- each outcome of the protocol
+pub outcomes_fit : (k : Kind) (b : Bounds) → IsInLimits b → IsWithinLimits k → nodes_of k ≡ b.nodes
+    → AllByRecursion (λ o. IsFormulaOf k b (formula_of o b.nodes b.horizon)) (outcomes_of k)
+outcomes_fit (kinds.Retry nodes tries) b limits within same = (either_each (kinds.Retry nodes tries) b limits Has Lacks refl refl, tt)
+outcomes_fit (kinds.Redundant nodes tries) b limits within same = (either_each (kinds.Redundant nodes tries) b limits Has Lacks refl refl, tt)
+outcomes_fit (kinds.TwoPhase nodes patience votes) b limits within same =
+    (either_each (kinds.TwoPhase nodes patience votes) b limits NotCommitted NotAborted refl refl, (all_each (kinds.TwoPhase nodes patience votes) b limits Free refl, tt))
+outcomes_fit (kinds.ThreePhase nodes patience votes) b limits within same =
+    (either_each (kinds.ThreePhase nodes patience votes) b limits NotCommitted NotAborted refl refl, (all_each (kinds.ThreePhase nodes patience votes) b limits Free refl, tt))
+outcomes_fit (kinds.PrimaryBackup nodes patience) b limits within same =
+    (one_primary_fits (kinds.PrimaryBackup nodes patience) b limits refl, (durable_fits (kinds.PrimaryBackup nodes patience) b limits (omega (arith, within.0, same)) refl refl, tt))

@@ -49,19 +49,19 @@ module _ (vs : List Value) (nodes : ℕ) (some : 2 ≤ nodes) (few : nodes ≤ 8
   agrees zero high = refl
   agrees (suc k) high = past (items_view vs) k (omega (arith, count-length vs, counted, high))
 
+  silent : All IsTrue (drop nodes (votes_of (items_view vs)))
+  silent =
+      let eight : nodes + (8 - nodes) ≡ 8 = omega (arith, few) in
+      let rest : drop nodes (map (vote_of (items_view vs)) (range_with_len 0 (nodes + (8 - nodes)))) ≡ map (vote_of (items_view vs)) (range_with_len (0 + nodes) (8 - nodes)) =
+      drop-map (vote_of (items_view vs)) nodes 0 (8 - nodes) in
+      let here : drop nodes (votes_of (items_view vs)) ≡ map (vote_of (items_view vs)) (range_with_len (0 + nodes) (8 - nodes)) =
+      subst (λ m. drop nodes (map (vote_of (items_view vs)) (range_with_len 0 m)) ≡ map (vote_of (items_view vs)) (range_with_len (0 + nodes) (8 - nodes))) eight rest in
+      subst (All IsTrue) (sym here)
+      (All-from_recursion IsTrue (map (vote_of (items_view vs)) (range_with_len (0 + nodes) (8 - nodes)))
+      (later (vote_of (items_view vs)) (8 - nodes) (0 + nodes) (λ k low. agrees k (omega (arith, low)))))
+
   pub are_votes : AreVotes nodes (votes_of (items_view vs))
-  are_votes = record {
-    coordinator = refl;
-    others =
-        let eight : nodes + (8 - nodes) ≡ 8 = omega (arith, few) in
-        let rest : drop nodes (map (vote_of (items_view vs)) (range_with_len 0 (nodes + (8 - nodes)))) ≡ map (vote_of (items_view vs)) (range_with_len (0 + nodes) (8 - nodes)) =
-        drop-map (vote_of (items_view vs)) nodes 0 (8 - nodes) in
-        let here : drop nodes (votes_of (items_view vs)) ≡ map (vote_of (items_view vs)) (range_with_len (0 + nodes) (8 - nodes)) =
-        subst (λ m. drop nodes (map (vote_of (items_view vs)) (range_with_len 0 m)) ≡ map (vote_of (items_view vs)) (range_with_len (0 + nodes) (8 - nodes))) eight rest in
-        subst (All IsTrue) (sym here)
-        (All-from_recursion IsTrue (map (vote_of (items_view vs)) (range_with_len (0 + nodes) (8 - nodes)))
-        (later (vote_of (items_view vs)) (8 - nodes) (0 + nodes) (λ k low. agrees k (omega (arith, low)))));
-  }
+  are_votes patience positive short = (some, few, positive, short, refl, silent)
 
   pub counts : (count_items (items_view vs) + 1 == nodes) ≡ true
   counts = eq-eqb (count_items (items_view vs) + 1) nodes (omega (arith, count-length vs, counted))

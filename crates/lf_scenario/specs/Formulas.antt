@@ -9,6 +9,7 @@ use Rattle.lf_protocols.specs.Words.{fact_word, facts_of}
 use Rattle.lf_outcome.specs.declared.formula.Formula.{Formula, fold-Formula}
 use Rattle.lf_outcome.specs.declared.formula.Formula.TheOpen.{Formula-F}
 use Rattle.lf_outcome.specs.Measures.{depth_of, atoms_of}
+use Rattle.lf_scenario.specs.Limits.{deepest, most_atoms}
 
 -- a node at a step of the run
 abbrev pub is_point : ℕ → ℕ → ℕ → ℕ → Bool
@@ -30,8 +31,8 @@ module _ (k : Kind) (nodes horizon : ℕ) where
   abbrev pub is_in_range : Formula Fact → Bool
   is_in_range = fold-Formula Fact Bool range_step
 
--- the formula of a scenario: in range, at most 8 deep, with at most 512 atoms
+-- the formula of a scenario: in range, not too deep, and without too many atoms
 pub record IsFormulaOf (k : Kind) (b : Bounds) (formula : Formula Fact) : Type 0 where
   pub range : is_in_range k b.nodes b.horizon formula ≡ true
-  pub depth : depth_of formula ≤ 8
-  pub atoms : atoms_of formula ≤ 512
+  pub depth : depth_of formula ≤ deepest
+  pub atoms : atoms_of formula ≤ most_atoms

@@ -3,6 +3,8 @@ pub mod Refusals
 pub mod Values
 pub mod Votes
 pub mod Reading
+pub mod Outcomes
+pub mod Limits
 pub mod LinkTables
 pub mod Formulas
 pub mod Ranges

@@ -11,17 +11,16 @@
 -- A key is refused as one of another protocol, then as missing, then for its kind, then for its value.
 use Rattle.std.specs.Prelude.{ℕ, ◌-◌, Bool, true, false, ◌&&◌, nat_le, if◌then◌else◌, List, replicate, codes, Ok, Err}
 use Rattle.std.specs.Str.{bytes_eq}
-use Rattle.toml.specs.Data.{Data, string, array, Members}
+use Rattle.toml.specs.Data.{Data, string, Members}
 use Rattle.lf_faults.specs.Allowed.{Bounds}
 use Rattle.lf_protocols.specs.declared.protocol.Kind.{Kind}
 use Rattle.lf_protocols.specs.declared.protocol.Kind.TheVariants as kinds
 use Rattle.lf_scenario.specs.declared.key.Key.{Key}
-use Rattle.lf_scenario.specs.declared.key.Key.TheVariants.{Nodes, Horizon, LastOmission, Crashes, Budget, Pauses, PauseLength, MaxSets, Seed, Least, Spread, Protocol, Tries, Patience, Votes, Outcome}
+use Rattle.lf_scenario.specs.declared.key.Key.TheVariants.{Nodes, Horizon, LastOmission, Crashes, Budget, Pauses, PauseLength, MaxSets, Seed, Least, Spread, Protocol, Tries, Patience, Votes}
 use Rattle.lf_scenario.specs.declared.error.ScenarioError.TheVariants as refusals
 use Rattle.lf_scenario.specs.declared.names.ProtocolName.{ProtocolName}
 use Rattle.lf_scenario.specs.declared.names.ProtocolName.TheVariants as protocols
-use Rattle.lf_outcome.specs.declared.outcome.Outcome.{Outcome as OutcomeName}
-use Rattle.lf_outcome.specs.declared.outcome.Outcome.TheVariants as outcomes
+use Rattle.lf_scenario.specs.Limits.{most_sets, usual_sets}
 use Rattle.lf_scenario.specs.declared.reading.Delays.{Delays}
 use Rattle.lf_scenario.specs.declared.reading.Described.{Described}
 use Rattle.lf_scenario.specs.Values.{Reading, ◌>>=◌, whole, seed_in, required, optional, owned, chosen, known}
@@ -67,70 +66,10 @@ kind_of protocols.TwoPhase nodes tries patience votes = kinds.TwoPhase nodes pat
 kind_of protocols.ThreePhase nodes tries patience votes = kinds.ThreePhase nodes patience votes
 kind_of protocols.PrimaryBackup nodes tries patience votes = kinds.PrimaryBackup nodes patience
 
--- the outcomes of a delivery, of a commit, and of a primary with its backup, by their names
-abbrev pub delivery_named : List ℕ → Reading OutcomeName
-delivery_named name = if bytes_eq name (codes "delivered") then Ok outcomes.Delivered else Err refusals.Outcome
-
-abbrev pub commit_named : List ℕ → Reading OutcomeName
-commit_named name =
-    if bytes_eq name (codes "agreement") then Ok outcomes.Agreement
-    else if bytes_eq name (codes "unblocked") then Ok outcomes.Unblocked
-    else Err refusals.Outcome
-
-abbrev pub replica_named : List ℕ → Reading OutcomeName
-replica_named name =
-    if bytes_eq name (codes "one_primary") then Ok outcomes.OnePrimary
-    else if bytes_eq name (codes "durable") then Ok outcomes.Durable
-    else Err refusals.Outcome
-
--- those of a protocol
-abbrev pub outcome_of : Kind → List ℕ → Reading OutcomeName
-outcome_of (kinds.Retry nodes tries) name = delivery_named name
-outcome_of (kinds.Redundant nodes tries) name = delivery_named name
-outcome_of (kinds.TwoPhase nodes patience votes) name = commit_named name
-outcome_of (kinds.ThreePhase nodes patience votes) name = commit_named name
-outcome_of (kinds.PrimaryBackup nodes patience) name = replica_named name
-
--- whether it is an outcome of a delivery, of a commit, or of a primary with its backup
-abbrev pub is_of_delivery : OutcomeName → Bool
-is_of_delivery outcomes.Delivered = true
-is_of_delivery outcomes.Agreement = false
-is_of_delivery outcomes.Unblocked = false
-is_of_delivery outcomes.OnePrimary = false
-is_of_delivery outcomes.Durable = false
-
-abbrev pub is_of_commit : OutcomeName → Bool
-is_of_commit outcomes.Delivered = false
-is_of_commit outcomes.Agreement = true
-is_of_commit outcomes.Unblocked = true
-is_of_commit outcomes.OnePrimary = false
-is_of_commit outcomes.Durable = false
-
-abbrev pub is_of_replica : OutcomeName → Bool
-is_of_replica outcomes.Delivered = false
-is_of_replica outcomes.Agreement = false
-is_of_replica outcomes.Unblocked = false
-is_of_replica outcomes.OnePrimary = true
-is_of_replica outcomes.Durable = true
-
--- whether the protocol has the outcome
-abbrev pub is_outcome_of : Kind → OutcomeName → Bool
-is_outcome_of (kinds.Retry nodes tries) outcome = is_of_delivery outcome
-is_outcome_of (kinds.Redundant nodes tries) outcome = is_of_delivery outcome
-is_outcome_of (kinds.TwoPhase nodes patience votes) outcome = is_of_commit outcome
-is_outcome_of (kinds.ThreePhase nodes patience votes) outcome = is_of_commit outcome
-is_outcome_of (kinds.PrimaryBackup nodes patience) outcome = is_of_replica outcome
-
 -- the text of a protocol's name
 abbrev pub protocol_in : ℕ → Key → Data → Reading ProtocolName
 protocol_in nodes key (string name) = protocol_of nodes name
 protocol_in nodes key _ = Err (refusals.WrongKind key)
-
--- the text of an outcome's name, or a list
-abbrev pub outcome_in : Kind → Key → Data → Reading OutcomeName
-outcome_in k key (string name) = outcome_of k name
-outcome_in k key (array parts) = Err refusals.Formula
-outcome_in k key _ = Err (refusals.WrongKind key)
 
 -- nodes, steps, and bounds on faults
 unfoldable pub bounds_in : Members → Reading Bounds
@@ -161,13 +100,12 @@ kind_in nodes ms = do
   votes ← chosen (has_votes name) ms Votes (votes_in nodes) all_agree
   Ok (kind_of name nodes tries patience votes)
 
--- all that a scenario says but its links
+-- all that a scenario says but its outcome and its links
 unfoldable pub described_in : Members → Reading Described
 described_in ms = do
   all ← known ms
   bounds ← bounds_in ms
-  max_sets ← optional ms MaxSets (whole 1 1000000) 100000
+  max_sets ← optional ms MaxSets (whole 1 most_sets) usual_sets
   delays ← delays_in ms
   kind ← kind_in bounds.nodes ms
-  outcome ← required ms Outcome (outcome_in kind)
-  Ok (record { bounds = bounds; max_sets = max_sets; delays = delays; protocol = kind; outcome = outcome })
+  Ok (record { bounds = bounds; max_sets = max_sets; delays = delays; protocol = kind })

@@ -3,13 +3,13 @@
 ghost use Rattle.std.specs.Prelude.{◌≡◌};
 ghost use Rattle.lf_scenario.specs.Refusals.{number_of, key_of};
 
-use crate::Key;
+use crate::{Key, LONGEST};
 use thiserror::Error;
 
 /// Why a text is no scenario.
 #[derive(Clone, Copy, Debug, PartialEq, Eq, Error)]
 pub enum ScenarioError {
-    #[error("the text is longer than 65536 bytes")]
+    #[error("the text is longer than {} bytes", LONGEST)]
     TooLong,
     #[error("the text is not TOML")]
     NoDocument,

@@ -6,22 +6,23 @@
 
 mod error;
 mod key;
-mod laws;
+mod limits;
 mod links;
 mod names;
+mod outcomes;
 mod reader;
 mod reading;
 mod scenario;
+mod uniqueness;
 mod value;
 mod votes;
 
 pub use error::ScenarioError;
 pub use key::Key;
-pub use laws::refusals_are_one;
-pub use links::Link;
-pub use names::ProtocolName;
-pub use reader::{LONGEST, read};
+pub use limits::{DEEPEST, LONGEST, MOST_ATOMS, MOST_SETS};
+pub use reader::read;
 pub use scenario::Scenario;
+pub use uniqueness::{refusals_are_one, scenarios_are_one};
 
 #[cfg(test)]
 mod tests;

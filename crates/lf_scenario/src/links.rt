@@ -1,10 +1,10 @@
 //! The tables of links.
 
-ghost use Rattle.std.specs.Prelude.{ℕ, ◌≡◌, ◌≢◌, ◌≤◌, [], All, IfOk, IfErr};
+ghost use Rattle.std.specs.Prelude.{ℕ, ◌≡◌, ◌≢◌, ◌<◌, ◌≤◌, [], All, length, slice_index_or, IfOk, IfErr};
 ghost use Rattle.toml.specs.View.{view, table_view, array_view};
-ghost use Rattle.lf_latency.specs.Links.{is_pair, IsPair, IsLinks, least_of, spread_of};
+ghost use Rattle.lf_latency.specs.Links.{IsLinks};
 ghost use Rattle.lf_scenario.specs.Values.{optional};
-ghost use Rattle.lf_scenario.specs.LinkTables.{all_tables, link_keys, end_in, end_at, delay_at, is_given, joined, link_in, links_from, links_in, least_given, spread_given, IsLink};
+ghost use Rattle.lf_scenario.specs.LinkTables.{all_tables, link_keys, end_in, end_at, delay_at, is_given, joined, link_in, links_from, links_in, links_of, all_links, IsLink};
 
 use crate::value::{at, whole};
 use crate::{Key, ScenarioError};
@@ -20,6 +20,17 @@ pub struct Link {
     pub to: u32,
     pub least: u32,
     pub spread: u32,
+}
+
+/// How many nodes there are, and the delays of a link that has none of its own.
+#[derive(Clone, Copy)]
+pub(crate) struct Usual {
+    pub nodes: u32,
+    pub least: u32,
+    pub spread: u32,
+    ghost some_nodes: { (2 ≤ nodes) × (nodes ≤ 8) },
+    ghost some_steps: { (1 ≤ least) × (least ≤ 16) },
+    ghost few_more: { spread ≤ 15 },
 }
 
 /// Whether each item is a table.
@@ -80,13 +91,6 @@ fn delay_at(
     }
 }
 
-/// Whether two numbers are different nodes.
-fn is_pair(nodes: u32, from: u32, to: u32) -> bool
-    ensures { result ≡ is_pair nodes from to }
-{
-    from != to && from < nodes && to < nodes
-}
-
 /// Whether there is such a link among some.
 fn is_given(links: &[Link], from: u32, to: u32) -> bool
     ensures { result ≡ is_given links.now from to }
@@ -97,23 +101,23 @@ fn is_given(links: &[Link], from: u32, to: u32) -> bool
 /// The link of these ends, where it is one and no earlier one has the same ends.
 #[tactic(auto, unfolding(crate::specs::LinkTables::joined))]
 fn joined(
-    nodes: u32,
+    usual: Usual,
     before: &[Link],
     from: i64,
     to: i64,
     least: u32,
     spread: u32,
 ) -> Result<Link, ScenarioError>
-    requires nodes { nodes ≤ 8 }
     requires least { (1 ≤ least) × (least ≤ 16) }
     requires spread { spread ≤ 15 }
-    ensures value { result ≡ joined nodes before.now from to least spread }
-    ensures link { IfOk result (IsLink nodes) }
+    ensures value { result ≡ joined usual.nodes before.now from to least spread }
+    ensures link { IfOk result (IsLink usual.nodes) }
 {
     let (Ok(from), Ok(to)) = (u32::try_from(from), u32::try_from(to)) else {
         return Err(ScenarioError::Link);
     };
-    if is_pair(nodes, from, to) && !is_given(before, from, to) {
+    let is_pair = from != to && from < usual.nodes && to < usual.nodes;
+    if is_pair && !is_given(before, from, to) {
         Ok(Link {
             from,
             to,
@@ -127,48 +131,31 @@ fn joined(
 
 /// The link of a table.
 #[tactic(auto, unfolding(crate::specs::LinkTables::link_in))]
-fn link_in(
-    table: &Table,
-    nodes: u32,
-    least: u32,
-    spread: u32,
-    before: &[Link],
-) -> Result<Link, ScenarioError>
-    requires nodes { nodes ≤ 8 }
-    requires least { (1 ≤ least) × (least ≤ 16) }
-    requires spread { spread ≤ 15 }
-    ensures value { result ≡ link_in nodes least spread before.now (table_view table.now) }
-    ensures link { IfOk result (IsLink nodes) }
+fn link_in(table: &Table, usual: Usual, before: &[Link]) -> Result<Link, ScenarioError>
+    ensures value { result ≡ link_in usual.nodes usual.least usual.spread before.now (table_view table.now) }
+    ensures link { IfOk result (IsLink usual.nodes) }
 {
     link_keys(table)?;
     let from = end_at(table, "from")?;
     let to = end_at(table, "to")?;
-    let own_least = delay_at(table, "least", 1, 16, least)?;
-    let own_spread = delay_at(table, "spread", 0, 15, spread)?;
-    joined(nodes, before, from, to, own_least, own_spread)
+    let least = delay_at(table, "least", 1, 16, usual.least)?;
+    let spread = delay_at(table, "spread", 0, 15, usual.spread)?;
+    joined(usual, before, from, to, least, spread)
 }
 
 /// The links of the tables.
-fn links_from(
-    alloc: Global,
-    items: &Array,
-    nodes: u32,
-    least: u32,
-    spread: u32,
-) -> Result<Vec<Link>, ScenarioError>
-    requires nodes { nodes ≤ 8 }
-    requires least { (1 ≤ least) × (least ≤ 16) }
-    requires spread { spread ≤ 15 }
-    ensures ok { IfOk result (λ links. links_from nodes least spread [] (array_view items.now) ≡ Ok links.items) }
+fn links_from(alloc: Global, items: &Array, usual: Usual) -> Result<Vec<Link>, ScenarioError>
+    ensures ok { IfOk result (λ links.
+        links_from usual.nodes usual.least usual.spread [] (array_view items.now) ≡ Ok links.items) }
     ensures err { IfErr result (λ e. e ≢ ScenarioError.Memory →
-        links_from nodes least spread [] (array_view items.now) ≡ Err e) }
-    ensures links { IfOk result (λ links. All (IsLink nodes) links.items) }
+        links_from usual.nodes usual.least usual.spread [] (array_view items.now) ≡ Err e) }
+    ensures links { IfOk result (λ links. All (IsLink usual.nodes) links.items) }
 {
     let mut links = Vec::new(alloc);
     'items: for value in items.iter() {
         match value {
             Value::Table(table) => {
-                let link = link_in(table, nodes, least, spread, links.as_slice())?;
+                let link = link_in(table, usual, links.as_slice())?;
                 links.push(link).map_err(|_| ScenarioError::Memory)?;
             }
             _ => return Err(ScenarioError::WrongKind(Key::Links)),
@@ -179,44 +166,59 @@ fn links_from(
 
 /// The links of the value at the key `links`, and none where there isn't one.
 #[tactic(auto, unfolding(crate::specs::Values::optional, crate::specs::LinkTables::links_in))]
-pub(crate) fn read_links(
-    alloc: Global,
-    table: &Table,
-    nodes: u32,
-    least: u32,
-    spread: u32,
-) -> Result<Vec<Link>, ScenarioError>
-    requires nodes { nodes ≤ 8 }
-    requires least { (1 ≤ least) × (least ≤ 16) }
-    requires spread { spread ≤ 15 }
-    ensures ok { IfOk result (λ links.
-        optional (table_view table.now) Key.Links (links_in nodes least spread) [] ≡ Ok links.items) }
-    ensures err { IfErr result (λ e. e ≢ ScenarioError.Memory →
-        optional (table_view table.now) Key.Links (links_in nodes least spread) [] ≡ Err e) }
-    ensures links { IfOk result (λ links. All (IsLink nodes) links.items) }
+fn given_links(alloc: Global, table: &Table, usual: Usual) -> Result<Vec<Link>, ScenarioError>
+    ensures ok { IfOk result (λ links. optional (table_view table.now) Key.Links
+        (links_in usual.nodes usual.least usual.spread) [] ≡ Ok links.items) }
+    ensures err { IfErr result (λ e. e ≢ ScenarioError.Memory → optional (table_view table.now) Key.Links
+        (links_in usual.nodes usual.least usual.spread) [] ≡ Err e) }
+    ensures links { IfOk result (λ links. All (IsLink usual.nodes) links.items) }
 {
     match at(table, Key::Links.name()) {
-        Some(Value::Array(items)) if all_tables(items) => {
-            links_from(alloc, items, nodes, least, spread)
-        }
+        Some(Value::Array(items)) if all_tables(items) => links_from(alloc, items, usual),
         Some(_) => Err(ScenarioError::WrongKind(Key::Links)),
         None => Ok(Vec::new(alloc)),
     }
 }
 
-/// The delays of all links: those that are given, and the scenario's elsewhere.
-pub(crate) fn all_delays(nodes: u32, least: u32, spread: u32, given: &[Link]) -> Links
-    requires nodes { (2 ≤ nodes) × (nodes ≤ 8) }
-    requires least { (1 ≤ least) × (least ≤ 16) }
-    requires spread { spread ≤ 15 }
-    requires links { All (IsLink nodes) given.now }
-    ensures form { IsLinks nodes result }
-    ensures least { (n m : ℕ) → IsPair nodes n m → least_of result n m ≡ least_given given.now least n m }
-    ensures spread { (n m : ℕ) → IsPair nodes n m → spread_of result n m ≡ spread_given given.now spread n m }
+/// The delays of all links: those that are given, and the usual ones elsewhere.
+fn links_of(usual: Usual, given: &[Link]) -> Links
+    requires { All (IsLink usual.nodes) given.now }
+    ensures form { IsLinks usual.nodes result }
+    ensures value { result ≡ links_of usual.nodes usual.least usual.spread given.now }
 {
-    let mut delays = Links::new(nodes, least, spread);
+    let mut delays = Links::new(usual.nodes, usual.least, usual.spread);
     'links: for link in given {
         delays = delays.with(link.from, link.to, link.least, link.spread);
     }
+    has_eight_rows(&delays.least);
+    has_eight_rows(&delays.spread);
     delays
+}
+
+/// The law that a row has eight entries.
+fn has_eight_entries(row: &[u32; 8])
+    ensures { length row.now ≡ 8 }
+{}
+
+/// The law that a table has eight rows of eight entries.
+fn has_eight_rows(table: &[[u32; 8]; 8])
+    ensures rows { length table.now ≡ 8 }
+    ensures entries { (n : ℕ) → n < 8 → length (slice_index_or table.now n []) ≡ 8 }
+{
+    'rows: for row in table {
+        has_eight_entries(row);
+    }
+}
+
+/// The delays of all links, by the table and the usual ones.
+#[tactic(auto, unfolding(crate::specs::LinkTables::all_links))]
+pub(crate) fn all_links(alloc: Global, table: &Table, usual: Usual) -> Result<Links, ScenarioError>
+    ensures ok { IfOk result (λ links.
+        all_links usual.nodes usual.least usual.spread (table_view table.now) ≡ Ok links) }
+    ensures err { IfErr result (λ e. e ≢ ScenarioError.Memory →
+        all_links usual.nodes usual.least usual.spread (table_view table.now) ≡ Err e) }
+    ensures form { IfOk result (IsLinks usual.nodes) }
+{
+    let given = given_links(alloc, table, usual)?;
+    Ok(links_of(usual, given.as_slice()))
 }

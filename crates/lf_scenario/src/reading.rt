@@ -1,20 +1,20 @@
 //! The reading of a table.
 
-ghost use Rattle.std.specs.Prelude.{◌≡◌, ◌<◌, ◌≤◌, true, IfOk};
+ghost use Rattle.std.specs.Prelude.{◌≡◌, ◌<◌, ◌≤◌, IfOk};
 ghost use Rattle.lf_protocols.specs.Limits.{IsWithinLimits};
 ghost use Rattle.lf_protocols.specs.Protocols.{nodes_of};
 ghost use Rattle.toml.specs.View.{view, table_view};
 ghost use Rattle.lf_scenario.specs.Ranges.{AreDelays, IsInRange};
 ghost use Rattle.lf_scenario.specs.Values.{required};
-ghost use Rattle.lf_scenario.specs.Reading.{protocol_of, protocol_in, has_tries, has_patience, has_votes, kind_of, delivery_named, commit_named, replica_named, outcome_of, outcome_in, is_of_delivery, is_of_commit, is_of_replica, is_outcome_of, bounds_in, delays_in, kind_in, described_in};
+ghost use Rattle.lf_scenario.specs.Reading.{protocol_of, protocol_in, has_tries, has_patience, has_votes, kind_of, bounds_in, delays_in, kind_in, described_in};
 
+use crate::limits::{MOST_SETS, USUAL_SETS};
 use crate::names::ProtocolName;
 use crate::value::{at, known, optional_seed, optional_whole, owned_whole, required_whole};
 use crate::votes::chosen_votes;
 use crate::{Key, ScenarioError};
 use lf_faults::FaultSpec;
-use lf_outcome::Outcome;
-use lf_protocols::{Kind, Protocol};
+use lf_protocols::Protocol;
 use toml::{Table, Value};
 
 /// What decides when notes arrive, but for the links that have delays of their own.
@@ -25,19 +25,18 @@ pub struct Delays {
     pub spread: u32,
 }
 
-/// All that a scenario says but its links.
+/// All that a scenario says but its outcome and its links.
 #[derive(Clone, Copy, Debug, PartialEq, Eq)]
 pub struct Described {
     pub bounds: FaultSpec,
     pub max_sets: u32,
     pub delays: Delays,
     pub protocol: Protocol,
-    pub outcome: Outcome,
 }
 
 /// Nodes, steps, and bounds on faults.
 #[tactic(auto, unfolding(crate::specs::Reading::bounds_in))]
-fn read_bounds(table: &Table) -> Result<FaultSpec, ScenarioError>
+fn bounds_in(table: &Table) -> Result<FaultSpec, ScenarioError>
     ensures { result ≡ bounds_in (table_view table.now) }
 {
     let nodes = required_whole(table, Key::Nodes, 2, 8)?;
@@ -71,7 +70,7 @@ fn without_pauses(
 
 /// What decides when notes arrive, but for the links that have delays of their own.
 #[tactic(auto, unfolding(crate::specs::Reading::delays_in))]
-fn read_delays(table: &Table) -> Result<Delays, ScenarioError>
+fn delays_in(table: &Table) -> Result<Delays, ScenarioError>
     ensures value { result ≡ delays_in (table_view table.now) }
     ensures within { IfOk result AreDelays }
 {
@@ -86,7 +85,7 @@ fn read_delays(table: &Table) -> Result<Delays, ScenarioError>
 }
 
 /// The protocol of this name. One with a backup needs three nodes.
-fn protocol_name(name: &str, nodes: u32) -> Result<ProtocolName, ScenarioError>
+fn protocol_of(name: &str, nodes: u32) -> Result<ProtocolName, ScenarioError>
     ensures value { result ≡ protocol_of nodes name.now }
     ensures enough { IfOk result (λ p. p ≡ ProtocolName.PrimaryBackup → 3 ≤ nodes) }
 {
@@ -106,12 +105,12 @@ fn protocol_name(name: &str, nodes: u32) -> Result<ProtocolName, ScenarioError>
 }
 
 /// The protocol that a value names.
-fn protocol(value: &Value, key: Key, nodes: u32) -> Result<ProtocolName, ScenarioError>
+fn protocol_in(value: &Value, key: Key, nodes: u32) -> Result<ProtocolName, ScenarioError>
     ensures value { result ≡ protocol_in nodes key (view value.now) }
     ensures enough { IfOk result (λ p. p ≡ ProtocolName.PrimaryBackup → 3 ≤ nodes) }
 {
     match value {
-        Value::String(text) => protocol_name(text.as_str(), nodes),
+        Value::String(text) => protocol_of(text.as_str(), nodes),
         _ => Err(ScenarioError::WrongKind(key)),
     }
 }
@@ -123,7 +122,7 @@ fn required_protocol(table: &Table, nodes: u32) -> Result<ProtocolName, Scenario
     ensures enough { IfOk result (λ p. p ≡ ProtocolName.PrimaryBackup → 3 ≤ nodes) }
 {
     match at(table, Key::Protocol.name()) {
-        Some(value) => protocol(value, Key::Protocol, nodes),
+        Some(value) => protocol_in(value, Key::Protocol, nodes),
         None => Err(ScenarioError::Missing(Key::Protocol)),
     }
 }
@@ -159,7 +158,7 @@ fn has_votes(name: ProtocolName) -> bool
 }
 
 /// The protocol with its settings.
-fn made(name: ProtocolName, nodes: u32, tries: u32, patience: u32, votes: [bool; 8]) -> Protocol
+fn kind_of(name: ProtocolName, nodes: u32, tries: u32, patience: u32, votes: [bool; 8]) -> Protocol
     requires { IsWithinLimits (kind_of name nodes tries patience votes) }
     ensures value { result ≡ kind_of name nodes tries patience votes }
     ensures nodes { nodes_of result ≡ nodes }
@@ -176,7 +175,7 @@ fn made(name: ProtocolName, nodes: u32, tries: u32, patience: u32, votes: [bool;
 
 /// The protocol among so many nodes.
 #[tactic(auto, unfolding(crate::specs::Reading::kind_in))]
-fn read_protocol(table: &Table, nodes: u32) -> Result<Protocol, ScenarioError>
+fn kind_in(table: &Table, nodes: u32) -> Result<Protocol, ScenarioError>
     requires { (2 ≤ nodes) × (nodes ≤ 8) }
     ensures value { result ≡ kind_in nodes (table_view table.now) }
     ensures nodes { IfOk result (λ protocol. nodes_of protocol ≡ nodes) }
@@ -186,102 +185,24 @@ fn read_protocol(table: &Table, nodes: u32) -> Result<Protocol, ScenarioError>
     let tries = owned_whole(table, Key::Tries, has_tries(name), 1, 48)?;
     let patience = owned_whole(table, Key::Patience, has_patience(name), 1, 48)?;
     let votes = chosen_votes(table, has_votes(name), nodes)?;
-    Ok(made(name, nodes, tries, patience, votes))
+    Ok(kind_of(name, nodes, tries, patience, votes))
 }
 
-/// The outcome of a delivery with this name.
-fn delivery_named(name: &str) -> Result<Outcome, ScenarioError>
-    ensures value { result ≡ delivery_named name.now }
-    ensures owned { IfOk result (λ outcome. is_of_delivery outcome ≡ true) }
-{
-    if name == "delivered" {
-        Ok(Outcome::Delivered)
-    } else {
-        Err(ScenarioError::Outcome)
-    }
-}
-
-/// The outcome of a commit with this name.
-fn commit_named(name: &str) -> Result<Outcome, ScenarioError>
-    ensures value { result ≡ commit_named name.now }
-    ensures owned { IfOk result (λ outcome. is_of_commit outcome ≡ true) }
-{
-    if name == "agreement" {
-        Ok(Outcome::Agreement)
-    } else if name == "unblocked" {
-        Ok(Outcome::Unblocked)
-    } else {
-        Err(ScenarioError::Outcome)
-    }
-}
-
-/// The outcome of a primary and its backup with this name.
-fn replica_named(name: &str) -> Result<Outcome, ScenarioError>
-    ensures value { result ≡ replica_named name.now }
-    ensures owned { IfOk result (λ outcome. is_of_replica outcome ≡ true) }
-{
-    if name == "one_primary" {
-        Ok(Outcome::OnePrimary)
-    } else if name == "durable" {
-        Ok(Outcome::Durable)
-    } else {
-        Err(ScenarioError::Outcome)
-    }
-}
-
-/// The outcome of the protocol with this name.
-fn outcome_name(name: &str, protocol: Protocol) -> Result<Outcome, ScenarioError>
-    ensures value { result ≡ outcome_of protocol name.now }
-    ensures owned { IfOk result (λ outcome. is_outcome_of protocol outcome ≡ true) }
-{
-    match protocol.kind() {
-        Kind::Retry { .. } | Kind::Redundant { .. } => delivery_named(name),
-        Kind::TwoPhase { .. } | Kind::ThreePhase { .. } => commit_named(name),
-        Kind::PrimaryBackup { .. } => replica_named(name),
-    }
-}
-
-/// An outcome.
-fn outcome(value: &Value, key: Key, protocol: Protocol) -> Result<Outcome, ScenarioError>
-    ensures value { result ≡ outcome_in protocol key (view value.now) }
-    ensures owned { IfOk result (λ outcome. is_outcome_of protocol outcome ≡ true) }
-{
-    match value {
-        Value::String(text) => outcome_name(text.as_str(), protocol),
-        Value::Array(_) => Err(ScenarioError::Formula),
-        _ => Err(ScenarioError::WrongKind(key)),
-    }
-}
-
-/// The outcome of the table.
-#[tactic(auto, unfolding(crate::specs::Values::required))]
-fn required_outcome(table: &Table, protocol: Protocol) -> Result<Outcome, ScenarioError>
-    ensures value { result ≡ required (table_view table.now) Key.Outcome (outcome_in protocol) }
-    ensures owned { IfOk result (λ outcome. is_outcome_of protocol outcome ≡ true) }
-{
-    match at(table, Key::Outcome.name()) {
-        Some(value) => outcome(value, Key::Outcome, protocol),
-        None => Err(ScenarioError::Missing(Key::Outcome)),
-    }
-}
-
-/// All that a scenario says but its links.
+/// All that a scenario says but its outcome and its links.
 #[tactic(auto, unfolding(crate::specs::Reading::described_in))]
-pub(crate) fn read_described(table: &Table) -> Result<Described, ScenarioError>
+pub(crate) fn described_in(table: &Table) -> Result<Described, ScenarioError>
     ensures value { result ≡ described_in (table_view table.now) }
     ensures within { IfOk result IsInRange }
 {
     known(table)?;
-    let bounds = read_bounds(table)?;
-    let max_sets = optional_whole(table, Key::MaxSets, 1, 1000000, 100000)?;
-    let delays = read_delays(table)?;
-    let protocol = read_protocol(table, bounds.nodes())?;
-    let outcome = required_outcome(table, protocol)?;
+    let bounds = bounds_in(table)?;
+    let max_sets = optional_whole(table, Key::MaxSets, 1, MOST_SETS, USUAL_SETS)?;
+    let delays = delays_in(table)?;
+    let protocol = kind_in(table, bounds.nodes())?;
     Ok(Described {
         bounds,
         max_sets,
         delays,
         protocol,
-        outcome,
     })
 }

@@ -2,6 +2,7 @@
 
 ghost use Rattle.std.specs.Prelude.{◌≡◌, ◌≤◌, ◌↔◌, IsTrue};
 ghost use Rattle.lf_scenario.specs.Formulas.{IsFormulaOf};
+ghost use Rattle.lf_scenario.specs.Limits.{most_sets};
 
 use lf_outcome::{Formula, same};
 use lf_protocols::{Fact, Protocol};
@@ -14,7 +15,7 @@ pub struct Scenario {
     pub(crate) formula: Formula<Fact>,
     pub(crate) max_sets: u32,
     ghost formula_fits: { IsFormulaOf setting.machine setting.spec formula },
-    ghost some_sets: { (1 ≤ max_sets) × (max_sets ≤ 1000000) },
+    ghost some_sets: { (1 ≤ max_sets) × (max_sets ≤ most_sets) },
 }
 
 impl Scenario {
@@ -27,7 +28,7 @@ impl Scenario {
         &self.setting
     }
 
-    /// What the protocol promises: at points of the run, by facts of the protocol, at most 8 deep, with at most 512 atoms.
+    /// What the protocol promises: at points of the run, by facts of the protocol, at most `DEEPEST` deep, with at most `MOST_ATOMS` atoms.
     pub fn formula(&self) -> &Formula<Fact>
         ensures value { result.now ≡ self.now.formula }
         ensures fits { IsFormulaOf self.now.setting.machine self.now.setting.spec self.now.formula }
@@ -35,10 +36,10 @@ impl Scenario {
         &self.formula
     }
 
-    /// The most sets of faults of one size that the search keeps, 1..=1,000,000.
+    /// The most sets of faults of one size that the search keeps, 1..=`MOST_SETS`.
     pub fn max_sets(&self) -> u32
         ensures value { result ≡ self.now.max_sets }
-        ensures some { (1 ≤ result) × (result ≤ 1000000) }
+        ensures some { (1 ≤ result) × (result ≤ most_sets) }
     {
         self.max_sets
     }

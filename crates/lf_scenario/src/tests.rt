@@ -1,8 +1,9 @@
 //! Worked examples of texts, and what is read of them.
 
-use crate::{Key, LONGEST, ScenarioError, read};
-use lf_outcome::{Outcome, named, same as same_formula};
-use lf_protocols::Kind;
+use crate::{Key, LONGEST, ScenarioError, read, scenarios_are_one};
+use lf_list::Listed;
+use lf_outcome::{Formula, Outcome, atoms, depth, named, same as same_formula};
+use lf_protocols::{Fact, Kind};
 use std::alloc::{AllocError, Global};
 use std::test::Fail;
 
@@ -693,6 +694,178 @@ fn refusals_are_told_in_words(rt: HostRuntime) -> Result<(), Fail> {
         (ScenarioError::NoDocument, "the text is not TOML"),
     ] {
         assert_eq!(rt; format!(in alloc; "{refusal}")?.as_str(), words);
+    }
+    Ok(())
+}
+
+/// The scenario's text with this list as its outcome, and with more at its end.
+fn with_list(alloc: Global, list: &str, more: &str) -> Result<String, AllocError> {
+    let line = format!(in alloc; "outcome = {list}")?;
+    text(alloc, 7, line.as_str(), more)
+}
+
+/// The formula of these parts.
+fn all_of(alloc: Global, parts: [Formula<Fact>; 2]) -> Result<Formula<Fact>, AllocError> {
+    Ok(Formula::All(Listed::from_vec(Vec::from_array(alloc, parts)?)))
+}
+
+#[test]
+fn lists_are_read_as_formulas(rt: HostRuntime) -> Result<(), Fail> {
+    let alloc = rt.alloc();
+    let none = || Listed::from_vec(Vec::new(alloc));
+    let has = |node, step| Formula::Shows {
+        node,
+        step,
+        fact: Fact::Has,
+    };
+    let down = Formula::Down { node: 1, step: 2 };
+    let either = Vec::from_array(alloc, [down, has(1, 2)])?;
+    let rows = [
+        ("[\"all\"]", Formula::All(none()), 1, 0),
+        ("[\"any\"]", Formula::Any(none()), 1, 0),
+        ("[\"shows\", 2, 2, \"has\"]", has(2, 2), 1, 1),
+        (
+            "[\"any\", [\"down\", 1, 2], [\"shows\", 1, 2, \"has\"]]",
+            Formula::Any(Listed::from_vec(either)),
+            2,
+            2,
+        ),
+        (
+            "[\"all\", [\"any\"], [\"shows\", 0x2, +1, \"lacks\"]]",
+            all_of(
+                alloc,
+                [
+                    Formula::Any(none()),
+                    Formula::Shows {
+                        node: 2,
+                        step: 1,
+                        fact: Fact::Lacks,
+                    },
+                ],
+            )?,
+            2,
+            1,
+        ),
+        (
+            "[\"all\", [\"down\", 0, 1], [\"down\", 2, 4]]",
+            all_of(
+                alloc,
+                [
+                    Formula::Down { node: 0, step: 1 },
+                    Formula::Down { node: 2, step: 4 },
+                ],
+            )?,
+            2,
+            2,
+        ),
+    ];
+    for (list, by_hand, deep, many) in &rows {
+        let text = with_list(alloc, list, "")?;
+        let scenario = read(alloc, text.as_bytes())?;
+        assert!(rt; same_formula(scenario.formula(), by_hand), "of {list}");
+        assert_eq!(rt; depth(scenario.formula()), *deep, "of {list}");
+        assert_eq!(rt; atoms(scenario.formula()), *many, "of {list}");
+        assert!(rt; scenario.same(&read(alloc, text.as_bytes())?), "of {list}");
+    }
+    scenarios_are_one();
+    Ok(())
+}
+
+#[test]
+fn other_lists_are_refused(rt: HostRuntime) -> Result<(), Fail> {
+    let alloc = rt.alloc();
+    for list in [
+        "[]",
+        "[[]]",
+        "[[\"all\"]]",
+        "[\"All\"]",
+        "[\"none\"]",
+        "[1, \"all\"]",
+        "[\"all\", 1]",
+        "[\"any\", \"delivered\"]",
+        "[\"all\", [\"any\", []]]",
+        "[\"delivered\"]",
+        "[\"down\"]",
+        "[\"down\", 0]",
+        "[\"down\", 0, 1, 2]",
+        "[\"down\", -1, 1]",
+        "[\"down\", 3, 1]",
+        "[\"down\", 4294967296, 1]",
+        "[\"down\", 0, 0]",
+        "[\"down\", 0, -1]",
+        "[\"down\", 0, 5]",
+        "[\"down\", 0.0, 1]",
+        "[\"down\", \"0\", 1]",
+        "[\"down\", 0, true]",
+        "[\"shows\", 0, 1]",
+        "[\"shows\", 0, 1, \"has\", \"has\"]",
+        "[\"shows\", 3, 1, \"has\"]",
+        "[\"shows\", 0, 0, \"has\"]",
+        "[\"shows\", 0, 5, \"has\"]",
+        "[\"shows\", 0, 1, \"committed\"]",
+        "[\"shows\", 0, 1, \"Has\"]",
+        "[\"shows\", 0, 1, 1]",
+        "[\"shows\", 0, 1, [\"has\"]]",
+    ] {
+        let text = with_list(alloc, list, "")?;
+        let expected = Some((11, Some(Key::Outcome)));
+        assert_eq!(rt; refusal(alloc, text.as_bytes()), expected, "to {list}");
+    }
+    Ok(())
+}
+
+/// So many lists of `all`, one in the other, round an atom.
+fn deep_list(alloc: Global, depth: u32) -> Result<String, AllocError> {
+    let mut list = String::new(alloc);
+    for _ in 0..depth {
+        list.push_str("[\"all\", ")?;
+    }
+    list.push_str("[\"down\", 0, 1]")?;
+    for _ in 0..depth {
+        list.push(']')?;
+    }
+    Ok(list)
+}
+
+/// A list of `all` with so many atoms.
+fn wide_list(alloc: Global, atoms: u32) -> Result<String, AllocError> {
+    let mut list = String::new(alloc);
+    list.push_str("[\"all\"")?;
+    for _ in 0..atoms {
+        list.push_str(", [\"down\", 0, 1]")?;
+    }
+    list.push(']')?;
+    Ok(list)
+}
+
+#[test]
+fn deep_and_wide_lists_are_refused(rt: HostRuntime) -> Result<(), Fail> {
+    let alloc = rt.alloc();
+    let refused = Some((11, Some(Key::Outcome)));
+    for (list, expected) in [
+        (deep_list(alloc, 7)?, None),
+        (deep_list(alloc, 8)?, refused),
+        (wide_list(alloc, 512)?, None),
+        (wide_list(alloc, 513)?, refused),
+    ] {
+        let text = with_list(alloc, list.as_str(), "")?;
+        assert_eq!(rt; refusal(alloc, text.as_bytes()), expected);
+    }
+    Ok(())
+}
+
+#[test]
+fn formulas_are_refused_before_links(rt: HostRuntime) -> Result<(), Fail> {
+    let alloc = rt.alloc();
+    for (list, number, key) in [
+        ("[\"all\"]", 8, Key::Links),
+        ("[\"down\", 0, 5]", 11, Key::Outcome),
+        ("\"agreement\"", 10, Key::Outcome),
+        ("1", 5, Key::Outcome),
+    ] {
+        let text = with_list(alloc, list, "links = [{from = 1, to = 1}]\n")?;
+        let expected = Some((number, Some(key)));
+        assert_eq!(rt; refusal(alloc, text.as_bytes()), expected, "to {list}");
     }
     Ok(())
 }

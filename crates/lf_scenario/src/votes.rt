@@ -25,7 +25,7 @@ fn all_booleans(items: &Array) -> bool
 }
 
 /// A truth value, and true in place of anything else.
-fn vote(value: &Value) -> bool
+fn vote_in(value: &Value) -> bool
     ensures { result ≡ vote_in (view value.now) }
 {
     match value {
@@ -39,7 +39,7 @@ fn item_vote(items: &Array, place: usize) -> bool
     ensures { result ≡ item_vote (array_view items.now) place }
 {
     match items.get(place) {
-        Some(value) => vote(value),
+        Some(value) => vote_in(value),
         None => true,
     }
 }

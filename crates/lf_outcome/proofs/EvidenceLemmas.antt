@@ -1,0 +1,325 @@
+-- What a true formula rests on.
+use Rattle.std.proofs.Common.{◌≡◌, ℕ, ◌+◌, ◌<◌, ◌≤◌, Bool, true, false, ◌&&◌, ◌||◌, List, [], ◌∷◌, ◌++◌, length, get_or, take, drop, refl, sym, ap, ◌∙◌, subst, inl, inr, map, append_assoc}
+use Rattle.std.specs.Prelude.{Option, None, Some, IfSome, All, if◌then◌else◌}
+use Rattle.std.specs.List.{list_all, list_any, AllByRecursion}
+use Rattle.std.specs.Option.{is_some, option_map, option_and_then, unwrap_or}
+use Rattle.std.proofs.lemmas.Bool.{and_parts, and_from, or_cases, or_left, or_right}
+use Rattle.std.proofs.lemmas.List.{append-nil, drop_more, drop_all, take_at}
+use Rattle.std.proofs.lemmas.List.Elements.{All-append, All-nil, All-cons, All-head, All-tail}
+use Rattle.lf_outcome.specs.declared.formula.Formula.{Formula, fold-roll-Formula}
+use Rattle.lf_outcome.specs.declared.formula.Formula.TheVariants.{rolls-All, rolls-Any, rolls-Down, rolls-Shows}
+use Rattle.lf_outcome.specs.declared.formula.Formula.TheVariants as kind
+use Rattle.lf_outcome.specs.declared.formula.Formula.TheOpen.{Formula-F}
+use Rattle.lf_outcome.specs.declared.point.Point.{Point}
+use Rattle.lf_outcome.specs.Truth.{truth}
+use Rattle.lf_outcome.specs.Evidence.{all_of, first_of, support, support_step}
+use Rattle.lf_outcome.proofs.Inductions.{by_induction}
+use Rattle.lf_outcome.proofs.TruthLemmas.{truth-All, truth-Any, truth-Down, truth-Shows}
+
+-- `support`, by the kind of the formula
+module _ {Fact : Type 0} (down : ℕ → ℕ → Bool) (shown : ℕ → ℕ → Fact → Bool) where
+  pub support-All : (parts : List (Formula Fact)) → support down shown (kind.All parts) ≡ all_of (map (support down shown) parts)
+  support-All parts =
+      ap (support down shown) (sym (rolls-All parts))
+      ∙ fold-roll-Formula Fact (Option (List Point)) (support_step down shown) (Formula-F.All parts)
+
+  pub support-Any : (parts : List (Formula Fact)) → support down shown (kind.Any parts) ≡ first_of (map (support down shown) parts)
+  support-Any parts =
+      ap (support down shown) (sym (rolls-Any parts))
+      ∙ fold-roll-Formula Fact (Option (List Point)) (support_step down shown) (Formula-F.Any parts)
+
+  pub support-Down : (n t : ℕ) → support down shown (kind.Down n t) ≡ (if down n t then Some [] else None)
+  support-Down n t =
+      ap (support down shown) (sym (rolls-Down n t))
+      ∙ fold-roll-Formula Fact (Option (List Point)) (support_step down shown) (Formula-F.Down n t)
+
+  pub support-Shows : (n t : ℕ) (fact : Fact)
+      → support down shown (kind.Shows n t fact) ≡ (if shown n t fact then Some (record { node = n; step = t } ∷ []) else None)
+  support-Shows n t fact =
+      ap (support down shown) (sym (rolls-Shows n t fact))
+      ∙ fold-roll-Formula Fact (Option (List Point)) (support_step down shown) (Formula-F.Shows n t fact)
+
+  -- from what the parts rest on, as read
+  pub support-from_all : (f : Formula Fact) (parts xs : List (Formula Fact)) → f ≡ kind.All parts → xs ≡ parts
+      → all_of (map (support down shown) xs) ≡ support down shown f
+  support-from_all f parts xs is read =
+      ap (λ fs. all_of (map (support down shown) fs)) read ∙ sym (support-All parts) ∙ ap (support down shown) (sym is)
+
+  pub support-from_any : (f : Formula Fact) (parts xs : List (Formula Fact)) → f ≡ kind.Any parts → xs ≡ parts
+      → first_of (map (support down shown) xs) ≡ support down shown f
+  support-from_any f parts xs is read =
+      ap (λ fs. first_of (map (support down shown) fs)) read ∙ sym (support-Any parts) ∙ ap (support down shown) (sym is)
+
+-- one list more, which may be missing
+abbrev joined : {A : Type 0} → Option (List A) → Option (List A) → Option (List A)
+joined o r = option_and_then (λ xs. option_map (λ ys. xs ++ ys) r) o
+
+is_some-joined : {A : Type 0} (o r : Option (List A)) → is_some (joined o r) ≡ (is_some o && is_some r)
+is_some-joined None r = refl
+is_some-joined (Some xs) None = refl
+is_some-joined (Some xs) (Some ys) = refl
+
+is_some-first : {A : Type 0} (o : Option A) (r : List (Option A)) → is_some (first_of (o ∷ r)) ≡ (is_some o || is_some (first_of r))
+is_some-first None r = refl
+is_some-first (Some x) r = refl
+
+is_some-if : {A : Type 0} (b : Bool) (x : A) → is_some (if b then Some x else None) ≡ b
+is_some-if true x = refl
+is_some-if false x = refl
+
+-- a formula rests on something where it is true, and only there
+module _ {Fact : Type 0} (down : ℕ → ℕ → Bool) (shown : ℕ → ℕ → Fact → Bool) where
+  abbrev Agrees : Formula Fact → Type 0
+  Agrees f = is_some (support down shown f) ≡ truth down shown f
+
+  some-all : (parts : List (Formula Fact)) → AllByRecursion Agrees parts
+      → is_some (all_of (map (support down shown) parts)) ≡ list_all (truth down shown) parts
+  some-all [] h = refl
+  some-all (f ∷ fs) h =
+      let rest = all_of (map (support down shown) fs) in
+      is_some-joined (support down shown f) rest
+      ∙ ap (λ b. b && is_some rest) h.0 ∙ ap (λ b. truth down shown f && b) (some-all fs h.1)
+
+  some-any : (parts : List (Formula Fact)) → AllByRecursion Agrees parts
+      → is_some (first_of (map (support down shown) parts)) ≡ list_any (truth down shown) parts
+  some-any [] h = refl
+  some-any (f ∷ fs) h =
+      let rest = map (support down shown) fs in
+      is_some-first (support down shown f) rest
+      ∙ ap (λ b. b || is_some (first_of rest)) h.0 ∙ ap (λ b. truth down shown f || b) (some-any fs h.1)
+
+  pub support-truth : (f : Formula Fact) → is_some (support down shown f) ≡ truth down shown f
+  support-truth = by_induction Agrees (record {
+    all = λ parts h. ap is_some (support-All down shown parts) ∙ some-all parts h ∙ sym (truth-All down shown parts);
+    any = λ parts h. ap is_some (support-Any down shown parts) ∙ some-any parts h ∙ sym (truth-Any down shown parts);
+    down = λ n t. ap is_some (support-Down down shown n t) ∙ is_some-if (down n t) [] ∙ sym (truth-Down down shown n t);
+    shows = λ n t fact.
+        ap is_some (support-Shows down shown n t fact) ∙ is_some-if (shown n t fact) (record { node = n; step = t } ∷ [])
+        ∙ sym (truth-Shows down shown n t fact);
+  })
+
+-- what holds by less holds by more
+module _ {Fact : Type 0} (down later_down : ℕ → ℕ → Bool) (shown later_shown : ℕ → ℕ → Fact → Bool)
+    (downs : (n t : ℕ) → down n t ≡ true → later_down n t ≡ true)
+    (shows : (n t : ℕ) (fact : Fact) → shown n t fact ≡ true → later_shown n t fact ≡ true) where
+  abbrev Stays : Formula Fact → Type 0
+  Stays f = truth down shown f ≡ true → truth later_down later_shown f ≡ true
+
+  all-more : (parts : List (Formula Fact)) → AllByRecursion Stays parts
+      → list_all (truth down shown) parts ≡ true → list_all (truth later_down later_shown) parts ≡ true
+  all-more [] h e = refl
+  all-more (f ∷ fs) h e =
+      let p = and_parts (truth down shown f) (list_all (truth down shown) fs) e in
+      and_from (truth later_down later_shown f) (list_all (truth later_down later_shown) fs) (h.0 p.0) (all-more fs h.1 p.1)
+
+  any-more : (parts : List (Formula Fact)) → AllByRecursion Stays parts
+      → list_any (truth down shown) parts ≡ true → list_any (truth later_down later_shown) parts ≡ true
+  any-more [] h e = e
+  any-more (f ∷ fs) h e =
+      let here = truth later_down later_shown f in
+      let rest = list_any (truth later_down later_shown) fs in
+      elim (or_cases (truth down shown f) (list_any (truth down shown) fs) e) [
+        | inl first ↦ or_left here rest (h.0 first)
+        | inr later ↦ or_right here rest (any-more fs h.1 later)
+      ]
+
+  pub truth-more : (f : Formula Fact) → truth down shown f ≡ true → truth later_down later_shown f ≡ true
+  truth-more = by_induction Stays (record {
+    all = λ parts h e. truth-All later_down later_shown parts ∙ all-more parts h (sym (truth-All down shown parts) ∙ e);
+    any = λ parts h e. truth-Any later_down later_shown parts ∙ any-more parts h (sym (truth-Any down shown parts) ∙ e);
+    down = λ n t e. truth-Down later_down later_shown n t ∙ downs n t (sym (truth-Down down shown n t) ∙ e);
+    shows = λ n t fact e. truth-Shows later_down later_shown n t fact ∙ shows n t fact (sym (truth-Shows down shown n t fact) ∙ e);
+  })
+
+-- what holds of each point of two lists, and of the first list that is there
+IfSome-joined : {A : Type 0} (P : A → Type 0) (o r : Option (List A)) → IfSome o (All P) → IfSome r (All P) → IfSome (joined o r) (All P)
+IfSome-joined P None r h k = tt
+IfSome-joined P (Some xs) None h k = tt
+IfSome-joined P (Some xs) (Some ys) h k = All-append P xs ys h k
+
+IfSome-first : {A : Type 0} (P : A → Type 0) (o : Option A) (r : List (Option A)) → IfSome o P → IfSome (first_of r) P → IfSome (first_of (o ∷ r)) P
+IfSome-first P None r h k = k
+IfSome-first P (Some x) r h k = h
+
+IfSome-if : {A : Type 0} (P : A → Type 0) (b : Bool) (x : A) → (b ≡ true → P x) → IfSome (if b then Some x else None) P
+IfSome-if P true x h = h refl
+IfSome-if P false x h = tt
+
+-- what holds of each point at which a fact is shown holds of each point on which a formula rests
+module _ {Fact : Type 0} (down : ℕ → ℕ → Bool) (shown : ℕ → ℕ → Fact → Bool) (P : Point → Type 0)
+    (here : (n t : ℕ) (fact : Fact) → shown n t fact ≡ true → P (record { node = n; step = t })) where
+  abbrev Rests : Formula Fact → Type 0
+  Rests f = IfSome (support down shown f) (All P)
+
+  rests-all : (parts : List (Formula Fact)) → AllByRecursion Rests parts → IfSome (all_of (map (support down shown) parts)) (All P)
+  rests-all [] h = All-nil P
+  rests-all (f ∷ fs) h =
+      IfSome-joined P (support down shown f) (all_of (map (support down shown) fs)) h.0 (rests-all fs h.1)
+
+  rests-any : (parts : List (Formula Fact)) → AllByRecursion Rests parts → IfSome (first_of (map (support down shown) parts)) (All P)
+  rests-any [] h = tt
+  rests-any (f ∷ fs) h =
+      IfSome-first (All P) (support down shown f) (map (support down shown) fs) h.0 (rests-any fs h.1)
+
+  pub support-points : (f : Formula Fact) → IfSome (support down shown f) (All P)
+  support-points = by_induction Rests (record {
+    all = λ parts h. rw (support-All down shown parts) (rests-all parts h);
+    any = λ parts h. rw (support-Any down shown parts) (rests-any parts h);
+    down = λ n t. rw (support-Down down shown n t) (IfSome-if (All P) (down n t) [] (λ _. All-nil P));
+    shows = λ n t fact. rw (support-Shows down shown n t fact)
+        (IfSome-if (All P) (shown n t fact) (record { node = n; step = t } ∷ [])
+        (λ e. All-cons P (record { node = n; step = t }) [] (here n t fact e) (All-nil P)));
+  })
+
+All-left : {A : Type 0} (P : A → Type 0) (xs ys : List A) → All P (xs ++ ys) → All P xs
+All-left P [] ys every = All-nil P
+All-left P (x ∷ xs) ys every = All-cons P x xs (All-head P x (xs ++ ys) every) (All-left P xs ys (All-tail P x (xs ++ ys) every))
+
+All-right : {A : Type 0} (P : A → Type 0) (xs ys : List A) → All P (xs ++ ys) → All P ys
+All-right P [] ys every = every
+All-right P (x ∷ xs) ys every = All-right P xs ys (All-tail P x (xs ++ ys) every)
+
+-- a formula is true by the points alone on which it rests
+module _ {Fact : Type 0} (down : ℕ → ℕ → Bool) (shown : ℕ → ℕ → Fact → Bool) (counts : ℕ → ℕ → Bool) where
+  abbrev T : Formula Fact → Bool
+  T = truth down (λ n t fact. counts n t && shown n t fact)
+
+  abbrev Counts : Point → Type 0
+  Counts p = counts p.node p.step ≡ true
+
+  abbrev Suffices : Formula Fact → Type 0
+  Suffices f = IfSome (support down shown f) (λ points. All Counts points → T f ≡ true)
+
+  joined-true : (o r : Option (List Point)) (a b : Bool) → IfSome o (λ points. All Counts points → a ≡ true)
+      → IfSome r (λ points. All Counts points → b ≡ true) → IfSome (joined o r) (λ points. All Counts points → (a && b) ≡ true)
+  joined-true None r a b h k = tt
+  joined-true (Some xs) None a b h k = tt
+  joined-true (Some xs) (Some ys) a b h k =
+      λ every. and_from a b (h (All-left Counts xs ys every)) (k (All-right Counts xs ys every))
+
+  weaker : (o : Option (List Point)) (a b : Bool) → IfSome o (λ points. All Counts points → b ≡ true)
+      → IfSome o (λ points. All Counts points → (a || b) ≡ true)
+  weaker None a b h = tt
+  weaker (Some xs) a b h = λ every. or_right a b (h every)
+
+  first-true : (o : Option (List Point)) (r : List (Option (List Point))) (a b : Bool) → IfSome o (λ points. All Counts points → a ≡ true)
+      → IfSome (first_of r) (λ points. All Counts points → b ≡ true)
+      → IfSome (first_of (o ∷ r)) (λ points. All Counts points → (a || b) ≡ true)
+  first-true None r a b h k = weaker (first_of r) a b k
+  first-true (Some xs) r a b h k = λ every. or_left a b (h every)
+
+  suffices-all : (parts : List (Formula Fact)) → AllByRecursion Suffices parts
+      → IfSome (all_of (map (support down shown) parts)) (λ points. All Counts points → list_all T parts ≡ true)
+  suffices-all [] h = λ every. refl
+  suffices-all (f ∷ fs) h =
+      joined-true (support down shown f) (all_of (map (support down shown) fs)) (T f) (list_all T fs) h.0 (suffices-all fs h.1)
+
+  suffices-any : (parts : List (Formula Fact)) → AllByRecursion Suffices parts
+      → IfSome (first_of (map (support down shown) parts)) (λ points. All Counts points → list_any T parts ≡ true)
+  suffices-any [] h = tt
+  suffices-any (f ∷ fs) h =
+      first-true (support down shown f) (map (support down shown) fs) (T f) (list_any T fs) h.0 (suffices-any fs h.1)
+
+  abbrev counted : ℕ → ℕ → Fact → Bool
+  counted n t fact = counts n t && shown n t fact
+
+  pub support-suffices : (f : Formula Fact)
+      → IfSome (support down shown f) (λ points. All Counts points → truth down (λ n t fact. counts n t && shown n t fact) f ≡ true)
+  support-suffices = by_induction Suffices (record {
+    all = λ parts h. rw (support-All down shown parts, truth-All down counted parts) (suffices-all parts h);
+    any = λ parts h. rw (support-Any down shown parts, truth-Any down counted parts) (suffices-any parts h);
+    down = λ n t. rw (support-Down down shown n t, truth-Down down counted n t)
+        (IfSome-if (λ points. All Counts points → down n t ≡ true) (down n t) [] (λ e every. e));
+    shows = λ n t fact. rw (support-Shows down shown n t fact, truth-Shows down counted n t fact)
+        (IfSome-if (λ points. All Counts points → counted n t fact ≡ true) (shown n t fact) (record { node = n; step = t } ∷ [])
+        (λ e every. and_from (counts n t) (shown n t fact) (All-head Counts (record { node = n; step = t }) [] every) e));
+  })
+
+-- a list that is there, and one that is missing
+is_there : {A : Type 0} (o : Option (List A)) → is_some o ≡ true → o ≡ Some (unwrap_or o [])
+is_there None h = absurd cc
+is_there (Some xs) h = refl
+
+pub is_missing : {A : Type 0} (o : Option A) → is_some o ≡ false → o ≡ None
+is_missing None h = refl
+is_missing (Some x) h = absurd cc
+
+first-there : {A : Type 0} (o : Option A) (r : List (Option A)) → is_some o ≡ true → first_of (o ∷ r) ≡ o
+first-there None r h = absurd cc
+first-there (Some x) r h = refl
+
+same_map : {A : Type 0} (o : Option (List A)) → o ≡ option_map (λ ys. [] ++ ys) o
+same_map None = refl
+same_map (Some xs) = refl
+
+regrouped : {A : Type 0} (xs ys : List A) (o : Option (List A))
+    → option_map (λ zs. xs ++ zs) (joined (Some ys) o) ≡ option_map (λ zs. (xs ++ ys) ++ zs) o
+regrouped xs ys None = refl
+regrouped xs ys (Some zs) = ap Some (sym (append_assoc xs ys zs))
+
+-- a list that was found, and what is true of it
+module _ {A : Type 0} (o : Option (List A)) (b : Bool) (items : List A) (found : b ≡ is_some o) (is : items ≡ [] ++ unwrap_or o []) (is_so : b ≡ true) where
+  pub it_is : o ≡ Some items
+  it_is = is_there o (sym found ∙ is_so) ∙ ap Some (sym is)
+
+  pub true_of_it : (P : List A → Type 0) → IfSome o P → P items
+  true_of_it P h = subst (λ p. IfSome p P) it_is h
+
+-- a list on the way through the parts of an All
+module _ {F : Type 0} (S : F → Option (List Point)) (parts : List F) where
+  -- the first i parts are true, and their points are put behind those of the list
+  pub record IsGathered (i : ℕ) (before now : List Point) : Type 0 where
+    pub sofar : List Point
+    pub items : now ≡ before ++ sofar
+    pub rest : all_of (map S parts) ≡ option_map (λ ys. sofar ++ ys) (all_of (map S (drop i parts)))
+
+  pub gathered-none : (before : List Point) → IsGathered 0 before before
+  gathered-none before = record { sofar = []; items = sym (append-nil before); rest = same_map (all_of (map S parts)) }
+
+  -- the parts from i on, where x is the one at i
+  from_here : (i : ℕ) (x : F) → i < length parts → x ≡ get_or parts i x → drop i parts ≡ x ∷ drop (i + 1) parts
+  from_here i x within is = drop_more parts i x within ∙ ap (λ y. y ∷ drop (i + 1) parts) (sym is)
+
+  module _ (i : ℕ) (x : F) (within : i < length parts) (is : x ≡ get_or parts i x) (before now new : List Point) (sofar : IsGathered i before now)
+      (b : Bool) (found : b ≡ is_some (S x)) (more : new ≡ now ++ unwrap_or (S x) []) where
+    here : all_of (map S parts) ≡ option_map (λ ys. sofar.sofar ++ ys) (joined (S x) (all_of (map S (drop (i + 1) parts))))
+    here = sofar.rest ∙ ap (λ fs. option_map (λ ys. sofar.sofar ++ ys) (all_of (map S fs))) (from_here i x within is)
+
+    pub gathered-more : b ≡ true → IsGathered (i + 1) before new
+    gathered-more is_so =
+        let there = is_there (S x) (sym found ∙ is_so) in
+        record {
+          sofar = sofar.sofar ++ unwrap_or (S x) [];
+          items = more ∙ ap (λ ys. ys ++ unwrap_or (S x) []) sofar.items ∙ append_assoc before sofar.sofar (unwrap_or (S x) []);
+          rest = here ∙ ap (λ o. option_map (λ ys. sofar.sofar ++ ys) (joined o (all_of (map S (drop (i + 1) parts))))) there
+              ∙ regrouped sofar.sofar (unwrap_or (S x) []) (all_of (map S (drop (i + 1) parts)));
+        }
+
+    pub gathered-missing : b ≡ false → all_of (map S parts) ≡ None
+    gathered-missing is_not =
+        here ∙ ap (λ o. option_map (λ ys. sofar.sofar ++ ys) (joined o (all_of (map S (drop (i + 1) parts))))) (is_missing (S x) (sym found ∙ is_not))
+
+    pub gathered-back : (cut : List Point) → cut ≡ take (length before) new → cut ≡ before
+    gathered-back cut is_cut =
+        is_cut ∙ ap (take (length before)) (more ∙ ap (λ ys. ys ++ unwrap_or (S x) []) sofar.items ∙ append_assoc before sofar.sofar (unwrap_or (S x) []))
+        ∙ take_at before (sofar.sofar ++ unwrap_or (S x) []) (length before) refl
+
+  pub gathered-all : (i : ℕ) (before now : List Point) → length parts ≤ i → (sofar : IsGathered i before now) → all_of (map S parts) ≡ Some sofar.sofar
+  gathered-all i before now far sofar =
+      sofar.rest ∙ ap (λ fs. option_map (λ ys. sofar.sofar ++ ys) (all_of (map S fs))) (drop_all i parts far)
+      ∙ ap Some (append-nil sofar.sofar)
+
+  -- the first true part of an Any, after parts that are false
+  module _ (i : ℕ) (x : F) (within : i < length parts) (is : x ≡ get_or parts i x)
+      (rest : first_of (map S parts) ≡ first_of (map S (drop i parts))) (b : Bool) (found : b ≡ is_some (S x)) where
+    at_x : first_of (map S parts) ≡ first_of (S x ∷ map S (drop (i + 1) parts))
+    at_x = rest ∙ ap (λ fs. first_of (map S fs)) (from_here i x within is)
+
+    pub first-found : b ≡ true → first_of (map S parts) ≡ S x
+    first-found is_so = at_x ∙ first-there (S x) (map S (drop (i + 1) parts)) (sym found ∙ is_so)
+
+    pub first-later : b ≡ false → first_of (map S parts) ≡ first_of (map S (drop (i + 1) parts))
+    first-later is_not = at_x ∙ ap (λ o. first_of (o ∷ map S (drop (i + 1) parts))) (is_missing (S x) (sym found ∙ is_not))
+
+  pub first-none : (i : ℕ) → length parts ≤ i → first_of (map S parts) ≡ first_of (map S (drop i parts)) → first_of (map S parts) ≡ None
+  first-none i far rest = rest ∙ ap (λ fs. first_of (map S fs)) (drop_all i parts far)

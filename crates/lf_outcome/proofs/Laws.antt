@@ -1,0 +1,95 @@
+-- What crates above need of formulas, of their truth and of reaches.
+use Rattle.std.proofs.Common.{◌≡◌, ◌⊎◌, ℕ, ◌+◌, ◌≤◌, Bool, true, false, not, ◌&&◌, List, refl, ap, ◌∙◌, map, max, sum}
+use Rattle.std.specs.Prelude.{nat_le, Some}
+use Rattle.std.specs.List.{fold, list_all, list_any}
+use Rattle.std.proofs.lemmas.Bool.{and_parts, and_from, leb-true, false≢true}
+use Rattle.lf_faults.specs.declared.fault.Parts.{Parts}
+use Rattle.lf_sim.specs.Runs.{World, is_up, view}
+use Rattle.lf_outcome.specs.declared.formula.Formula.{Formula}
+use Rattle.lf_outcome.specs.declared.formula.Formula.TheVariants as kind
+use Rattle.lf_outcome.specs.Measures.{depth_of, atoms_of}
+use Rattle.lf_outcome.specs.Reaches.{reach_at}
+use Rattle.lf_outcome.specs.Truth.{truth, is_down, is_shown, is_shown_where, reaches, reaches_within}
+use Rattle.lf_outcome.proofs.EvidenceLemmas.{truth-more}
+use Rattle.lf_outcome.proofs.MeasuresLemmas as measures
+use Rattle.lf_outcome.proofs.TruthLemmas.{truth-All, truth-Any, truth-Down, truth-Shows}
+
+module _ {Fact : Type 0} where
+  -- All and Any are one deeper than their deepest part
+  pub depth_of-parts : (f : Formula Fact) (parts : List (Formula Fact)) → (f ≡ kind.All parts) ⊎ (f ≡ kind.Any parts)
+      → depth_of f ≡ fold max 0 (map depth_of parts) + 1
+  depth_of-parts = measures.depth_of-parts
+
+  -- they have as many atoms as their parts
+  pub atoms_of-parts : (f : Formula Fact) (parts : List (Formula Fact)) → (f ≡ kind.All parts) ⊎ (f ≡ kind.Any parts)
+      → atoms_of f ≡ sum (map atoms_of parts)
+  atoms_of-parts = measures.atoms_of-parts
+
+  -- Shows is 1 deep, and one atom
+  pub depth_of-Shows : (n t : ℕ) (fact : Fact) → depth_of (kind.Shows n t fact) ≡ 1
+  depth_of-Shows = measures.depth_of-Shows
+
+  pub atoms_of-Shows : (n t : ℕ) (fact : Fact) → atoms_of (kind.Shows n t fact) ≡ 1
+  atoms_of-Shows = measures.atoms_of-Shows
+
+-- Down is 1 deep, and one atom
+pub depth_of-Down : (Fact : Type 0) (n t : ℕ) → depth_of {Fact = Fact} (kind.Down n t) ≡ 1
+depth_of-Down = measures.depth_of-Down
+
+pub atoms_of-Down : (Fact : Type 0) (n t : ℕ) → atoms_of {Fact = Fact} (kind.Down n t) ≡ 1
+atoms_of-Down = measures.atoms_of-Down
+
+module _ {State Note Fact : Type 0} (w : World State Note Fact) (faults : List Parts) where
+  -- truth within a reach, by the kind of the formula
+  pub within-All : (reach : List ℕ) (parts : List (Formula Fact))
+      → reaches_within w faults reach (kind.All parts) ≡ list_all (reaches_within w faults reach) parts
+  within-All reach parts = truth-All (is_down w faults) (is_shown_where w faults (Some reach)) parts
+
+  pub within-Any : (reach : List ℕ) (parts : List (Formula Fact))
+      → reaches_within w faults reach (kind.Any parts) ≡ list_any (reaches_within w faults reach) parts
+  within-Any reach parts = truth-Any (is_down w faults) (is_shown_where w faults (Some reach)) parts
+
+  pub within-Down : (reach : List ℕ) (n t : ℕ) → reaches_within w faults reach (kind.Down n t) ≡ not (is_up w faults n t)
+  within-Down reach n t = truth-Down (is_down w faults) (is_shown_where w faults (Some reach)) n t
+
+  pub within-Shows : (reach : List ℕ) (n t : ℕ) (fact : Fact)
+      → reaches_within w faults reach (kind.Shows n t fact)
+      ≡ (nat_le t (reach_at reach n) && (is_up w faults n t && w.rules.shows n (view w faults n t) fact))
+  within-Shows reach n t fact = truth-Shows (is_down w faults) (is_shown_where w faults (Some reach)) n t fact
+
+  -- what is true within a reach is true
+  pub reaches-from_within : (reach : List ℕ) (f : Formula Fact) → reaches_within w faults reach f ≡ true → reaches w faults f ≡ true
+  reaches-from_within reach =
+      truth-more (is_down w faults) (is_down w faults) (is_shown_where w faults (Some reach)) (is_shown w faults)
+      (λ n t e. e) (λ n t fact e. (and_parts (nat_le t (reach_at reach n)) (is_shown w faults n t fact) e).1)
+
+-- Truth carries over: where each node that is down stays down, and each fact that is shown stays shown, a formula that
+-- is true stays true.
+pub truth-carries : {Fact : Type 0} (down later_down : ℕ → ℕ → Bool) (shown later_shown : ℕ → ℕ → Fact → Bool)
+    → ((n t : ℕ) → down n t ≡ true → later_down n t ≡ true)
+    → ((n t : ℕ) (fact : Fact) → shown n t fact ≡ true → later_shown n t fact ≡ true)
+    → (f : Formula Fact) → truth down shown f ≡ true → truth later_down later_shown f ≡ true
+truth-carries down later_down shown later_shown downs shows = truth-more down later_down shown later_shown downs shows
+
+not_more : (was now : Bool) → (now ≡ true → was ≡ true) → not was ≡ true → not now ≡ true
+not_more true true h e = e
+not_more false true h e = absurd (false≢true (h refl))
+not_more was false h e = refl
+
+-- Truth within a reach carries over to another list of faults, as to one with more faults: where no node is up that
+-- wasn't, and each point within the reach at which a node was up is up still, with the same view.
+pub within-carries : {State Note Fact : Type 0} (w : World State Note Fact) (faults wider : List Parts) (reach : List ℕ)
+    → ((n t : ℕ) → is_up w wider n t ≡ true → is_up w faults n t ≡ true)
+    → ((n t : ℕ) → t ≤ reach_at reach n → is_up w faults n t ≡ true
+    → (is_up w wider n t ≡ true) × (view w wider n t ≡ view w faults n t))
+    → (f : Formula Fact) → reaches_within w faults reach f ≡ true → reaches_within w wider reach f ≡ true
+within-carries {Fact = Fact} w faults wider reach none_more same =
+    truth-more (is_down w faults) (is_down w wider) (is_shown_where w faults (Some reach)) (is_shown_where w wider (Some reach))
+    (λ n t down. not_more (is_up w faults n t) (is_up w wider n t) (none_more n t) down)
+    (λ n t fact shown.
+    let within = and_parts (nat_le t (reach_at reach n)) (is_shown w faults n t fact) shown in
+    let up = and_parts (is_up w faults n t) (w.rules.shows n (view w faults n t) fact) within.1 in
+    let there = same n t (leb-true t (reach_at reach n) within.0) up.0 in
+    and_from (nat_le t (reach_at reach n)) (is_shown w wider n t fact) within.0
+    (and_from (is_up w wider n t) (w.rules.shows n (view w wider n t) fact) there.0
+    (ap (λ v. w.rules.shows n v fact) there.1 ∙ up.1)))
