@@ -1,2 +1,3 @@
-pub mod Searching
-pub mod ReplyLemmas
+mod ReplyLemmas
+mod Searching
+mod Uniqueness

@@ -46,6 +46,10 @@ IsRunReply words text reply status =
     RepliesRefusal text reply status
     ⊎ ((s : Scenario) × IsText s text × (RepliesNoSet words s reply status ⊎ RepliesTrace words s reply status))
 
+-- there is one reply at most, with one status
+abbrev pub HasOneReply : (List ℕ → ℕ → Type 0) → Type 0
+HasOneReply IsReply = (one other : List ℕ) (m n : ℕ) → IsReply one m → IsReply other n → (one ≡ other) × (m ≡ n)
+
 -- of an engine, by which replies with which statuses a text has there
 module _ (IsReply : List ℕ → List ℕ → ℕ → Type 0) where
   -- the reply to what the source held was written: where it doesn't tell, the reply to some text

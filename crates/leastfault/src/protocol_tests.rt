@@ -7,7 +7,7 @@ use std::process::Abort;
 use std::test::Fail;
 
 /// The reply to a search of the text is this, with this status.
-fn searches(
+pub(crate) fn searches(
     rt: &impl Abort,
     alloc: Global,
     text: &str,

@@ -1,5 +1,5 @@
 -- The whole of what a table says.
-use Rattle.std.proofs.Common.{◌≡◌, Ok, refl, sym, ap, ◌∙◌}
+use Rattle.std.proofs.Common.{◌≡◌, Ok, refl}
 use Rattle.toml.specs.Data.{Members}
 use Rattle.lf_latency.specs.declared.links.Links.{Links}
 use Rattle.lf_protocols.specs.declared.fact.Fact.{Fact}
@@ -7,11 +7,11 @@ use Rattle.lf_outcome.specs.declared.formula.Formula.{Formula}
 use Rattle.lf_scenario.specs.declared.key.Key.TheVariants as keys
 use Rattle.lf_scenario.specs.declared.reading.Described.{Described}
 use Rattle.lf_scenario.specs.declared.scenario.Scenario.{Scenario}
-use Rattle.lf_scenario.specs.Values.{◌>>=◌, required}
+use Rattle.lf_scenario.specs.Values.{required}
 use Rattle.lf_scenario.specs.Reading.{described_in}
 use Rattle.lf_scenario.specs.Outcomes.{outcome_in}
 use Rattle.lf_scenario.specs.LinkTables.{all_links}
-use Rattle.lf_scenario.specs.Scenarios.{Asked, IsAskedBy, IsScenario, asked_in}
+use Rattle.lf_scenario.specs.Scenarios.{IsAskedBy, IsScenario, asked_in}
 
 asked_in-steps : (ms : Members) (described : Described) (formula : Formula Fact) (links : Links)
     → described_in ms ≡ Ok described → required ms keys.Outcome (outcome_in described.protocol described.bounds) ≡ Ok formula

@@ -1,9 +1,8 @@
 -- The lists that are read as formulas.
-use Rattle.std.proofs.Common.{◌≡◌, ℕ, ◌-◌, ◌≤◌, ◌<◌, Bool, true, false, ◌&&◌, cond, List, [], ◌∷◌, ◌++◌, length, get_or, drop, take, Option, Some, None, Ok, Err, String, Vec, Global, string_bytes, refl, sym, ap, ◌∙◌, subst, arith}
-use Rattle.std.specs.Prelude.{nat_le, nat_lt}
-use Rattle.std.specs.List.{list_all}
+use Rattle.std.proofs.Common.{◌≡◌, ℕ, ◌-◌, ◌≤◌, List, [], ◌∷◌, length, get_or}
+use Rattle.std.proofs.Common.{drop, take, Err, String, Vec, Global, string_bytes, refl, sym, ap, ◌∙◌, arith}
 use Rattle.std.proofs.lemmas.List.{length-drop, take_all}
-use Rattle.toml.specs.Data.{Data, string, integer, float, boolean, datetime, array, table, Items, no_items, item, Members}
+use Rattle.toml.specs.Data.{string, array, item}
 use Rattle.toml.specs.View.{view, items_view}
 use Rattle.toml.specs.declared.value.Value.{Value, Array, String as Text}
 use Rattle.toml.proofs.Views.{items_view-drop, view-Array, view-String}
@@ -27,7 +26,8 @@ shows_in-other k b (v ∷ w ∷ x ∷ []) h = absurd (h refl)
 shows_in-other k b (v ∷ w ∷ x ∷ y ∷ vs) h = refl
 
 -- a list that begins with a text
-pub formula_in-listed : (k : Kind) (b : Bounds) (v : Value) (items : Vec Value Global) (vs : List Value) (first : Value) (word : String Global) (bytes : List ℕ)
+pub formula_in-listed : (k : Kind) (b : Bounds) (v : Value) (items : Vec Value Global) (vs : List Value) (first : Value) (word : String Global)
+    (bytes : List ℕ)
     → v ≡ Array items → vs ≡ items.items → 1 ≤ length vs → first ≡ get_or vs 0 first → first ≡ Text word → bytes ≡ string_bytes word
     → by_word bytes (parts_in k b (items_view (take (length vs - 1) (drop 1 vs)))) (down_in b (items_view (take (length vs - 1) (drop 1 vs))))
     (shows_in k b (items_view (take (length vs - 1) (drop 1 vs)))) ≡ formula_in k b (view v)

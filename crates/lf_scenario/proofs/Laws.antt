@@ -1,5 +1,5 @@
 -- What the definitions of this crate promise, for every text and every scenario.
-use Rattle.std.proofs.Common.{◌≡◌, ℕ, Bool, List, sym, ap, ◌∙◌, subst, inl, inr, arith, Ok, Err}
+use Rattle.std.proofs.Common.{◌≡◌, ℕ, List, sym, ap, ◌∙◌, subst, inl, inr, arith, Ok, Err}
 use Rattle.std.specs.Prelude.{Some}
 use Rattle.toml.specs.Data.{Members}
 use Rattle.lf_faults.specs.declared.fault.Parts.{Parts}
@@ -8,7 +8,7 @@ use Rattle.lf_outcome.specs.Truth.{reaches}
 use Rattle.lf_scenario.specs.declared.error.ScenarioError.{ScenarioError}
 use Rattle.lf_scenario.specs.declared.scenario.Scenario.{Scenario}
 use Rattle.lf_scenario.specs.Sameness.{AreSame}
-use Rattle.lf_scenario.specs.Scenarios.{Asked, IsAskedBy, IsDocument, IsRefused, IsScenario, IsText, asked_in, network_of}
+use Rattle.lf_scenario.specs.Scenarios.{Asked, IsDocument, IsRefused, IsScenario, IsText, asked_in}
 
 -- a text has one list of members
 members-one : (text : List ℕ) (ms ns : Members) → IsDocument text ms → IsDocument text ns → ms ≡ ns

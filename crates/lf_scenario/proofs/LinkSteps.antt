@@ -1,5 +1,6 @@
 -- One table more among those of links.
-use Rattle.std.proofs.Common.{◌≡◌, ℕ, ◌+◌, ◌<◌, ◌≤◌, refl, nat_lt, ◌==◌, ◌&&◌, cond, List, [], ◌∷◌, ◌++◌, length, get_or, drop, fold, map, Ok, String, BTreeMap, Global, inl, inr, sym, ap, ◌∙◌}
+use Rattle.std.proofs.Common.{◌≡◌, ℕ, ◌+◌, ◌<◌, ◌≤◌, refl, nat_lt, ◌==◌, ◌&&◌, cond, List, [], ◌∷◌, ◌++◌}
+use Rattle.std.proofs.Common.{length, get_or, drop, fold, map, Ok, String, BTreeMap, Global, inl, inr, sym, ap, ◌∙◌}
 use Rattle.std.proofs.lemmas.Bool.{and_from, and_parts, cases_Bool, cases_eq, eq-eqb, false≢true, lt-ltb, ltb-true, ne_eqb, and_right}
 use Rattle.std.proofs.lemmas.List.{drop_more}
 use Rattle.toml.specs.Data.{item, table, Items}
@@ -22,7 +23,8 @@ shape vs i v t within here is =
     ∙ ap (λ d. item d (items_view (drop (i + 1) vs))) (ap view (sym here ∙ is) ∙ view-Table t)
 
 -- its link is read, and the rest goes on from there
-pub links_from-step : (nodes least spread : ℕ) (before after : List Link) (vs : List Value) (i : ℕ) (v : Value) (t : BTreeMap (String Global) Value) (link : Link)
+pub links_from-step : (nodes least spread : ℕ) (before after : List Link) (vs : List Value) (i : ℕ) (v : Value) (t : BTreeMap (String Global) Value)
+    (link : Link)
     → i < length vs → v ≡ get_or vs i v → v ≡ Table t
     → Ok link ≡ link_in nodes least spread before (members_view t.entries) → after ≡ before ++ link ∷ []
     → links_from nodes least spread after (items_view (drop (i + 1) vs)) ≡ links_from nodes least spread before (items_view (drop i vs))
@@ -66,7 +68,8 @@ table-by rows entry eight long each =
     (λ n low. fill_by_all (entry n) (get_or rows n []) 8 0 (long n low) (λ m below. each n m low below))
 
 -- an entry by its pair, and another elsewhere
-entry-by : (nodes value other entry n m : ℕ) → (IsPair nodes n m → entry ≡ value) → (¬ IsPair nodes n m → entry ≡ other) → entry ≡ pair_entry nodes value other n m
+entry-by : (nodes value other entry n m : ℕ) → (IsPair nodes n m → entry ≡ value) → (¬ IsPair nodes n m → entry ≡ other)
+    → entry ≡ pair_entry nodes value other n m
 entry-by nodes value other entry n m here elsewhere =
     elim (cases_eq n m) [
       | inl same ↦ rw (eq-eqb n m same) (elsewhere (λ pair. pair.apart same))
@@ -77,7 +80,8 @@ entry-by nodes value other entry n m here elsewhere =
                 rw (ne_eqb n m apart, inside) (here (record { sender = ltb-true n nodes low; receiver = ltb-true m nodes high; apart = apart }))
             | inr outside ↦
                 rw (ne_eqb n m apart, outside)
-                (elsewhere (λ pair. false≢true (sym outside ∙ and_from (nat_lt n nodes) (nat_lt m nodes) (lt-ltb n nodes pair.sender) (lt-ltb m nodes pair.receiver))))
+                (elsewhere (λ pair. false≢true (sym outside ∙ and_from (nat_lt n nodes) (nat_lt m nodes) (lt-ltb n nodes pair.sender)
+                (lt-ltb m nodes pair.receiver))))
           ]
     ]
 

@@ -19,7 +19,7 @@ use Rattle.lf_outcome.specs.declared.outcome.Outcome.TheVariants.{OnePrimary, Du
 use Rattle.lf_outcome.specs.Outcomes.{outcomes_of}
 use Rattle.lf_outcome.specs.Measures.{depth_of, atoms_of}
 use Rattle.lf_outcome.specs.Named.{shows_or_down, each_shows, formula_of}
-use Rattle.lf_outcome.proofs.MeasuresLemmas.{depth_of-parts, atoms_of-parts, depth_of-Down, depth_of-Shows, atoms_of-Down, atoms_of-Shows}
+use Rattle.lf_outcome.proofs.Laws.{depth_of-parts, atoms_of-parts, depth_of-Down, depth_of-Shows, atoms_of-Down, atoms_of-Shows}
 use Rattle.lf_scenario.specs.Formulas.{is_point, is_fact_of, range_step, is_in_range, IsFormulaOf}
 
 -- a node that shows a fact or is down
@@ -119,9 +119,11 @@ module _ (k : Kind) (b : Bounds) (limits : IsInLimits b) (one other : Fact) wher
   either_each first second = record {
     range =
         range-Any k b.nodes b.horizon both
-        ∙ and_from (is_in_range k b.nodes b.horizon (each_shows b.nodes b.horizon one)) (is_in_range k b.nodes b.horizon (each_shows b.nodes b.horizon other) && true)
+        ∙ and_from (is_in_range k b.nodes b.horizon (each_shows b.nodes b.horizon one)) (is_in_range k b.nodes b.horizon
+        (each_shows b.nodes b.horizon other) && true)
         (range-each k b.nodes b.horizon limits.horizon.0 one first)
-        (and_from (is_in_range k b.nodes b.horizon (each_shows b.nodes b.horizon other)) true (range-each k b.nodes b.horizon limits.horizon.0 other second) refl);
+        (and_from (is_in_range k b.nodes b.horizon (each_shows b.nodes b.horizon other)) true
+        (range-each k b.nodes b.horizon limits.horizon.0 other second) refl);
     depth =
         let whole : depth_of (kind.Any both) ≡ max (max 0 (depth_of (each_shows b.nodes b.horizon one))) (depth_of (each_shows b.nodes b.horizon other)) + 1 =
         depth_of-parts (kind.Any both) both (inr refl) in
@@ -200,7 +202,8 @@ module _ (k : Kind) (b : Bounds) (limits : IsInLimits b) where
   durable_fits : 3 ≤ b.nodes → is_fact_of k NotDone ≡ true → is_fact_of k Holds ≡ true → IsFormulaOf k b (formula_of Durable b.nodes b.horizon)
   durable_fits three done holds =
       one_of_four (kind.Down 2 last) (kind.Shows 2 last NotDone) (kind.Shows 0 last Holds) (kind.Shows 1 last Holds)
-      (down_fits 2 (omega (arith, three))) (shows_fits 2 NotDone (omega (arith, three)) done) (shows_fits 0 Holds (omega (arith, three)) holds) (shows_fits 1 Holds (omega (arith, three)) holds)
+      (down_fits 2 (omega (arith, three))) (shows_fits 2 NotDone (omega (arith, three)) done) (shows_fits 0 Holds (omega (arith, three)) holds)
+      (shows_fits 1 Holds (omega (arith, three)) holds)
       (depth_of-Down Fact 2 last) (depth_of-Shows 2 last NotDone) (depth_of-Shows 0 last Holds) (depth_of-Shows 1 last Holds)
       (atoms_of-Down Fact 2 last) (atoms_of-Shows 2 last NotDone) (atoms_of-Shows 0 last Holds) (atoms_of-Shows 1 last Holds)
 
@@ -209,9 +212,27 @@ pub outcomes_fit : (k : Kind) (b : Bounds) → IsInLimits b → IsWithinLimits k
     → AllByRecursion (λ o. IsFormulaOf k b (formula_of o b.nodes b.horizon)) (outcomes_of k)
 outcomes_fit (kinds.Retry nodes tries) b limits within same = (either_each (kinds.Retry nodes tries) b limits Has Lacks refl refl, tt)
 outcomes_fit (kinds.Redundant nodes tries) b limits within same = (either_each (kinds.Redundant nodes tries) b limits Has Lacks refl refl, tt)
-outcomes_fit (kinds.TwoPhase nodes patience votes) b limits within same =
-    (either_each (kinds.TwoPhase nodes patience votes) b limits NotCommitted NotAborted refl refl, (all_each (kinds.TwoPhase nodes patience votes) b limits Free refl, tt))
-outcomes_fit (kinds.ThreePhase nodes patience votes) b limits within same =
-    (either_each (kinds.ThreePhase nodes patience votes) b limits NotCommitted NotAborted refl refl, (all_each (kinds.ThreePhase nodes patience votes) b limits Free refl, tt))
-outcomes_fit (kinds.PrimaryBackup nodes patience) b limits within same =
-    (one_primary_fits (kinds.PrimaryBackup nodes patience) b limits refl, (durable_fits (kinds.PrimaryBackup nodes patience) b limits (omega (arith, within.0, same)) refl refl, tt))
+outcomes_fit (kinds.TwoPhase nodes patience votes) b limits within same = (
+  either_each (kinds.TwoPhase nodes patience votes) b limits NotCommitted NotAborted refl refl,
+  (
+    all_each
+        (kinds.TwoPhase nodes patience votes) b limits Free refl,
+    tt,
+  ),
+)
+outcomes_fit (kinds.ThreePhase nodes patience votes) b limits within same = (
+  either_each (kinds.ThreePhase nodes patience votes) b limits NotCommitted NotAborted refl refl,
+  (
+    all_each
+        (kinds.ThreePhase nodes patience votes) b limits Free refl,
+    tt,
+  ),
+)
+outcomes_fit (kinds.PrimaryBackup nodes patience) b limits within same = (
+  one_primary_fits (kinds.PrimaryBackup nodes patience) b limits refl,
+  (
+    durable_fits (kinds.PrimaryBackup nodes patience) b limits (omega
+        (arith, within.0, same)) refl refl,
+    tt,
+  ),
+)

@@ -1,13 +1,13 @@
 -- The formula that is read is one of the scenario's.
-use Rattle.std.proofs.Common.{◌≡◌, ℕ, ◌-◌, ◌≤◌, ◌<◌, Bool, true, false, ◌&&◌, cond, List, [], ◌∷◌, Option, Some, None, Ok, Err, IfOk, refl, sym, ap, ◌∙◌, subst, inl, inr, arith}
+use Rattle.std.proofs.Common.{◌≡◌, ℕ, ◌-◌, ◌≤◌, Bool, true, false, ◌&&◌, cond, List, [], ◌∷◌}
+use Rattle.std.proofs.Common.{Option, Some, None, Ok, Err, IfOk, refl, sym, ◌∙◌, subst, inl, inr, arith}
 use Rattle.std.specs.Prelude.{nat_le, nat_lt, find, codes, pos, negsuc}
 use Rattle.std.specs.List.{AllByRecursion, list_all}
 use Rattle.std.specs.Str.{bytes_eq}
 use Rattle.std.proofs.lemmas.Bool.{and_from, and_parts, cases_Bool, lt-ltb, le-leb, leb-true}
-use Rattle.toml.specs.Data.{Data, string, integer, array, Items, no_items, item, Members, get_member}
+use Rattle.toml.specs.Data.{Data, string, integer, array, Items, no_items, item}
 use Rattle.lf_faults.specs.Allowed.{Bounds, IsInLimits}
 use Rattle.lf_protocols.specs.declared.fact.Fact.{Fact}
-use Rattle.lf_protocols.specs.declared.fact.Fact.TheVariants as facts
 use Rattle.lf_protocols.specs.declared.protocol.Kind.{Kind}
 use Rattle.lf_protocols.specs.declared.protocol.Kind.TheVariants as kinds
 use Rattle.lf_protocols.specs.Limits.{IsWithinLimits}
@@ -25,7 +25,8 @@ use Rattle.lf_scenario.specs.Limits.{deepest, most_atoms}
 use Rattle.lf_scenario.specs.declared.error.ScenarioError.TheVariants as refusals
 use Rattle.lf_scenario.specs.Values.{Reading, ◌>>=◌, whole}
 use Rattle.lf_scenario.specs.Formulas.{is_point, is_fact_of, is_in_range, IsFormulaOf}
-use Rattle.lf_scenario.specs.Outcomes.{by_word, down_in, fact_in, formula_in, found_fact, in_formula, limited, named_in, node_in, outcome_in, parts_in, shows_in, step_in}
+use Rattle.lf_scenario.specs.Outcomes.{by_word, down_in, fact_in, formula_in, found_fact, in_formula}
+use Rattle.lf_scenario.specs.Outcomes.{limited, named_in, node_in, outcome_in, parts_in, shows_in, step_in}
 use Rattle.lf_scenario.proofs.NamedRanges.{outcomes_fit, range-All, range-Any, range-Down, range-Shows}
 
 -- what is read, if something is, has a property
@@ -51,7 +52,8 @@ found : {A : Type 0} (P : A → Type 0) (test : A → Bool) (xs : List A) → Al
 found P test [] each x is = absurd cc
 found P test (y ∷ ys) each x is =
     elim (cases_Bool (test y)) [
-      | inl holds ↦ let here : find test (y ∷ ys) ≡ Some y = rw holds refl in let both : Some y ≡ Some x = sym here ∙ is in let same : y ≡ x = cc in subst P same each.0
+      | inl holds ↦ let here : find test (y ∷ ys) ≡ Some y = rw holds refl in let both : Some y ≡ Some x = sym here
+          ∙ is in let same : y ≡ x = cc in subst P same each.0
       | inr fails ↦ let there : find test (y ∷ ys) ≡ find test ys = rw fails refl in found P test ys each.1 x (sym there ∙ is)
     ]
 
@@ -83,7 +85,8 @@ own_facts (kinds.ThreePhase nodes patience votes) = (refl, (refl, (refl, (refl, 
 own_facts (kinds.PrimaryBackup nodes patience) = (refl, (refl, (refl, (refl, (refl, (refl, (refl, (refl, tt))))))))
 
 own_fact : (k : Kind) (d : Data) → Gives (λ f. is_fact_of k f ≡ true) (fact_in k d)
-own_fact k (string word) = fact-found (λ f. is_fact_of k f ≡ true) (fact_named k word) (found (λ f. is_fact_of k f ≡ true) (λ f. bytes_eq word (fact_word f)) (facts_of k) (own_facts k))
+own_fact k (string word) = fact-found (λ f. is_fact_of k f ≡ true) (fact_named k word) (found (λ f. is_fact_of k f ≡ true) (λ f. bytes_eq word
+    (fact_word f)) (facts_of k) (own_facts k))
 own_fact k _ = refused (λ f. is_fact_of k f ≡ true) refusals.Formula
 
 module _ (k : Kind) (b : Bounds) (limits : IsInLimits b) where
@@ -100,7 +103,8 @@ module _ (k : Kind) (b : Bounds) (limits : IsInLimits b) where
       next fits (node_in b n) (λ node. step_in b t >>= (λ step. Ok (kind.Down node step)))
       (λ node node_is. next fits (step_in b t) (λ step. Ok (kind.Down node step))
       (λ step step_is. given fits (kind.Down node step)
-      (range-Down k b.nodes b.horizon node step ∙ point node step (within 0 (b.nodes - 1) keys.Outcome n node node_is) (within 1 b.horizon keys.Outcome t step step_is))))
+      (range-Down k b.nodes b.horizon node step ∙ point node step (within 0 (b.nodes - 1) keys.Outcome n node node_is)
+      (within 1 b.horizon keys.Outcome t step step_is))))
   down _ = refused fits refusals.Formula
 
   shows : (ds : Items) → Gives fits (shows_in k b ds)
@@ -117,7 +121,8 @@ module _ (k : Kind) (b : Bounds) (limits : IsInLimits b) where
   abbrev all_fit : List (Formula Fact) → Type 0
   all_fit fs = list_all (is_in_range k b.nodes b.horizon) fs ≡ true
 
-  listed : (word : List ℕ) (parts : Reading (List (Formula Fact))) (one other : Reading (Formula Fact)) → Gives all_fit parts → Gives fits one → Gives fits other
+  listed : (word : List ℕ) (parts : Reading (List (Formula Fact))) (one other : Reading (Formula Fact)) → Gives all_fit parts → Gives fits one
+      → Gives fits other
       → Gives fits (by_word word parts one other)
   listed word parts one other h at_one at_other =
       either fits (bytes_eq word (codes "all")) (parts >>= (λ fs. Ok (kind.All fs))) _
@@ -137,7 +142,8 @@ module _ (k : Kind) (b : Bounds) (limits : IsInLimits b) where
     parts_fit (item d ds) =
         next all_fit (formula_in k b d) (λ f. parts_in k b ds >>= (λ fs. Ok (f ∷ fs)))
         (λ f f_is. next all_fit (parts_in k b ds) (λ fs. Ok (f ∷ fs))
-        (λ fs fs_is. given all_fit (f ∷ fs) (and_from (is_in_range k b.nodes b.horizon f) (list_all (is_in_range k b.nodes b.horizon) fs) (formula_fits d f f_is) (parts_fit ds fs fs_is))))
+        (λ fs fs_is. given all_fit (f ∷ fs) (and_from (is_in_range k b.nodes b.horizon f) (list_all (is_in_range k b.nodes b.horizon) fs)
+        (formula_fits d f f_is) (parts_fit ds fs fs_is))))
 
   kept : (f : Formula Fact) → fits f → (t : Bool) → t ≡ (nat_le (depth_of f) deepest && nat_le (atoms_of f) most_atoms)
       → Gives (IsFormulaOf k b) (cond t (Ok f) (Err refusals.Formula))
@@ -157,7 +163,8 @@ module _ (k : Kind) (b : Bounds) (limits : IsInLimits b) where
     outcome_fits : (key : Key) (d : Data) → Gives (IsFormulaOf k b) (outcome_in k b key d)
     outcome_fits key (string name) =
         by_name (outcome_named k name)
-        (found (λ o. IsFormulaOf k b (formula_of o b.nodes b.horizon)) (λ o. bytes_eq name (outcome_word o)) (outcomes_of k) (outcomes_fit k b limits within_limits same))
+        (found (λ o. IsFormulaOf k b (formula_of o b.nodes b.horizon)) (λ o. bytes_eq name (outcome_word o)) (outcomes_of k)
+        (outcomes_fit k b limits within_limits same))
     outcome_fits key (array ds) = next (IsFormulaOf k b) (formula_in k b (array ds)) limited (λ f is. limits_kept f (formula_fits (array ds) f is))
     outcome_fits key _ = refused (IsFormulaOf k b) (refusals.WrongKind key)
 

@@ -1,5 +1,6 @@
 -- The votes of a list.
-use Rattle.std.proofs.Common.{◌≡◌, ℕ, zero, suc, ◌+◌, ◌-◌, ◌<◌, ◌≤◌, Bool, true, false, ◌==◌, Ok, Err, List, [], ◌∷◌, length, drop, get_or, map, zero-add, refl, sym, ap, ◌∙◌, subst, arith}
+use Rattle.std.proofs.Common.{◌≡◌, ℕ, zero, suc, ◌+◌, ◌-◌, ◌<◌, ◌≤◌, Bool, true, false, ◌==◌, Ok, Err}
+use Rattle.std.proofs.Common.{List, [], ◌∷◌, length, drop, get_or, map, zero-add, refl, sym, ap, ◌∙◌, subst, arith}
 use Rattle.std.specs.Prelude.{All, IsTrue}
 use Rattle.std.specs.List.{AllByRecursion, range_with_len}
 use Rattle.std.proofs.lemmas.List.Elements.{All-from_recursion}
@@ -52,10 +53,12 @@ module _ (vs : List Value) (nodes : ℕ) (some : 2 ≤ nodes) (few : nodes ≤ 8
   silent : All IsTrue (drop nodes (votes_of (items_view vs)))
   silent =
       let eight : nodes + (8 - nodes) ≡ 8 = omega (arith, few) in
-      let rest : drop nodes (map (vote_of (items_view vs)) (range_with_len 0 (nodes + (8 - nodes)))) ≡ map (vote_of (items_view vs)) (range_with_len (0 + nodes) (8 - nodes)) =
+      let rest : drop nodes (map (vote_of (items_view vs)) (range_with_len 0 (nodes + (8 - nodes)))) ≡ map (vote_of (items_view vs)) (range_with_len
+      (0 + nodes) (8 - nodes)) =
       drop-map (vote_of (items_view vs)) nodes 0 (8 - nodes) in
       let here : drop nodes (votes_of (items_view vs)) ≡ map (vote_of (items_view vs)) (range_with_len (0 + nodes) (8 - nodes)) =
-      subst (λ m. drop nodes (map (vote_of (items_view vs)) (range_with_len 0 m)) ≡ map (vote_of (items_view vs)) (range_with_len (0 + nodes) (8 - nodes))) eight rest in
+      subst (λ m. drop nodes (map (vote_of (items_view vs)) (range_with_len 0 m)) ≡ map (vote_of (items_view vs)) (range_with_len (0 + nodes)
+      (8 - nodes))) eight rest in
       subst (All IsTrue) (sym here)
       (All-from_recursion IsTrue (map (vote_of (items_view vs)) (range_with_len (0 + nodes) (8 - nodes)))
       (later (vote_of (items_view vs)) (8 - nodes) (0 + nodes) (λ k low. agrees k (omega (arith, low)))))
@@ -78,7 +81,8 @@ module _ (nodes : ℕ) (key : Key) (d : Data) (vs : List Value) (is : d ≡ arra
   votes_in-wrong counted = rw (is, booleans, counted) refl
 
 -- a look at a place
-pub item_vote-seen : (vs ws : List Value) (k : ℕ) (v : Value) → ws ≡ vs → true ≡ ltb k (length ws) → v ≡ get_or ws k v → vote_in (view v) ≡ item_vote (items_view vs) k
+pub item_vote-seen : (vs ws : List Value) (k : ℕ) (v : Value) → ws ≡ vs → true ≡ ltb k (length ws) → v ≡ get_or ws k v → vote_in
+    (view v) ≡ item_vote (items_view vs) k
 item_vote-seen vs ws k v same within here =
     subst (λ xs. vote_in (view v) ≡ item_vote (items_view xs) k) same (sym (item_vote-at ws k v (ltb-true k (length ws) (sym within)) here))
 

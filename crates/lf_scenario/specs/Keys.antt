@@ -3,7 +3,8 @@ use Rattle.std.specs.Prelude.{ℕ, Bool, List, [], ◌∷◌, codes}
 use Rattle.std.specs.List.{list_any}
 use Rattle.std.specs.Str.{bytes_eq}
 use Rattle.lf_scenario.specs.declared.key.Key.{Key}
-use Rattle.lf_scenario.specs.declared.key.Key.TheVariants.{Nodes, Horizon, LastOmission, Crashes, Budget, Pauses, PauseLength, MaxSets, Seed, Least, Spread, Protocol, Tries, Patience, Votes, Outcome, Links}
+use Rattle.lf_scenario.specs.declared.key.Key.TheVariants.{Nodes, Horizon, LastOmission, Crashes, Budget, Pauses, PauseLength, MaxSets}
+use Rattle.lf_scenario.specs.declared.key.Key.TheVariants.{Seed, Least, Spread, Protocol, Tries, Patience, Votes, Outcome, Links}
 
 abbrev pub key_name : Key → List ℕ
 key_name Nodes = codes "nodes"

@@ -16,7 +16,8 @@ use Rattle.lf_faults.specs.Allowed.{Bounds}
 use Rattle.lf_protocols.specs.declared.protocol.Kind.{Kind}
 use Rattle.lf_protocols.specs.declared.protocol.Kind.TheVariants as kinds
 use Rattle.lf_scenario.specs.declared.key.Key.{Key}
-use Rattle.lf_scenario.specs.declared.key.Key.TheVariants.{Nodes, Horizon, LastOmission, Crashes, Budget, Pauses, PauseLength, MaxSets, Seed, Least, Spread, Protocol, Tries, Patience, Votes}
+use Rattle.lf_scenario.specs.declared.key.Key.TheVariants.{Nodes, Horizon, LastOmission, Crashes, Budget, Pauses, PauseLength}
+use Rattle.lf_scenario.specs.declared.key.Key.TheVariants.{MaxSets, Seed, Least, Spread, Protocol, Tries, Patience, Votes}
 use Rattle.lf_scenario.specs.declared.error.ScenarioError.TheVariants as refusals
 use Rattle.lf_scenario.specs.declared.names.ProtocolName.{ProtocolName}
 use Rattle.lf_scenario.specs.declared.names.ProtocolName.TheVariants as protocols
@@ -81,7 +82,15 @@ bounds_in ms = do
   budget ← required ms Budget (whole 0 6)
   pauses ← optional ms Pauses (whole 0 nodes) 0
   pause_length ← optional ms PauseLength (whole 1 8) 1
-  Ok (record { nodes = nodes; horizon = horizon; last_omission = last_omission; crashes = crashes; budget = budget; pauses = pauses; pause_length = pause_length })
+  Ok (record {
+    nodes = nodes;
+    horizon = horizon;
+    last_omission = last_omission;
+    crashes = crashes;
+    budget = budget;
+    pauses = pauses;
+    pause_length = pause_length;
+  })
 
 -- what decides when notes arrive, but for the links that have delays of their own
 unfoldable pub delays_in : Members → Reading Delays

@@ -4,7 +4,8 @@ ghost use Rattle.std.specs.Prelude.{ℕ, ◌≡◌, ◌≢◌, ◌<◌, ◌≤�
 ghost use Rattle.toml.specs.View.{view, table_view, array_view};
 ghost use Rattle.lf_latency.specs.Links.{IsLinks};
 ghost use Rattle.lf_scenario.specs.Values.{optional};
-ghost use Rattle.lf_scenario.specs.LinkTables.{all_tables, link_keys, end_in, end_at, delay_at, is_given, joined, link_in, links_from, links_in, links_of, all_links, IsLink};
+ghost use Rattle.lf_scenario.specs.LinkTables.{all_tables, link_keys, end_in, end_at, delay_at, is_given};
+ghost use Rattle.lf_scenario.specs.LinkTables.{joined, link_in, links_from, links_in, links_of, all_links, IsLink};
 
 use crate::value::{at, whole};
 use crate::{Key, ScenarioError};

@@ -6,7 +6,8 @@ ghost use Rattle.lf_outcome.specs.Outcomes.{outcome_named};
 ghost use Rattle.lf_scenario.specs.Formulas.{IsFormulaOf};
 ghost use Rattle.lf_scenario.specs.Ranges.{IsInRange};
 ghost use Rattle.lf_scenario.specs.Values.{required};
-ghost use Rattle.lf_scenario.specs.Outcomes.{node_in, step_in, fact_in, down_in, shows_of, shows_in, by_word, formula_in, parts_in, limited, named_in, outcome_in};
+ghost use Rattle.lf_scenario.specs.Outcomes.{node_in, step_in, fact_in, down_in, shows_of, shows_in};
+ghost use Rattle.lf_scenario.specs.Outcomes.{by_word, formula_in, parts_in, limited, named_in, outcome_in};
 
 use crate::limits::{DEEPEST, MOST_ATOMS};
 use crate::reading::Described;

@@ -6,7 +6,8 @@ ghost use Rattle.lf_protocols.specs.Protocols.{nodes_of};
 ghost use Rattle.toml.specs.View.{view, table_view};
 ghost use Rattle.lf_scenario.specs.Ranges.{AreDelays, IsInRange};
 ghost use Rattle.lf_scenario.specs.Values.{required};
-ghost use Rattle.lf_scenario.specs.Reading.{protocol_of, protocol_in, has_tries, has_patience, has_votes, kind_of, bounds_in, delays_in, kind_in, described_in};
+ghost use Rattle.lf_scenario.specs.Reading.{protocol_of, protocol_in, has_tries, has_patience, has_votes};
+ghost use Rattle.lf_scenario.specs.Reading.{kind_of, bounds_in, delays_in, kind_in, described_in};
 
 use crate::limits::{MOST_SETS, USUAL_SETS};
 use crate::names::ProtocolName;

@@ -12,10 +12,11 @@ const LINKS: usize = 64;
 /// A step after all others.
 const NEVER: u32 = 49;
 
-/// What a set of faults does.
+/// What a set of faults does, in tables: a look into them takes no walk over the set.
 #[derive(Clone, Copy, Drop)]
-pub(crate) struct Effects {
-    pub(crate) set: FaultSet,
+pub struct Effects {
+    /// The set.
+    pub set: FaultSet,
     // By sender and receiver, whether a note between them is ever lost.
     losing: [bool; LINKS],
     // By node, the step from which it has crashed.
@@ -29,7 +30,7 @@ pub(crate) struct Effects {
 
 impl Effects {
     /// What the set does.
-    pub(crate) fn new(set: &FaultSet) -> Effects
+    pub fn new(set: &FaultSet) -> Effects
         ensures { result.set ≡ set.now }
     {
         Effects {
@@ -40,8 +41,8 @@ impl Effects {
         }
     }
 
-    /// Whether the note of a slot is lost.
-    pub(crate) fn omits(&self, from: u32, to: u32, step: u32) -> bool
+    /// Whether the note that `from` sends to `to` at `step` is lost.
+    pub fn omits(&self, from: u32, to: u32, step: u32) -> bool
         requires from { from < 8 }
         requires to { to < 8 }
         ensures { result ≡ set_omits self.now.set from to step }
@@ -53,8 +54,8 @@ impl Effects {
         }
     }
 
-    /// Whether a node is up at a step, where a pause takes `length` steps.
-    pub(crate) fn leaves_up(&self, node: u32, step: u32, length: u32) -> bool
+    /// Whether a node, 0..=7, is up at a step, at most 48, where a pause takes `length` steps, at most 8.
+    pub fn leaves_up(&self, node: u32, step: u32, length: u32) -> bool
         requires node { node < 8 }
         requires step { step ≤ 48 }
         requires length { length ≤ 8 }
@@ -69,8 +70,8 @@ impl Effects {
         !self.set.pauses(node, step, length)
     }
 
-    /// Whether a step is the first after a pause of the node.
-    pub(crate) fn wakes(&self, node: u32, step: u32, length: u32) -> bool
+    /// Whether a step is the first after a pause of the node, where a pause takes `length` steps, at most 8.
+    pub fn wakes(&self, node: u32, step: u32, length: u32) -> bool
         requires node { node < 8 }
         requires length { length ≤ 8 }
         ensures { result ≡ set_wakes length self.now.set node step }

@@ -18,6 +18,7 @@ mod setting;
 #[cfg(test)]
 mod tests;
 
+pub use effects::Effects;
 pub use letter::Letter;
 pub use machine::Machine;
 pub use out::{Out, Stepped};

@@ -11,10 +11,8 @@ use Rattle.lf_faults.specs.declared.fault.Parts.{Parts}
 use Rattle.lf_faults.specs.declared.fault.Parts.TheVariants.{Omit, Crash, Pause}
 use Rattle.lf_faults.specs.Faults.{IsAscending, IsFault, inserted}
 use Rattle.lf_faults.specs.Texts.{spelling}
-use Rattle.lf_faults.proofs.Counts.{in-inserted, length-inserted, still-in}
-use Rattle.lf_faults.proofs.Members.{Contains-first, Contains-more, cases_in, each-from, each-in, none-in}
-use Rattle.lf_faults.proofs.Orders.{each-inserted, first-before, inserted-ascending, not_both, not_itself}
-use Rattle.lf_faults.proofs.TextsBytes.{spelling_bytes}
+use Rattle.lf_list.proofs.Laws.{Contains-first, Contains-more, cases_in, none-in}
+use Rattle.lf_faults.proofs.Laws.{cases_inserted, in-inserted, inserted-ascending, length-inserted, same_members, spelling_bytes, still-in}
 use Rattle.lf_trace.specs.Namings.{Adds, AreDistinct, Names}
 
 -- the set, read so far, becomes the target by the faults that the pieces still to come spell
@@ -33,39 +31,6 @@ pub record IsReading (words : List ℕ) (pieces : List (List ℕ)) (set : List P
   pub rest : (target : List Parts) → (Names words target → Completes pieces set target) × (Completes pieces set target → Names words target)
   pub ascending : IsAscending set
   pub few : length set ≤ 6
-
--- lists that have the same members, each in order, are one
-same_head : (f g : Parts) (fs gs : List Parts) → IsAscending (f ∷ fs) → IsAscending (g ∷ gs) → Contains (g ∷ gs) f → Contains (f ∷ fs) g → f ≡ g
-same_head f g fs gs a b here there = elim (cases_in g gs f here) [
-  | inl same ↦ sym same
-  | inr later ↦ elim (cases_in f fs g there) [
-    | inl same ↦ same
-    | inr after ↦ absurd (not_both f g (first-before f fs a g after) (first-before g gs b f later))
-  ]
-]
-
-later_in : (f g : Parts) (fs gs : List Parts) → IsAscending (f ∷ fs) → f ≡ g → (x : Parts) → Contains fs x → Contains (g ∷ gs) x → Contains gs x
-later_in f g fs gs a heads x there here = elim (cases_in g gs x here) [
-  | inl same ↦ absurd (not_itself f (first-before f fs a f (subst (Contains fs) (sym (heads ∙ same)) there)))
-  | inr later ↦ later
-]
-
-same_members : (fs gs : List Parts) → IsAscending fs → IsAscending gs → ((x : Parts) → Contains fs x → Contains gs x)
-    → ((x : Parts) → Contains gs x → Contains fs x) → fs ≡ gs
-same_members [] [] a b to from = refl
-same_members [] (g ∷ gs) a b to from = absurd (none-in g (from g (Contains-first g gs)))
-same_members (f ∷ fs) [] a b to from = absurd (none-in f (to f (Contains-first f fs)))
-same_members (f ∷ fs) (g ∷ gs) a b to from =
-    let heads : f ≡ g = same_head f g fs gs a b (to f (Contains-first f fs)) (from g (Contains-first g gs)) in
-    let tails : fs ≡ gs =
-    same_members fs gs a.1 b.1 (λ x h. later_in f g fs gs a heads x h (to x (Contains-more f fs x h)))
-    (λ x h. later_in g f gs fs b (sym heads) x h (from x (Contains-more g gs x h)))
-    in ap (λ x. x ∷ fs) heads ∙ ap (λ xs. g ∷ xs) tails
-
-from_inserted : (f : Parts) (set : List Parts) (x : Parts) → Contains (inserted f set) x → (f ≡ x) ⊎ Contains set x
-from_inserted f set x h =
-    let P : Parts → Type 0 = λ y. (f ≡ y) ⊎ Contains set y in
-    each-in P (inserted f set) (each-inserted P f set (inl refl) (each-from P set (λ y there. inr there))) x h
 
 -- the texts of faults, joined by commas, are cut into these texts
 no_cut : (f : Parts) → IsFault f → All (λ b. eqb b 44 ≡ false) (spelling f)
@@ -144,7 +109,7 @@ module _ (piece : List ℕ) (pieces : List (List ℕ)) (set target : List Parts)
           more = fs;
           faults = faults.1;
           distinct = distinct.1;
-          new = λ x there here. elim (from_inserted f set x here) [
+          new = λ x there here. elim (cases_inserted f set x here) [
             | inl same ↦ distinct.0 (subst (Contains fs) (sym same) there)
             | inr before ↦ new x (Contains-more f fs x there) before
           ];
@@ -161,7 +126,7 @@ module _ (piece : List ℕ) (pieces : List (List ℕ)) (set target : List Parts)
             ]),
             (λ h. elim h [
               | inl later ↦ (rest.same x).1 (inl (subst (λ m. Contains m x) (sym is) (Contains-more f fs x later)))
-              | inr here ↦ elim (from_inserted f set x here) [
+              | inr here ↦ elim (cases_inserted f set x here) [
                 | inl same ↦ (rest.same x).1 (inl (subst (λ m. Contains m x) (sym is) (subst (Contains (f ∷ fs)) same (Contains-first f fs))))
                 | inr before ↦ (rest.same x).1 (inr before)
               ]
@@ -188,7 +153,7 @@ module _ (piece : List ℕ) (pieces : List (List ℕ)) (set target : List Parts)
     same = λ x. (
       (λ h. elim ((rest.same x).0 h) [
         | inl later ↦ inl (Contains-more f rest.more x later)
-        | inr here ↦ elim (from_inserted f set x here) [
+        | inr here ↦ elim (cases_inserted f set x here) [
           | inl same ↦ inl (subst (Contains (f ∷ rest.more)) same (Contains-first f rest.more))
           | inr before ↦ inr before
         ]

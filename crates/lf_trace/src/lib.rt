@@ -7,7 +7,7 @@
 mod naming;
 mod telling;
 
-pub use naming::read_faults;
+pub use naming::{names_are_one, read_faults};
 pub use telling::trace;
 
 #[cfg(test)]

@@ -30,3 +30,10 @@ fn added(set: &FaultSet, piece: &str) -> Option<FaultSet>
     let fault = read_fault(piece)?;
     set.insert(fault)
 }
+
+/// The law that words name at most one set, which is the one that `read_faults` answers.
+pub fn names_are_one(words: &str)
+    ensures { (one other : List Parts) → Names words.now one → Names words.now other → one ≡ other }
+{
+    let _named = read_faults(words);
+}

@@ -1,6 +1,7 @@
 -- Plain words are taken as they stand.
-use Rattle.std.proofs.Common.{◌≡◌, ◌==◌, ℕ, List, [], ◌∷◌, Some, None, refl, false, true, codes, option_map, not, sym, Option}
+use Rattle.std.proofs.Common.{◌≡◌, ◌==◌, ℕ, List, [], ◌∷◌, Some, None, refl, false, true, codes, option_map, Option}
 use Rattle.std.specs.Prelude.{Bool}
+use Rattle.std.proofs.lemmas.Bool.{not-true}
 use Rattle.std.specs.Str.{bytes_eq}
 use Rattle.clap.specs.Words.{Row, Text, fault_of, first_of, subcommand_of}
 use Rattle.clap.specs.declared.error.kind.ErrorKind.TheVariants as kind
@@ -33,14 +34,10 @@ taken_one x true minus = record {
   no_short = rw (minus) refl;
 }
 
-not_minus : (b : Bool) → not b ≡ true → b ≡ false
-not_minus false plain = refl
-not_minus true plain = sym plain
-
 pub is_taken : (word : Text) → is_plain word ≡ true → IsTaken word
 is_taken [] plain = record { no_end = refl; no_long = refl; no_short = refl }
 is_taken (x ∷ []) plain = taken_one x (x == 45) refl
-is_taken (x ∷ y ∷ rest) plain = taken_other x (y ∷ rest) (not_minus (x == 45) plain)
+is_taken (x ∷ y ∷ rest) plain = taken_other x (y ∷ rest) (not-true (x == 45) plain)
 
 abbrev pub named_file : Text × List Row → Text × Option Text
 named_file p = (p.0, first_of (codes "file") p.1)

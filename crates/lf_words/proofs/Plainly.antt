@@ -4,6 +4,7 @@ use Rattle.std.proofs.Common.{true, false, codes, map, option_map, slice_index, 
 use Rattle.std.specs.Prelude.{Bool, unwrap_or, ◌⊎◌}
 use Rattle.std.specs.Str.{bytes_eq}
 use Rattle.std.specs.String.{string_bytes}
+use Rattle.std.proofs.lemmas.Bool.{not-true}
 use Rattle.std.proofs.lemmas.Slice.Eq.{bytes_eq-Decides}
 use Rattle.clap.specs.declared.error.kind.ErrorKind.{ErrorKind}
 use Rattle.clap.specs.declared.error.kind.ErrorKind.TheVariants as kind
@@ -141,10 +142,6 @@ either : (x y : Bool) → (x || y) ≡ true → (x ≡ true) ⊎ (y ≡ true)
 either true y h = inl refl
 either false y h = inr h
 
-not_same : (b : Bool) → not b ≡ true → b ≡ false
-not_same false h = refl
-not_same true h = sym h
-
 pub help_is : (words : List Text) → asks_help words ≡ true → fault_of program words ≡ kind.DisplayHelp ∷ []
 help_is [] help = absurd (no_truth help)
 help_is (word ∷ words) help = elim (either (bytes_eq word (codes "--help")) (bytes_eq word (codes "-h")) help) [
@@ -164,7 +161,7 @@ unknown_is [] unknown = absurd (no_truth unknown)
 unknown_is (word ∷ words) unknown =
     let h = both (is_plain word) (not (bytes_eq (codes "search") word) && not (bytes_eq (codes "run") word)) unknown in
     let k = both (not (bytes_eq (codes "search") word)) (not (bytes_eq (codes "run") word)) h.1 in
-    unknown_fault word words (is_taken word h.0) (not_same _ k.0) (not_same _ k.1)
+    unknown_fault word words (is_taken word h.0) (not-true _ k.0) (not-true _ k.1)
 
 abbrev kinds_count : Kinds → ℕ
 kinds_count [] = 0

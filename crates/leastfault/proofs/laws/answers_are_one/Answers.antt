@@ -1,5 +1,5 @@
 use Rattle.std.proofs.Common.{not}
-use Rattle.lf_faults.proofs.Walks.{first_is_one}
+use Rattle.lf_faults.proofs.Laws.{first_is_one}
 use Rattle.leastfault.specs.Answers.{reaches_in}
 use Rattle.leastfault.proofs.laws.answers_are_one.Goals as goal
 

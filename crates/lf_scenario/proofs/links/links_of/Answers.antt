@@ -19,10 +19,12 @@ links-preserved c =
     record {
       form = put.form c.args.usual.nodes c.links.invariant.form (c.requires i d within).pair;
       least = λ n m pair. given-step (least_after n m) (least_of old n m) (least_of new n m) _ links i d within
-          (own_delay link.from link.to n m link.least (least_of old n m) (least_of new n m) (least_of new) refl put.least_here (λ other. (put.others n m other).0))
+          (own_delay link.from link.to n m link.least (least_of old n m) (least_of new n m) (least_of new) refl put.least_here (λ other.
+          (put.others n m other).0))
           (c.links.invariant.least n m pair);
       spread = λ n m pair. given-step (spread_after n m) (spread_of old n m) (spread_of new n m) _ links i d within
-          (own_delay link.from link.to n m link.spread (spread_of old n m) (spread_of new n m) (spread_of new) refl put.spread_here (λ other. (put.others n m other).1))
+          (own_delay link.from link.to n m link.spread (spread_of old n m) (spread_of new n m) (spread_of new) refl put.spread_here (λ other.
+          (put.others n m other).1))
           (c.links.invariant.spread n m pair);
     }
 

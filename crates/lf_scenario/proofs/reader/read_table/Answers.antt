@@ -1,4 +1,4 @@
-use Rattle.std.proofs.Common.{◌≡◌, Ok, rules, sym, ◌∙◌}
+use Rattle.std.proofs.Common.{rules, sym}
 use Rattle.toml.specs.View.{table_view}
 use Rattle.lf_scenario.proofs.AskedLemmas.{asked_in-whole}
 use Rattle.lf_scenario.proofs.reader.read_table.Goals as goal

@@ -1,0 +1,7 @@
+mod Coning
+mod Covering
+mod Gathering
+mod HearingLemmas
+mod Light
+mod RequiredLemmas
+mod Sweeping

@@ -1,0 +1,182 @@
+-- Which faults are to be tried, place by place.
+use Rattle.std.proofs.Common.{◌≡◌, ◌≢◌, ℕ, ◌+◌, ◌-◌, ◌*◌, ◌<◌, ◌≤◌, true, false, List, length, [], ◌∷◌, ◌++◌, refl, sym, ap, ◌∙◌, inl, inr, arith, subst, get_or}
+use Rattle.std.specs.Prelude.{IsSome}
+use Rattle.std.specs.List.{Contains}
+use Rattle.std.proofs.lemmas.Bool.{both_ways}
+use Rattle.lf_faults.specs.declared.fault.Parts.{Parts}
+use Rattle.lf_faults.specs.declared.fault.Parts.TheVariants.{Omit, Crash, Pause}
+use Rattle.lf_faults.specs.Faults.{IsFault, IsAscending, inserted}
+use Rattle.lf_faults.specs.Allowed.{Bounds, IsInLimits, IsAdmitted, IsAllowed, IsSubset, CanAdd}
+use Rattle.lf_faults.proofs.Allowing.{admitted-from_allowed, subset_allowed}
+use Rattle.lf_faults.proofs.Counts.{still-in, length-inserted}
+use Rattle.lf_faults.proofs.Stepping.{fault-from_admitted}
+use Rattle.lf_sim.specs.Runs.{World, is_up, sent}
+use Rattle.lf_sim.proofs.Laws.{IsRunning-up}
+use Rattle.lf_cone.specs.Cones.{CanHear, IsHeard, Supports, IsRequired, AreRequired, IsLive}
+use Rattle.lf_cone.specs.Places.{place_in_step, place_of, IsGathered, MayTry, LivesBetween}
+use Rattle.lf_cone.proofs.Gathering.{place-one, gathered-none, gathered-push, gathered-leap}
+
+-- what stands at a step's places
+abbrev base : ℕ → ℕ
+base t = (t - 1) * 80
+
+omission-at : (t : ℕ) (f : Parts) → IsFault f → 1 ≤ t → base t ≤ place_of f → place_of f < base t + 64 → (n : ℕ) × (m : ℕ) × (f ≡ Omit n m t) × (place_of f ≡ base t + (n * 8 + m)) × (m < 8)
+omission-at t (Omit n m s) h first low high =
+    let e : s ≡ t = omega (arith, h.0, h.1, h.3) in
+    (n, m, ap (Omit n m) e, omega (arith, e), h.1)
+omission-at t (Crash n s) h first low high = absurd (omega (arith, h.0, h.1))
+omission-at t (Pause n s) h first low high = absurd (omega (arith, h.0, h.1))
+
+crash-at : (t : ℕ) (f : Parts) → IsFault f → 1 ≤ t → base t + 64 ≤ place_of f → place_of f < base t + 72 → (n : ℕ) × (f ≡ Crash n t) × (place_of f ≡ base t + 64 + n)
+crash-at t (Omit n m s) h first low high = absurd (omega (arith, h.0, h.1, h.3))
+crash-at t (Crash n s) h first low high = let e : s ≡ t = omega (arith, h.0, h.1) in (n, ap (Crash n) e, omega (arith, e))
+crash-at t (Pause n s) h first low high = absurd (omega (arith, h.0, h.1))
+
+pause-at : (t : ℕ) (f : Parts) → IsFault f → 1 ≤ t → base t + 72 ≤ place_of f → place_of f < base t + 80 → (n : ℕ) × (f ≡ Pause n t) × (place_of f ≡ base t + 72 + n)
+pause-at t (Omit n m s) h first low high = absurd (omega (arith, h.0, h.1, h.3))
+pause-at t (Crash n s) h first low high = absurd (omega (arith, h.0, h.1))
+pause-at t (Pause n s) h first low high = let e : s ≡ t = omega (arith, h.0, h.1) in (n, ap (Pause n) e, omega (arith, e))
+
+late-place : (b : Bounds) (last : ℕ) (f : Parts) → IsFault f → IsAdmitted b f → b.last_omission < b.horizon → b.horizon ≤ last → place_of f < last * 80
+late-place b last (Omit n m t) h is less short = omega (arith, h.0, h.1, h.3, is.4)
+late-place b last (Crash n t) h is less short = omega (arith, h.0, h.1, is.2)
+late-place b last (Pause n t) h is less short = omega (arith, h.0, h.1, is.2)
+
+module _ {State Note Fact : Type 0} (w : World State Note Fact) (faults : List Parts) (b : Bounds) (reach : List ℕ) (excluded : List Parts) (limits : IsInLimits b) where
+  abbrev P : Parts → Type 0
+  P = IsRequired w faults b reach excluded
+
+  abbrev pub Gathered : ℕ → List Parts → Type 0
+  Gathered = IsGathered (IsRequired w faults b reach excluded)
+
+  is-admitted : (f : Parts) → P f → IsAdmitted b f
+  is-admitted f h = admitted-from_allowed b faults f h.allowed.1
+
+  is-fault : (f : Parts) → P f → IsFault f
+  is-fault f h = fault-from_admitted b f limits (is-admitted f h)
+
+  pub start : Gathered 0 []
+  start = gathered-none P is-fault
+
+  -- a fault is put, or may not be tried
+  pub put_one : (fs : List Parts) (f : Parts) → Gathered (place_of f) fs → Supports w faults reach f → MayTry b faults excluded f → Gathered (place_of f + 1) (fs ++ f ∷ [])
+  put_one fs f h supports may = gathered-push P is-fault fs (place_of f) f h (record { supports = supports; allowed = may.1; included = may.0 }) refl
+
+  pub put_none : (fs : List Parts) (f : Parts) → IsFault f → Gathered (place_of f) fs → (MayTry b faults excluded f → ⊥) → Gathered (place_of f + 1) fs
+  put_none fs f is h none =
+      gathered-leap P is-fault fs (place_of f) (place_of f + 1) (omega arith) h
+      (λ g p low high.
+      let same : f ≡ g = place-one f g is (is-fault g p) (omega arith) in
+      let again : P f = subst P (sym same) p in
+      none (again.included, again.allowed))
+
+  -- no omission of the slot
+  pub skip_omission : (fs : List Parts) (n m t : ℕ) → 1 ≤ t → n < 8 → m < 8 → Gathered (base t + n * 8 + m) fs → (n ≢ m → Supports w faults reach (Omit n m t) → ⊥) → Gathered (base t + n * 8 + m + 1) fs
+  skip_omission fs n m t first sender receiver h none =
+      gathered-leap P is-fault fs (base t + n * 8 + m) (base t + n * 8 + m + 1) (omega arith) h
+      (λ f p low high.
+      let at = omission-at t f (is-fault f p) first (omega arith) (omega arith) in
+      let from : at.0 ≡ n = omega (arith, at.3, at.4) in
+      let to : at.1 ≡ m = omega (arith, at.3, at.4) in
+      let is : P (Omit n m t) = subst (λ k. P (Omit k m t)) from (subst (λ k. P (Omit at.0 k t)) to (subst P at.2 p)) in
+      none (is-admitted (Omit n m t) is).2 is.supports)
+
+  -- no omission of what a node sends
+  pub skip_sender : (fs : List Parts) (n t : ℕ) → 1 ≤ t → n < 8 → Gathered (base t + n * 8) fs → is_up w faults n t ≡ false → Gathered (base t + (n + 1) * 8) fs
+  skip_sender fs n t first sender h down =
+      gathered-leap P is-fault fs (base t + n * 8) (base t + (n + 1) * 8) (omega arith) h
+      (λ f p low high.
+      let at = omission-at t f (is-fault f p) first (omega arith) (omega arith) in
+      let from : at.0 ≡ n = omega (arith, at.3, at.4) in
+      let is : P (Omit n at.1 t) = subst (λ k. P (Omit k at.1 t)) from (subst P at.2 p) in
+      both_ways (is_up w faults n t) down (is.supports.1.2.sends))
+
+  -- no omission to or from what isn't a node, nor after the last one
+  pub end_receivers : (fs : List Parts) (n m t : ℕ) → 1 ≤ t → n < 8 → b.nodes ≤ m → m ≤ 8 → Gathered (base t + n * 8 + m) fs → Gathered (base t + (n + 1) * 8) fs
+  end_receivers fs n m t first sender past few h =
+      gathered-leap P is-fault fs (base t + n * 8 + m) (base t + (n + 1) * 8) (omega arith) h
+      (λ f p low high.
+      let at = omission-at t f (is-fault f p) first (omega arith) (omega arith) in
+      let is = is-admitted (Omit at.0 at.1 t) (subst P at.2 p) in
+      omega (arith, at.3, at.4, is.1))
+
+  pub end_senders : (fs : List Parts) (n t : ℕ) → 1 ≤ t → b.nodes ≤ n → n ≤ 8 → Gathered (base t + n * 8) fs → Gathered (base t + 64) fs
+  end_senders fs n t first past few h =
+      gathered-leap P is-fault fs (base t + n * 8) (base t + 64) (omega arith) h
+      (λ f p low high.
+      let at = omission-at t f (is-fault f p) first (omega arith) (omega arith) in
+      let is = is-admitted (Omit at.0 at.1 t) (subst P at.2 p) in
+      omega (arith, at.3, at.4, is.0))
+
+  pub skip_omissions : (fs : List Parts) (t : ℕ) → 1 ≤ t → b.last_omission < t → Gathered (base t) fs → Gathered (base t + 64) fs
+  skip_omissions fs t first late h =
+      gathered-leap P is-fault fs (base t) (base t + 64) (omega arith) h
+      (λ f p low high.
+      let at = omission-at t f (is-fault f p) first low high in
+      let is = is-admitted (Omit at.0 at.1 t) (subst P at.2 p) in
+      omega (arith, is.4))
+
+  -- crashes and pauses
+  pub skip_crash : (fs : List Parts) (n t : ℕ) → 1 ≤ t → n < 8 → Gathered (base t + 64 + n) fs → (Supports w faults reach (Crash n t) → ⊥) → Gathered (base t + 64 + n + 1) fs
+  skip_crash fs n t first node h none =
+      gathered-leap P is-fault fs (base t + 64 + n) (base t + 64 + n + 1) (omega arith) h
+      (λ f p low high.
+      let at = crash-at t f (is-fault f p) first (omega arith) (omega arith) in
+      let from : at.0 ≡ n = omega (arith, at.2) in
+      let is : P (Crash n t) = subst (λ k. P (Crash k t)) from (subst P at.1 p) in
+      none is.supports)
+
+  pub end_crashes : (fs : List Parts) (n t : ℕ) → 1 ≤ t → b.nodes ≤ n → n ≤ 8 → Gathered (base t + 64 + n) fs → Gathered (base t + 72) fs
+  end_crashes fs n t first past few h =
+      gathered-leap P is-fault fs (base t + 64 + n) (base t + 72) (omega arith) h
+      (λ f p low high.
+      let at = crash-at t f (is-fault f p) first (omega arith) (omega arith) in
+      let is = is-admitted (Crash at.0 t) (subst P at.1 p) in
+      omega (arith, at.2, is.0))
+
+  pub skip_pause : (fs : List Parts) (n t : ℕ) → 1 ≤ t → n < 8 → Gathered (base t + 72 + n) fs → (Supports w faults reach (Pause n t) → ⊥) → Gathered (base t + 72 + n + 1) fs
+  skip_pause fs n t first node h none =
+      gathered-leap P is-fault fs (base t + 72 + n) (base t + 72 + n + 1) (omega arith) h
+      (λ f p low high.
+      let at = pause-at t f (is-fault f p) first (omega arith) (omega arith) in
+      let from : at.0 ≡ n = omega (arith, at.2) in
+      let is : P (Pause n t) = subst (λ k. P (Pause k t)) from (subst P at.1 p) in
+      none is.supports)
+
+  pub end_pauses : (fs : List Parts) (n t : ℕ) → 1 ≤ t → b.nodes ≤ n → n ≤ 8 → Gathered (base t + 72 + n) fs → Gathered (t * 80) fs
+  end_pauses fs n t first past few h =
+      gathered-leap P is-fault fs (base t + 72 + n) (t * 80) (omega arith) h
+      (λ f p low high.
+      let at = pause-at t f (is-fault f p) first (omega arith) (omega arith) in
+      let is = is-admitted (Pause at.0 t) (subst P at.1 p) in
+      omega (arith, at.2, is.0))
+
+  -- all steps are done
+  pub end_steps : (fs : List Parts) (last : ℕ) → b.horizon ≤ last → Gathered (last * 80) fs → AreRequired w faults b reach excluded fs
+  end_steps fs last short h = record {
+    ascending = h.ascending;
+    each = λ f. (λ c. ((h.members f).0 c).0, λ p. (h.members f).1 (p, late-place b last f (is-fault f p) (is-admitted f p) limits.last_omission short));
+  }
+
+  -- where no fault may be added, none is required
+  none_added : ((f : Parts) → CanAdd b faults f → ⊥) → AreRequired w faults b reach excluded []
+  none_added none = record {
+    ascending = tt;
+    each = λ f. (λ c. absurd (omega (arith, c.1)), λ p. absurd (none f p.allowed));
+  }
+
+  pub none_allowed : IsAscending faults → (IsAllowed b faults → ⊥) → AreRequired w faults b reach excluded []
+  none_allowed ascending none = none_added (λ f can. none (subset_allowed b (inserted f faults) faults can.1 ascending (λ g c. still-in f faults g c)))
+
+  pub none_left : b.budget ≤ length faults → AreRequired w faults b reach excluded []
+  none_left full = none_added (λ f can. omega (arith, full, can.1.budget, length-inserted f faults))
+
+  pub moved : (fs : List Parts) (k l : ℕ) → k ≡ l → Gathered k fs → Gathered l fs
+  moved fs k l e h = subst (λ x. Gathered x fs) e h
+
+  -- a crash could change something where the node is up at a later step within the reach
+  pub crash-lives : (n t end : ℕ) → LivesBetween w faults reach n t end → Supports w faults reach (Crash n t)
+  crash-lives n t end h = (h.0, h.1, h.3)
+
+  pub lives-crash : (n t end : ℕ) → w.horizon < end → Supports w faults reach (Crash n t) → LivesBetween w faults reach n t end
+  lives-crash n t end far h = (h.0, h.1, omega (arith, (IsRunning-up w faults n h.0 h.2.0).last, far), h.2)

@@ -1,0 +1,3 @@
+pub mod Cones
+pub mod Places
+pub mod Sweeps

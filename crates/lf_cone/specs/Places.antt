@@ -1,0 +1,36 @@
+-- The places of faults in their order, and how a list of them is gathered place by place. This page is about inner functions.
+use Rattle.std.specs.Prelude.{◌≡◌, ◌↔◌, ℕ, ◌+◌, ◌-◌, ◌*◌, ◌<◌, ◌≤◌, Bool, true, false, List, slice_index_or}
+use Rattle.std.specs.List.{Contains}
+use Rattle.lf_faults.specs.declared.fault.Parts.{Parts}
+use Rattle.lf_faults.specs.declared.fault.Parts.TheVariants.{Omit, Crash, Pause}
+use Rattle.lf_faults.specs.Faults.{IsFault, IsAscending, step_of}
+use Rattle.lf_faults.specs.Allowed.{Bounds, CanAdd}
+use Rattle.lf_sim.specs.Runs.{World}
+use Rattle.lf_cone.specs.Cones.{IsLive}
+
+-- the place of a fault among those of its step: 64 omissions, 8 crashes, 8 pauses
+abbrev pub place_in_step : Parts → ℕ
+place_in_step (Omit from to step) = from * 8 + to
+place_in_step (Crash node step) = 64 + node
+place_in_step (Pause node step) = 72 + node
+
+-- its place among all faults
+abbrev pub place_of : Parts → ℕ
+place_of f = (step_of f - 1) * 80 + place_in_step f
+
+-- the list holds, in order, the faults with the property that stand before a place
+pub record IsGathered (P : Parts → Type 0) (place : ℕ) (faults : List Parts) : Type 0 where
+  pub ascending : IsAscending faults
+  pub members : (f : Parts) → Contains faults f ↔ (P f × (place_of f < place))
+
+-- by place, whether the fault is in the list
+abbrev pub AreMarks : List Parts → List Bool → Type 0
+AreMarks faults places = (f : Parts) → IsFault f → ((slice_index_or places (place_of f) false ≡ true) ↔ Contains faults f)
+
+-- the fault may be added, and isn't excluded
+abbrev pub MayTry : Bounds → List Parts → List Parts → Parts → Type 0
+MayTry b faults excluded f = (¬ Contains excluded f) × CanAdd b faults f
+
+-- n is up at a step within the reach, from one step on and before another
+abbrev pub LivesBetween : {State Note Fact : Type 0} → World State Note Fact → List Parts → List ℕ → ℕ → ℕ → ℕ → Type 0
+LivesBetween w faults reach n first end = (t : ℕ) × (first ≤ t) × (t < end) × IsLive w faults reach n t

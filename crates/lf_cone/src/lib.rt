@@ -1,0 +1,14 @@
+//! Light cones: what of a run an outcome can depend on, and which faults could change that.
+#![tactic(auto)]
+
+mod delays;
+mod hearing;
+mod laws;
+mod marks;
+mod points;
+mod required;
+
+pub use delays::cone;
+pub use hearing::{is_closed, sharp};
+pub use laws::agree_everywhere;
+pub use required::{edges, put_edges};

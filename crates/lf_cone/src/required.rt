@@ -1,0 +1,306 @@
+//! The faults that are to be tried.
+
+ghost use Rattle.std.specs.Prelude.{◌≡◌, ◌≢◌, ℕ, ◌+◌, ◌-◌, ◌*◌, ◌<◌, ◌≤◌, ◌↔◌, true, IsTrue, IsSome, IfOk, OnOk};
+ghost use Rattle.lf_faults.specs.declared.fault.Parts.TheVariants.{Omit, Crash, Pause};
+ghost use Rattle.lf_faults.specs.Faults.{IsFault};
+ghost use Rattle.lf_faults.specs.Allowed.{IsInLimits, IsAllowed};
+ghost use Rattle.lf_sim.specs.Runs.{is_up, sent};
+ghost use Rattle.lf_sim.specs.Settings.{world_of, set_of, IsRun};
+ghost use Rattle.lf_cone.specs.Cones.{IsRequired, AreRequired, Supports};
+ghost use Rattle.lf_cone.specs.Places.{place_of, IsGathered, AreMarks, MayTry, LivesBetween};
+
+use crate::hearing::goes;
+use crate::marks::Marks;
+use lf_faults::{Fault, admits, fits};
+use lf_outcome::Reach;
+use lf_sim::{Effects, Machine, Run, Setting};
+use std::alloc::{AllocError, Global};
+
+/// What the support is looked up in: what the set does, the reach, and which faults are excluded.
+#[derive(Drop)]
+struct View<'a> {
+    effects: Effects,
+    reach: Reach,
+    marks: Marks<'a>,
+}
+
+/// The required edges of a run within a reach: of the faults that could change what is within it, ascending, those that
+/// may be added to the run's set and aren't excluded.
+///
+/// The error is that memory has run out.
+pub fn edges<M: Machine>(
+    alloc: Global,
+    setting: &Setting<M>,
+    run: &Run<M>,
+    reach: &Reach,
+    excluded: &[Fault],
+) -> Result<Vec<Fault>, AllocError>
+    requires { IsRun (world_of setting.now) run.now }
+    ensures { IfOk result (λ found. AreRequired (world_of setting.now) (set_of run.now) setting.now.spec
+        reach.now excluded.now found.items) }
+{
+    let mut found = Vec::new(alloc);
+    put_edges(setting, run, reach, excluded, &mut found)?;
+    Ok(found)
+}
+
+/// The same, in place of what a list holds. It takes memory only where the list has no room.
+pub fn put_edges<M: Machine>(
+    setting: &Setting<M>,
+    run: &Run<M>,
+    reach: &Reach,
+    excluded: &[Fault],
+    found: &mut Vec<Fault>,
+) -> Result<(), AllocError>
+    requires { IsRun (world_of setting.now) run.now }
+    ensures { OnOk result (AreRequired (world_of setting.now) (set_of run.now) setting.now.spec
+        reach.now excluded.now found.new.items) }
+{
+    found.clear();
+    let set = run.set();
+    if set.len() >= setting.spec.budget() as usize {
+        return Ok(());
+    }
+    if !admits(&setting.spec, &set) {
+        return Ok(());
+    }
+    let view = View {
+        effects: Effects::new(&set),
+        reach: *reach,
+        marks: Marks::new(excluded),
+    };
+    for step in 1..setting.spec.horizon() + 1 {
+        put_omissions(setting, run, &view, step, found)?;
+        put_crashes(setting, &view, step, found)?;
+        put_pauses(setting, &view, step, found)?;
+    }
+    Ok(())
+}
+
+/// Puts the omissions of a step that are to be tried.
+fn put_omissions<M: Machine>(
+    setting: &Setting<M>,
+    run: &Run<M>,
+    view: &View,
+    step: u32,
+    found: &mut Vec<Fault>,
+) -> Result<(), AllocError>
+    requires run { IsRun (world_of setting.now) run.now }
+    requires set { view.now.effects.set ≡ set_of run.now }
+    requires marks { AreMarks view.now.marks.faults.now view.now.marks.places }
+    requires allowed { IsAllowed setting.now.spec view.now.effects.set }
+    requires first { 1 ≤ step }
+    requires last { step ≤ setting.now.spec.horizon }
+    requires so_far { IsGathered (IsRequired (world_of setting.now) view.now.effects.set setting.now.spec
+        view.now.reach view.now.marks.faults.now) ((step - 1) * 80) found.old.items }
+    ensures { OnOk result (IsGathered (IsRequired (world_of setting.now) view.now.effects.set setting.now.spec
+        view.now.reach view.now.marks.faults.now) ((step - 1) * 80 + 64) found.new.items) }
+{
+    if step > setting.spec.last_omission() {
+        return Ok(());
+    }
+    for from in 0..setting.spec.nodes() {
+        if goes(setting, &view.effects, from, step) {
+            put_omissions_of(setting, run, view, from, step, found)?;
+        }
+    }
+    Ok(())
+}
+
+/// Puts the omissions of what a node sends at a step that are to be tried.
+fn put_omissions_of<M: Machine>(
+    setting: &Setting<M>,
+    run: &Run<M>,
+    view: &View,
+    from: u32,
+    step: u32,
+    found: &mut Vec<Fault>,
+) -> Result<(), AllocError>
+    requires run { IsRun (world_of setting.now) run.now }
+    requires set { view.now.effects.set ≡ set_of run.now }
+    requires marks { AreMarks view.now.marks.faults.now view.now.marks.places }
+    requires allowed { IsAllowed setting.now.spec view.now.effects.set }
+    requires from { from < setting.now.spec.nodes }
+    requires first { 1 ≤ step }
+    requires last { step ≤ setting.now.spec.horizon }
+    requires up { is_up (world_of setting.now) view.now.effects.set from step ≡ true }
+    requires so_far { IsGathered (IsRequired (world_of setting.now) view.now.effects.set setting.now.spec
+        view.now.reach view.now.marks.faults.now) ((step - 1) * 80 + from * 8) found.old.items }
+    ensures { OnOk result (IsGathered (IsRequired (world_of setting.now) view.now.effects.set setting.now.spec
+        view.now.reach view.now.marks.faults.now) ((step - 1) * 80 + (from + 1) * 8) found.new.items) }
+{
+    for to in 0..setting.spec.nodes() {
+        if from != to && is_heard(setting, run, view, from, to, step) {
+            put(setting, view, omission(from, to, step), found)?;
+        }
+    }
+    Ok(())
+}
+
+/// Puts the crashes at a step that are to be tried.
+fn put_crashes<M: Machine>(
+    setting: &Setting<M>,
+    view: &View,
+    step: u32,
+    found: &mut Vec<Fault>,
+) -> Result<(), AllocError>
+    requires marks { AreMarks view.now.marks.faults.now view.now.marks.places }
+    requires allowed { IsAllowed setting.now.spec view.now.effects.set }
+    requires first { 1 ≤ step }
+    requires last { step ≤ setting.now.spec.horizon }
+    requires so_far { IsGathered (IsRequired (world_of setting.now) view.now.effects.set setting.now.spec
+        view.now.reach view.now.marks.faults.now) ((step - 1) * 80 + 64) found.old.items }
+    ensures { OnOk result (IsGathered (IsRequired (world_of setting.now) view.now.effects.set setting.now.spec
+        view.now.reach view.now.marks.faults.now) ((step - 1) * 80 + 72) found.new.items) }
+{
+    for node in 0..setting.spec.nodes() {
+        if lives(setting, view, node, step, setting.spec.horizon() + 1) {
+            put(setting, view, crash(node, step), found)?;
+        }
+    }
+    Ok(())
+}
+
+/// Puts the pauses at a step that are to be tried.
+fn put_pauses<M: Machine>(
+    setting: &Setting<M>,
+    view: &View,
+    step: u32,
+    found: &mut Vec<Fault>,
+) -> Result<(), AllocError>
+    requires marks { AreMarks view.now.marks.faults.now view.now.marks.places }
+    requires allowed { IsAllowed setting.now.spec view.now.effects.set }
+    requires first { 1 ≤ step }
+    requires last { step ≤ setting.now.spec.horizon }
+    requires so_far { IsGathered (IsRequired (world_of setting.now) view.now.effects.set setting.now.spec
+        view.now.reach view.now.marks.faults.now) ((step - 1) * 80 + 72) found.old.items }
+    ensures { OnOk result (IsGathered (IsRequired (world_of setting.now) view.now.effects.set setting.now.spec
+        view.now.reach view.now.marks.faults.now) (step * 80) found.new.items) }
+{
+    for node in 0..setting.spec.nodes() {
+        if lives(setting, view, node, step, step + setting.spec.pause_length()) {
+            put(setting, view, pause(node, step), found)?;
+        }
+    }
+    Ok(())
+}
+
+/// The loss of what a node sends to another at a step.
+fn omission(from: u32, to: u32, step: u32) -> Fault
+    requires { IsFault (Omit from to step) }
+    ensures { result ≡ Omit from to step }
+{
+    Fault::omit(from, to, step).unwrap()
+}
+
+/// The crash of a node at a step.
+fn crash(node: u32, step: u32) -> Fault
+    requires { IsFault (Crash node step) }
+    ensures { result ≡ Crash node step }
+{
+    Fault::crash(node, step).unwrap()
+}
+
+/// The pause of a node from a step on.
+fn pause(node: u32, step: u32) -> Fault
+    requires { IsFault (Pause node step) }
+    ensures { result ≡ Pause node step }
+{
+    Fault::pause(node, step).unwrap()
+}
+
+/// Puts a fault that could change something, unless it is excluded or may not be added.
+fn put<M: Machine>(
+    setting: &Setting<M>,
+    view: &View,
+    fault: Fault,
+    found: &mut Vec<Fault>,
+) -> Result<(), AllocError>
+    requires marks { AreMarks view.now.marks.faults.now view.now.marks.places }
+    requires allowed { IsAllowed setting.now.spec view.now.effects.set }
+    requires supports { Supports (world_of setting.now) view.now.effects.set view.now.reach fault }
+    requires so_far { IsGathered (IsRequired (world_of setting.now) view.now.effects.set setting.now.spec
+        view.now.reach view.now.marks.faults.now) (place_of fault) found.old.items }
+    ensures { OnOk result (IsGathered (IsRequired (world_of setting.now) view.now.effects.set setting.now.spec
+        view.now.reach view.now.marks.faults.now) (place_of fault + 1) found.new.items) }
+{
+    if may_try(setting, view, &fault) {
+        found.push(fault)?;
+    }
+    Ok(())
+}
+
+/// Whether a fault may be added, and isn't excluded.
+fn may_try<M: Machine>(setting: &Setting<M>, view: &View, fault: &Fault) -> bool
+    requires marks { AreMarks view.now.marks.faults.now view.now.marks.places }
+    requires allowed { IsAllowed setting.now.spec view.now.effects.set }
+    ensures value { IsTrue result ↔ MayTry setting.now.spec view.now.effects.set view.now.marks.faults.now fault.now }
+    ensures in_range { IsFault fault.now }
+    ensures limits { IsInLimits setting.now.spec }
+{
+    let _nodes = setting.spec.nodes();
+    let is_excluded = view.marks.has(fault);
+    !is_excluded && fits(&setting.spec, &view.effects.set, fault)
+}
+
+/// Whether a note is sent in a slot, and is heard within the reach.
+fn is_heard<M: Machine>(
+    setting: &Setting<M>,
+    run: &Run<M>,
+    view: &View,
+    from: u32,
+    to: u32,
+    step: u32,
+) -> bool
+    requires run { IsRun (world_of setting.now) run.now }
+    requires set { view.now.effects.set ≡ set_of run.now }
+    requires from { from < setting.now.spec.nodes }
+    requires to { to < setting.now.spec.nodes }
+    requires apart { from ≢ to }
+    requires first { 1 ≤ step }
+    requires last { step ≤ setting.now.spec.horizon }
+    requires up { is_up (world_of setting.now) view.now.effects.set from step ≡ true }
+    ensures { IsTrue result ↔ Supports (world_of setting.now) view.now.effects.set view.now.reach (Omit from to step) }
+{
+    let arrival = setting.network.arrival(from, to, step);
+    if view.reach.at(to) < arrival || setting.spec.horizon() < arrival {
+        return false;
+    }
+    if !was_sent(setting, run, from, to, step) || view.effects.omits(from, to, step) {
+        return false;
+    }
+    goes(setting, &view.effects, to, arrival)
+}
+
+/// Whether a note was sent in a slot.
+fn was_sent<M: Machine>(
+    setting: &Setting<M>,
+    run: &Run<M>,
+    from: u32,
+    to: u32,
+    step: u32,
+) -> bool
+    requires run { IsRun (world_of setting.now) run.now }
+    requires from { from < setting.now.spec.nodes }
+    requires last { step ≤ setting.now.spec.horizon }
+    ensures { IsTrue result ↔ IsSome (sent (world_of setting.now) (set_of run.now) from to step) }
+{
+    let _setting = setting;
+    run.sent(from, to, step).is_some()
+}
+
+/// Whether a node is up at a step within the reach, of those from one step on, before another.
+fn lives<M: Machine>(setting: &Setting<M>, view: &View, node: u32, first: u32, end: u32) -> bool
+    requires node { node < setting.now.spec.nodes }
+    requires first { 1 ≤ first }
+    requires end { end < 100 }
+    ensures { IsTrue result ↔ LivesBetween (world_of setting.now) view.now.effects.set view.now.reach node first end }
+{
+    let end = end.min(view.reach.at(node).min(setting.spec.horizon()) + 1);
+    for step in first..end {
+        if goes(setting, &view.effects, node, step) {
+            return true;
+        }
+    }
+    false
+}
