@@ -9,7 +9,8 @@ use Rattle.lf_faults.specs.declared.fault.Parts.{Parts}
 use Rattle.lf_sim.specs.Runs.{World, is_up}
 use Rattle.lf_sim.proofs.Laws.{IsRunning-up}
 use Rattle.lf_outcome.specs.declared.point.Point.{Point}
-use Rattle.lf_cone.specs.Cones.{IsReachOf, IsAtMost, Covers, KeepsLeast, IsCone, IsClosed, IsHeard, CanHear}
+use Rattle.lf_outcome.specs.Evidence.{Covers}
+use Rattle.lf_cone.specs.Cones.{IsReachOf, IsAtMost, KeepsLeast, IsCone, IsClosed, IsHeard, CanHear}
 use Rattle.lf_cone.specs.Sweeps.{IsRaised, SomeBelow, PointAt, AreInside, KeepsTo, IsLeastFrom, RestsByLeast}
 use Rattle.lf_cone.proofs.Covering.{start-covers, start-smallest}
 
@@ -24,7 +25,8 @@ module _ (nodes horizon : ℕ) (least : ℕ → ℕ → ℕ) where
       elim (cases_lt (get_or r m 0) (least n m)) [
         | inl early ↦ omega arith
         | inr late ↦
-            let t : get_or r m 0 - least n m ≤ get_or r n 0 = h n (get_or r m 0 - least n m) m (get_or r m 0) (node, other, apart, omega arith) (omega arith) in
+            let t : get_or r m 0 - least n m ≤ get_or r n 0 = h n (get_or r m 0 - least n m) m (get_or r m 0) (node, other, apart, omega arith)
+            (omega arith) in
             omega arith
       ]
 
@@ -41,7 +43,8 @@ module _ (nodes horizon : ℕ) (least : ℕ → ℕ → ℕ) where
   }
 
 -- what is heard within a cone was done within it, since no note is sooner than the least delay
-pub cone_closed : {State Note Fact : Type 0} (w : World State Note Fact) (faults : List Parts) (timing : Timing) (nodes horizon : ℕ) (points : List Point) (reach : List ℕ)
+pub cone_closed : {State Note Fact : Type 0} (w : World State Note Fact) (faults : List Parts) (timing : Timing) (nodes horizon : ℕ) (points : List Point)
+    (reach : List ℕ)
     → nodes ≡ w.rules.nodes → horizon ≡ w.horizon → ((n m t : ℕ) → w.arrival n m t ≡ arrival_of timing n m t)
     → IsCone nodes horizon (least_of timing.links) points reach → IsClosed w faults reach
 cone_closed w faults timing nodes horizon points reach e f arrival h = record {

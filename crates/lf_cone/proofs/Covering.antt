@@ -1,5 +1,5 @@
 -- The least reach that covers points.
-use Rattle.std.proofs.Common.{◌≡◌, ℕ, ◌+◌, ◌<◌, ◌≤◌, true, List, length, get_or, replicate, refl, sym, ap, ◌∙◌, inl, inr, arith, subst}
+use Rattle.std.proofs.Common.{◌≡◌, ℕ, zero, suc, [], ◌∷◌, ◌+◌, ◌<◌, ◌≤◌, true, List, length, get_or, replicate, refl, sym, ap, ◌∙◌, inl, inr, arith, subst}
 use Rattle.std.specs.Prelude.{◌⊎◌}
 use Rattle.std.specs.List.{Contains}
 use Rattle.std.proofs.lemmas.Bool.{cases_lt}
@@ -9,7 +9,8 @@ use Rattle.lf_faults.specs.declared.fault.Parts.{Parts}
 use Rattle.lf_sim.specs.Runs.{World, is_up}
 use Rattle.lf_sim.proofs.Laws.{IsRunning-up}
 use Rattle.lf_outcome.specs.declared.point.Point.{Point}
-use Rattle.lf_cone.specs.Cones.{IsReachOf, IsAtMost, Covers, AreUp}
+use Rattle.lf_outcome.specs.Evidence.{Covers, AreUp}
+use Rattle.lf_cone.specs.Cones.{IsReachOf, IsAtMost}
 use Rattle.lf_cone.specs.Sweeps.{IsRaised, SomeBelow, PointAt, AreInside}
 use Rattle.lf_cone.proofs.Sweeping.{raised-more, raised-one, raised-same}
 
@@ -26,7 +27,8 @@ pub point_in : (points : List Point) (k : ℕ) → k < length points → Contain
 point_in points k h = (k, h, get_or_default points k (get_or points k blank) blank h)
 
 -- points at which nodes are up are points of the run
-pub inside-up : {State Note Fact : Type 0} (w : World State Note Fact) (faults : List Parts) (points : List Point) (nodes last : ℕ) → nodes ≡ w.rules.nodes → w.horizon ≤ last
+pub inside-up : {State Note Fact : Type 0} (w : World State Note Fact) (faults : List Parts) (points : List Point) (nodes last : ℕ)
+    → nodes ≡ w.rules.nodes → w.horizon ≤ last
     → AreUp w faults points → AreInside nodes last points
 inside-up w faults points nodes last e short up p c =
     let r = IsRunning-up w faults p.node p.step (up p c) in
@@ -43,9 +45,9 @@ module _ (nodes last : ℕ) (points : List Point) (start : List ℕ) (h : IsRais
   start-form inside = record {
     count = h.count ∙ length-replicate {A = ℕ} nodes 0;
     within = λ n. elim (h.only n) [
-        | inl same ↦ omega (arith, same, zeros nodes n)
-        | inr q ↦ let at = inside (get_or points q.0 blank) (point_in points q.0 q.1) in omega (arith, q.2.1, at.1)
-      ];
+      | inl same ↦ omega (arith, same, zeros nodes n)
+      | inr q ↦ let at = inside (get_or points q.0 blank) (point_in points q.0 q.1) in omega (arith, q.2.1, at.1)
+    ];
   }
 
   pub start-covers : Covers start points
@@ -60,3 +62,14 @@ module _ (nodes last : ℕ) (points : List Point) (start : List ℕ) (h : IsRais
         | inl same ↦ omega (arith, same, zeros nodes n)
         | inr q ↦ let at = covers (get_or points q.0 blank) (point_in points q.0 q.1) in rw (q.2.0, q.2.1) at at
       ]
+
+-- one point
+one-point : (x p : Point) (k : ℕ) → k < 1 → get_or (x ∷ []) k p ≡ p → x ≡ p
+one-point x p zero h e = e
+one-point x p (suc k) h e = absurd (omega arith)
+
+pub point-up : {State Note Fact : Type 0} (w : World State Note Fact) (faults : List Parts) (n t : ℕ) → is_up w faults n t ≡ true
+    → AreUp w faults (record { node = n; step = t } ∷ [])
+point-up w faults n t up p c =
+    let one : record { node = n; step = t } ≡ p = one-point (record { node = n; step = t }) p c.0 c.1 c.2 in
+    subst (λ (q : Point). is_up w faults q.node q.step ≡ true) one up

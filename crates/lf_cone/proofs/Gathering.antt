@@ -1,5 +1,6 @@
 -- Faults are gathered place by place, and stand in order.
-use Rattle.std.proofs.Common.{◌≡◌, ℕ, suc, Bool, length, get_or, take, replicate, ◌+◌, ◌-◌, ◌*◌, ◌<◌, ◌≤◌, true, false, List, [], ◌∷◌, ◌++◌, refl, sym, ap, ◌∙◌, inl, inr, arith, subst}
+use Rattle.std.proofs.Common.{◌≡◌, ℕ, suc, Bool, length, get_or, take, replicate, ◌+◌, ◌-◌, ◌*◌, ◌<◌, ◌≤◌, true, false, List, [], ◌∷◌, ◌++◌, refl, sym}
+use Rattle.std.proofs.Common.{ap, ◌∙◌, inl, inr, arith, subst}
 use Rattle.std.specs.Prelude.{◌⊎◌, ◌↔◌, slice_set}
 use Rattle.std.specs.List.{Contains, AllByRecursion}
 use Rattle.std.specs.Cmp.{nat_cmp_is}
@@ -37,10 +38,12 @@ first-step (Pause n t) h = h.1
 
 -- in one step, a place before another is of a fault before the other
 before-in_step : (f g : Parts) → IsFault f → IsFault g → place_in_step f < place_in_step g
-    → is_lt (ordering_then (nat_cmp (rank_of f) (rank_of g)) (ordering_then (nat_cmp (node_of f) (node_of g)) (nat_cmp (receiver_of f) (receiver_of g)))) ≡ true
+    → is_lt (ordering_then (nat_cmp (rank_of f) (rank_of g)) (ordering_then (nat_cmp (node_of f) (node_of g)) (nat_cmp (receiver_of f)
+    (receiver_of g)))) ≡ true
 before-in_step (Omit n m t) (Omit from to step) h k l = elim (cases_lt n from) [
   | inl less ↦ first-same 0 0 _ refl (first-less n from (nat_cmp m to) less)
-  | inr late ↦ first-same 0 0 _ refl (first-same n from (nat_cmp m to) (omega (arith, late, l, h.1, k.1)) (last-less m to (omega (arith, late, l, h.1, k.1))))
+  | inr late ↦ first-same 0 0 _ refl (first-same n from (nat_cmp m to) (omega (arith, late, l, h.1, k.1)) (last-less m to (omega
+      (arith, late, l, h.1, k.1))))
 ]
 before-in_step (Omit n m t) (Crash node step) h k l = refl
 before-in_step (Omit n m t) (Pause node step) h k l = refl
@@ -106,30 +109,31 @@ module _ (P : Parts → Type 0) (faults : (f : Parts) → P f → IsFault f) whe
         let was = (h.members g).0 c in
         place-before g f (faults g was.0) (faults f p) (omega (arith, was.1, e))));
     members = λ g. (
-        λ c. elim (Contains-push_cases fs f g c) [
-          | inl old ↦ let was = (h.members g).0 old in (was.0, omega (arith, was.1))
-          | inr new ↦ (subst P new p, omega (arith, ap place_of new, e))
-        ],
-        λ q. elim (cases_lt (place_of g) k) [
-          | inl early ↦ Contains-append_left fs (f ∷ []) g ((h.members g).1 (q.0, early))
-          | inr late ↦
-              let is : f ≡ g = place-one f g (faults f p) (faults g q.0) (omega (arith, late, q.1, e)) in
-              subst (Contains (fs ++ f ∷ [])) is (Contains-push fs f)
-        ],
-      );
+      λ c. elim (Contains-push_cases fs f g c) [
+        | inl old ↦ let was = (h.members g).0 old in (was.0, omega (arith, was.1))
+        | inr new ↦ (subst P new p, omega (arith, ap place_of new, e))
+      ],
+      λ q. elim (cases_lt (place_of g) k) [
+        | inl early ↦ Contains-append_left fs (f ∷ []) g ((h.members g).1 (q.0, early))
+        | inr late ↦
+            let is : f ≡ g = place-one f g (faults f p) (faults g q.0) (omega (arith, late, q.1, e)) in
+            subst (Contains (fs ++ f ∷ [])) is (Contains-push fs f)
+      ],
+    );
   }
 
   -- no fault stands at these places
-  pub gathered-leap : (fs : List Parts) (k l : ℕ) → k ≤ l → IsGathered P k fs → ((f : Parts) → P f → k ≤ place_of f → place_of f < l → ⊥) → IsGathered P l fs
+  pub gathered-leap : (fs : List Parts) (k l : ℕ) → k ≤ l → IsGathered P k fs → ((f : Parts) → P f → k ≤ place_of f → place_of f < l → ⊥)
+      → IsGathered P l fs
   gathered-leap fs k l less h none = record {
     ascending = h.ascending;
     members = λ g. (
-        λ c. let was = (h.members g).0 c in (was.0, omega (arith, was.1, less)),
-        λ q. elim (cases_lt (place_of g) k) [
-          | inl early ↦ (h.members g).1 (q.0, early)
-          | inr late ↦ absurd (none g q.0 late q.1)
-        ],
-      );
+      λ c. let was = (h.members g).0 c in (was.0, omega (arith, was.1, less)),
+      λ q. elim (cases_lt (place_of g) k) [
+        | inl early ↦ (h.members g).1 (q.0, early)
+        | inr late ↦ absurd (none g q.0 late q.1)
+      ],
+    );
   }
 
 -- the marks of faults, one after another
@@ -147,9 +151,14 @@ marks-more xs i places g inside at in_range below h f is =
             λ _. rw same (get_or-set_same places (place_of g) true false below),
           )
       | inr other ↦
-          let kept : get_or (slice_set places (place_of g) true) (place_of f) false ≡ get_or places (place_of f) false = get_or-set_other places (place_of g) (place_of f) true false other in (
+          let kept : get_or (slice_set places (place_of g) true) (place_of f) false ≡ get_or places (place_of f) false = get_or-set_other places
+          (place_of g) (place_of f) true false other in (
             λ e. rw whole (Contains-append_left (take i xs) (g ∷ []) f ((h f is).0 (sym kept ∙ e))),
-            λ c. kept ∙ (h f is).1 (elim (Contains-push_cases (take i xs) g f (rw whole at c)) [ inl old ↦ old | inr new ↦ absurd (other (ap place_of (sym new))) ]),
+            λ c. kept ∙ (h f is).1 (elim (Contains-push_cases (take i xs) g f (rw whole at c)) [
+              | inl old ↦ old
+              | inr new ↦ absurd (other (ap place_of
+                  (sym new)))
+            ]),
           )
     ]
 

@@ -1,5 +1,6 @@
 -- What a node hears, slot by slot.
-use Rattle.std.proofs.Common.{◌≡◌, ◌≢◌, ℕ, suc, [], ◌∷◌, inl, inr, replicate, ◌+◌, ◌<◌, ◌≤◌, Bool, true, false, List, length, get_or, refl, sym, ap, ◌∙◌, arith, subst}
+use Rattle.std.proofs.Common.{◌≡◌, ◌≢◌, ℕ, suc, [], ◌∷◌, inl, inr, replicate, ◌+◌, ◌<◌, ◌≤◌, Bool, true, false, List, length, get_or, refl, sym, ap}
+use Rattle.std.proofs.Common.{◌∙◌, arith, subst}
 use Rattle.std.specs.Prelude.{not, ◌&&◌}
 use Rattle.std.specs.List.{All, Contains}
 use Rattle.std.proofs.lemmas.Bool.{cases_lt, lt-ltb, le-leb}
@@ -13,33 +14,36 @@ use Rattle.lf_sim.specs.Runs.{World, is_up}
 use Rattle.lf_sim.specs.Schedules.{IsArriving}
 use Rattle.lf_sim.proofs.Laws.{IsRunning-up}
 use Rattle.lf_outcome.specs.declared.point.Point.{Point}
-use Rattle.lf_cone.specs.Cones.{CanHear, IsHeard, IsReachOf, IsAtMost, Covers, IsClosed, IsSharp}
+use Rattle.lf_outcome.specs.Evidence.{Covers}
+use Rattle.lf_cone.specs.Cones.{CanHear, IsHeard, IsReachOf, IsAtMost, IsClosed, IsSharp}
 use Rattle.lf_cone.specs.Sweeps.{IsRaised, SomeBelow, HeardAt, MaySend, KeepsTo, IsLeastFrom, PointAt}
 use Rattle.lf_cone.proofs.Covering.{start-covers, start-smallest}
 use Rattle.lf_cone.proofs.Sweeping.{raised-more, raised-pass, raised-same}
 
 -- lists of numbers that are the same at each place
-same-steps : (xs ys : List ℕ) → length xs ≡ length ys → ((n : ℕ) → get_or xs n 0 ≡ get_or ys n 0) → xs ≡ ys
+pub same-steps : (xs ys : List ℕ) → length xs ≡ length ys → ((n : ℕ) → get_or xs n 0 ≡ get_or ys n 0) → xs ≡ ys
 same-steps [] [] e h = refl
 same-steps [] (y ∷ ys) e h = absurd (omega arith)
 same-steps (x ∷ xs) [] e h = absurd (omega arith)
 same-steps (x ∷ xs) (y ∷ ys) e h = let first : x ≡ y = h 0 in let rest = same-steps xs ys (omega arith) (λ n. h (suc n)) in cc
 
 -- no step is past the last
-pub ends-by : (nodes last : ℕ) (r : List ℕ) → length r ≡ nodes → (All (λ t. t ≤ last) r → IsReachOf nodes last r) × (IsReachOf nodes last r → All (λ t. t ≤ last) r)
+pub ends-by : (nodes last : ℕ) (r : List ℕ) → length r ≡ nodes → (All (λ t. t ≤ last) r → IsReachOf nodes last r) × (IsReachOf nodes last r
+    → All (λ t. t ≤ last) r)
 ends-by nodes last r e = (
   λ h. record {
     count = e;
     within = λ n. elim (cases_lt n (length r)) [
-        | inl there ↦ h n 0 there
-        | inr past ↦ let none : get_or r n 0 ≡ 0 = get_or-eq_default r 0 {n = n} past in omega (arith, none)
-      ];
+      | inl there ↦ h n 0 there
+      | inr past ↦ let none : get_or r n 0 ≡ 0 = get_or-eq_default r 0 {n = n} past in omega (arith, none)
+    ];
   },
   λ h k d l. let at : get_or r k d ≡ get_or r k 0 = get_or_default r k d 0 l in omega (arith, at, h.within k),
 )
 
 -- where a point is one of the run, a node is up unless a fault takes it out
-pub up-left : {State Note Fact : Type 0} (w : World State Note Fact) (faults : List Parts) (lasts n t : ℕ) → n < w.rules.nodes → 1 ≤ t → t ≤ w.horizon → lasts ≡ w.pause_length
+pub up-left : {State Note Fact : Type 0} (w : World State Note Fact) (faults : List Parts) (lasts n t : ℕ) → n < w.rules.nodes → 1 ≤ t → t ≤ w.horizon
+    → lasts ≡ w.pause_length
     → (not (set_crashes faults n t) && not (set_pauses lasts faults n t)) ≡ is_up w faults n t
 unfolding is_up
 up-left w faults lasts n t node first last e = rw (lt-ltb n w.rules.nodes node, le-leb 1 t first, le-leb t w.horizon last, e) refl
@@ -67,12 +71,19 @@ module _ {State Note Fact : Type 0} (w : World State Note Fact) (faults : List P
   abbrev pub Slots : ℕ → ℕ → ℕ → List Slot → Type 0
   Slots nodes m u slots = (s : Slot) → (Contains slots s → IsArriving w.arrival nodes m u s) × (IsArriving w.arrival nodes m u s → Contains slots s)
 
-  pub slot_is : (nodes m u i : ℕ) (slots : List Slot) → nodes ≡ w.rules.nodes → Slots nodes m u slots → i < length slots → IsArriving w.arrival w.rules.nodes m u (get_or slots i blank)
+  pub slot_is : (nodes m u i : ℕ) (slots : List Slot) → nodes ≡ w.rules.nodes → Slots nodes m u slots → i < length slots
+      → IsArriving w.arrival w.rules.nodes m u (get_or slots i blank)
   slot_is nodes m u i slots e h l =
-      subst (λ k. IsArriving w.arrival k m u (get_or slots i blank)) e ((h (get_or slots i blank)).0 (i, l, get_or_default slots i (get_or slots i blank) blank l))
+      subst (λ k. IsArriving w.arrival k m u (get_or slots i blank)) e ((h (get_or slots i blank)).0 (
+        i,
+        l,
+        get_or_default slots i
+            (get_or slots i blank) blank l,
+      ))
 
   -- a slot more
-  pub heard_more : (m u i : ℕ) (slots : List Slot) (a b c : List ℕ) → is_up w faults m u ≡ true → IsArriving w.arrival w.rules.nodes m u (get_or slots i blank)
+  pub heard_more : (m u i : ℕ) (slots : List Slot) (a b c : List ℕ) → is_up w faults m u ≡ true
+      → IsArriving w.arrival w.rules.nodes m u (get_or slots i blank)
       → MaySend w faults (get_or slots i blank).from m (get_or slots i blank).sent
       → IsRaised (SomeBelow (HeardAt w faults m u slots) i) a b
       → IsRaised (λ n t. (n ≡ (get_or slots i blank).from) × (t ≡ (get_or slots i blank).sent)) b c
@@ -91,12 +102,14 @@ module _ {State Note Fact : Type 0} (w : World State Note Fact) (faults : List P
       raised-pass (HeardAt w faults m u slots) i a b first
       (λ n t h. none (rw (h.0, h.1) (h.2.sends, h.2.kept)))
 
-  pub heard_all : ArrivesLater w → (nodes m u i : ℕ) (slots : List Slot) (a b : List ℕ) → nodes ≡ w.rules.nodes → Slots nodes m u slots → length slots ≤ i → i ≤ length slots
+  pub heard_all : ArrivesLater w → (nodes m u i : ℕ) (slots : List Slot) (a b : List ℕ) → nodes ≡ w.rules.nodes → Slots nodes m u slots
+      → length slots ≤ i → i ≤ length slots
       → IsRaised (SomeBelow (HeardAt w faults m u slots) i) a b → IsRaised (λ n t. CanHear w faults n t m u) a b
   heard_all later nodes m u i slots a b e members long short h =
       raised-same (SomeBelow (HeardAt w faults m u slots) i) _ a b
       (λ n t can.
-      let c = (members (record { from = n; sent = t })).1 (subst (λ k. IsArriving w.arrival k m u (record { from = n; sent = t })) (sym e) (heard-slot later n t m u can)) in
+      let c = (members (record { from = n; sent = t })).1 (subst (λ k. IsArriving w.arrival k m u (record { from = n; sent = t })) (sym e)
+      (heard-slot later n t m u can)) in
       let at : get_or slots c.0 blank ≡ record { from = n; sent = t } = get_or_default slots c.0 blank (record { from = n; sent = t }) c.1 ∙ c.2 in
       (c.0, omega (arith, c.1, long), (ap (λ (s : Slot). s.from) at, ap (λ (s : Slot). s.sent) at, can)))
       (λ n t q. q.2.2)
@@ -109,7 +122,8 @@ module _ {State Note Fact : Type 0} (w : World State Note Fact) (faults : List P
   pub keeps-closed : (reach : List ℕ) → IsClosed w faults reach → KeepsTo (CanHear w faults) reach
   keeps-closed reach h n t m u can near = h.each n t m (u, near, can)
 
-  pub closed-least : (nodes : ℕ) (start r : List ℕ) → nodes ≡ w.rules.nodes → IsReachOf nodes w.horizon start → IsLeastFrom (CanHear w faults) nodes w.horizon start r
+  pub closed-least : (nodes : ℕ) (start r : List ℕ) → nodes ≡ w.rules.nodes → IsReachOf nodes w.horizon start
+      → IsLeastFrom (CanHear w faults) nodes w.horizon start r
       → (r ≡ start → IsClosed w faults start) × (IsClosed w faults start → r ≡ start)
   closed-least nodes start r e form h = (
     λ same. closed-keeps start (record { count = form.count ∙ e; within = form.within }) (subst (KeepsTo (CanHear w faults)) same h.keeps),
@@ -119,7 +133,8 @@ module _ {State Note Fact : Type 0} (w : World State Note Fact) (faults : List P
         omega arith),
   )
 
-  pub sharp-least : (nodes : ℕ) (points : List Point) (start r : List ℕ) → nodes ≡ w.rules.nodes → IsRaised (SomeBelow (PointAt points) (length points)) (replicate nodes 0) start
+  pub sharp-least : (nodes : ℕ) (points : List Point) (start r : List ℕ) → nodes ≡ w.rules.nodes
+      → IsRaised (SomeBelow (PointAt points) (length points)) (replicate nodes 0) start
       → IsLeastFrom (CanHear w faults) nodes w.horizon start r → IsSharp w faults points r
   sharp-least nodes points start r e raised h = record {
     closed = closed-keeps r (record { count = h.form.count ∙ e; within = h.form.within }) h.keeps;

@@ -1,5 +1,6 @@
 -- Which faults are to be tried, place by place.
-use Rattle.std.proofs.Common.{◌≡◌, ◌≢◌, ℕ, ◌+◌, ◌-◌, ◌*◌, ◌<◌, ◌≤◌, true, false, List, length, [], ◌∷◌, ◌++◌, refl, sym, ap, ◌∙◌, inl, inr, arith, subst, get_or}
+use Rattle.std.proofs.Common.{◌≡◌, ◌≢◌, ℕ, ◌+◌, ◌-◌, ◌*◌, ◌<◌, ◌≤◌, true, false, List, length, [], ◌∷◌, ◌++◌, refl, sym, ap, ◌∙◌, inl, inr, arith}
+use Rattle.std.proofs.Common.{subst, get_or}
 use Rattle.std.specs.Prelude.{IsSome}
 use Rattle.std.specs.List.{Contains}
 use Rattle.std.proofs.lemmas.Bool.{both_ways}
@@ -7,9 +8,7 @@ use Rattle.lf_faults.specs.declared.fault.Parts.{Parts}
 use Rattle.lf_faults.specs.declared.fault.Parts.TheVariants.{Omit, Crash, Pause}
 use Rattle.lf_faults.specs.Faults.{IsFault, IsAscending, inserted}
 use Rattle.lf_faults.specs.Allowed.{Bounds, IsInLimits, IsAdmitted, IsAllowed, IsSubset, CanAdd}
-use Rattle.lf_faults.proofs.Allowing.{admitted-from_allowed, subset_allowed}
-use Rattle.lf_faults.proofs.Counts.{still-in, length-inserted}
-use Rattle.lf_faults.proofs.Stepping.{fault-from_admitted}
+use Rattle.lf_faults.proofs.Laws.{in_allowed-admitted, admitted-fault, subset_allowed, in-inserted, still-in, length-inserted}
 use Rattle.lf_sim.specs.Runs.{World, is_up, sent}
 use Rattle.lf_sim.proofs.Laws.{IsRunning-up}
 use Rattle.lf_cone.specs.Cones.{CanHear, IsHeard, Supports, IsRequired, AreRequired, IsLive}
@@ -20,19 +19,22 @@ use Rattle.lf_cone.proofs.Gathering.{place-one, gathered-none, gathered-push, ga
 abbrev base : ℕ → ℕ
 base t = (t - 1) * 80
 
-omission-at : (t : ℕ) (f : Parts) → IsFault f → 1 ≤ t → base t ≤ place_of f → place_of f < base t + 64 → (n : ℕ) × (m : ℕ) × (f ≡ Omit n m t) × (place_of f ≡ base t + (n * 8 + m)) × (m < 8)
+omission-at : (t : ℕ) (f : Parts) → IsFault f → 1 ≤ t → base t ≤ place_of f → place_of f < base t + 64
+    → (n : ℕ) × (m : ℕ) × (f ≡ Omit n m t) × (place_of f ≡ base t + (n * 8 + m)) × (m < 8)
 omission-at t (Omit n m s) h first low high =
     let e : s ≡ t = omega (arith, h.0, h.1, h.3) in
     (n, m, ap (Omit n m) e, omega (arith, e), h.1)
 omission-at t (Crash n s) h first low high = absurd (omega (arith, h.0, h.1))
 omission-at t (Pause n s) h first low high = absurd (omega (arith, h.0, h.1))
 
-crash-at : (t : ℕ) (f : Parts) → IsFault f → 1 ≤ t → base t + 64 ≤ place_of f → place_of f < base t + 72 → (n : ℕ) × (f ≡ Crash n t) × (place_of f ≡ base t + 64 + n)
+crash-at : (t : ℕ) (f : Parts) → IsFault f → 1 ≤ t → base t + 64 ≤ place_of f → place_of f < base t + 72
+    → (n : ℕ) × (f ≡ Crash n t) × (place_of f ≡ base t + 64 + n)
 crash-at t (Omit n m s) h first low high = absurd (omega (arith, h.0, h.1, h.3))
 crash-at t (Crash n s) h first low high = let e : s ≡ t = omega (arith, h.0, h.1) in (n, ap (Crash n) e, omega (arith, e))
 crash-at t (Pause n s) h first low high = absurd (omega (arith, h.0, h.1))
 
-pause-at : (t : ℕ) (f : Parts) → IsFault f → 1 ≤ t → base t + 72 ≤ place_of f → place_of f < base t + 80 → (n : ℕ) × (f ≡ Pause n t) × (place_of f ≡ base t + 72 + n)
+pause-at : (t : ℕ) (f : Parts) → IsFault f → 1 ≤ t → base t + 72 ≤ place_of f → place_of f < base t + 80
+    → (n : ℕ) × (f ≡ Pause n t) × (place_of f ≡ base t + 72 + n)
 pause-at t (Omit n m s) h first low high = absurd (omega (arith, h.0, h.1, h.3))
 pause-at t (Crash n s) h first low high = absurd (omega (arith, h.0, h.1))
 pause-at t (Pause n s) h first low high = let e : s ≡ t = omega (arith, h.0, h.1) in (n, ap (Pause n) e, omega (arith, e))
@@ -42,7 +44,8 @@ late-place b last (Omit n m t) h is less short = omega (arith, h.0, h.1, h.3, is
 late-place b last (Crash n t) h is less short = omega (arith, h.0, h.1, is.2)
 late-place b last (Pause n t) h is less short = omega (arith, h.0, h.1, is.2)
 
-module _ {State Note Fact : Type 0} (w : World State Note Fact) (faults : List Parts) (b : Bounds) (reach : List ℕ) (excluded : List Parts) (limits : IsInLimits b) where
+module _ {State Note Fact : Type 0} (w : World State Note Fact) (faults : List Parts) (b : Bounds) (reach : List ℕ) (excluded : List Parts)
+    (limits : IsInLimits b) where
   abbrev P : Parts → Type 0
   P = IsRequired w faults b reach excluded
 
@@ -50,16 +53,17 @@ module _ {State Note Fact : Type 0} (w : World State Note Fact) (faults : List P
   Gathered = IsGathered (IsRequired w faults b reach excluded)
 
   is-admitted : (f : Parts) → P f → IsAdmitted b f
-  is-admitted f h = admitted-from_allowed b faults f h.allowed.1
+  is-admitted f h = in_allowed-admitted b (inserted f faults) f h.allowed.1 (in-inserted f faults)
 
   is-fault : (f : Parts) → P f → IsFault f
-  is-fault f h = fault-from_admitted b f limits (is-admitted f h)
+  is-fault f h = admitted-fault b f limits (is-admitted f h)
 
   pub start : Gathered 0 []
   start = gathered-none P is-fault
 
   -- a fault is put, or may not be tried
-  pub put_one : (fs : List Parts) (f : Parts) → Gathered (place_of f) fs → Supports w faults reach f → MayTry b faults excluded f → Gathered (place_of f + 1) (fs ++ f ∷ [])
+  pub put_one : (fs : List Parts) (f : Parts) → Gathered (place_of f) fs → Supports w faults reach f → MayTry b faults excluded f
+      → Gathered (place_of f + 1) (fs ++ f ∷ [])
   put_one fs f h supports may = gathered-push P is-fault fs (place_of f) f h (record { supports = supports; allowed = may.1; included = may.0 }) refl
 
   pub put_none : (fs : List Parts) (f : Parts) → IsFault f → Gathered (place_of f) fs → (MayTry b faults excluded f → ⊥) → Gathered (place_of f + 1) fs
@@ -71,7 +75,8 @@ module _ {State Note Fact : Type 0} (w : World State Note Fact) (faults : List P
       none (again.included, again.allowed))
 
   -- no omission of the slot
-  pub skip_omission : (fs : List Parts) (n m t : ℕ) → 1 ≤ t → n < 8 → m < 8 → Gathered (base t + n * 8 + m) fs → (n ≢ m → Supports w faults reach (Omit n m t) → ⊥) → Gathered (base t + n * 8 + m + 1) fs
+  pub skip_omission : (fs : List Parts) (n m t : ℕ) → 1 ≤ t → n < 8 → m < 8 → Gathered (base t + n * 8 + m) fs → (n ≢ m
+      → Supports w faults reach (Omit n m t) → ⊥) → Gathered (base t + n * 8 + m + 1) fs
   skip_omission fs n m t first sender receiver h none =
       gathered-leap P is-fault fs (base t + n * 8 + m) (base t + n * 8 + m + 1) (omega arith) h
       (λ f p low high.
@@ -82,7 +87,8 @@ module _ {State Note Fact : Type 0} (w : World State Note Fact) (faults : List P
       none (is-admitted (Omit n m t) is).2 is.supports)
 
   -- no omission of what a node sends
-  pub skip_sender : (fs : List Parts) (n t : ℕ) → 1 ≤ t → n < 8 → Gathered (base t + n * 8) fs → is_up w faults n t ≡ false → Gathered (base t + (n + 1) * 8) fs
+  pub skip_sender : (fs : List Parts) (n t : ℕ) → 1 ≤ t → n < 8 → Gathered (base t + n * 8) fs → is_up w faults n t ≡ false
+      → Gathered (base t + (n + 1) * 8) fs
   skip_sender fs n t first sender h down =
       gathered-leap P is-fault fs (base t + n * 8) (base t + (n + 1) * 8) (omega arith) h
       (λ f p low high.
@@ -92,7 +98,8 @@ module _ {State Note Fact : Type 0} (w : World State Note Fact) (faults : List P
       both_ways (is_up w faults n t) down (is.supports.1.2.sends))
 
   -- no omission to or from what isn't a node, nor after the last one
-  pub end_receivers : (fs : List Parts) (n m t : ℕ) → 1 ≤ t → n < 8 → b.nodes ≤ m → m ≤ 8 → Gathered (base t + n * 8 + m) fs → Gathered (base t + (n + 1) * 8) fs
+  pub end_receivers : (fs : List Parts) (n m t : ℕ) → 1 ≤ t → n < 8 → b.nodes ≤ m → m ≤ 8 → Gathered (base t + n * 8 + m) fs
+      → Gathered (base t + (n + 1) * 8) fs
   end_receivers fs n m t first sender past few h =
       gathered-leap P is-fault fs (base t + n * 8 + m) (base t + (n + 1) * 8) (omega arith) h
       (λ f p low high.
@@ -117,7 +124,8 @@ module _ {State Note Fact : Type 0} (w : World State Note Fact) (faults : List P
       omega (arith, is.4))
 
   -- crashes and pauses
-  pub skip_crash : (fs : List Parts) (n t : ℕ) → 1 ≤ t → n < 8 → Gathered (base t + 64 + n) fs → (Supports w faults reach (Crash n t) → ⊥) → Gathered (base t + 64 + n + 1) fs
+  pub skip_crash : (fs : List Parts) (n t : ℕ) → 1 ≤ t → n < 8 → Gathered (base t + 64 + n) fs → (Supports w faults reach (Crash n t) → ⊥)
+      → Gathered (base t + 64 + n + 1) fs
   skip_crash fs n t first node h none =
       gathered-leap P is-fault fs (base t + 64 + n) (base t + 64 + n + 1) (omega arith) h
       (λ f p low high.
@@ -134,7 +142,8 @@ module _ {State Note Fact : Type 0} (w : World State Note Fact) (faults : List P
       let is = is-admitted (Crash at.0 t) (subst P at.1 p) in
       omega (arith, at.2, is.0))
 
-  pub skip_pause : (fs : List Parts) (n t : ℕ) → 1 ≤ t → n < 8 → Gathered (base t + 72 + n) fs → (Supports w faults reach (Pause n t) → ⊥) → Gathered (base t + 72 + n + 1) fs
+  pub skip_pause : (fs : List Parts) (n t : ℕ) → 1 ≤ t → n < 8 → Gathered (base t + 72 + n) fs → (Supports w faults reach (Pause n t) → ⊥)
+      → Gathered (base t + 72 + n + 1) fs
   skip_pause fs n t first node h none =
       gathered-leap P is-fault fs (base t + 72 + n) (base t + 72 + n + 1) (omega arith) h
       (λ f p low high.

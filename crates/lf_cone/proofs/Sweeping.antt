@@ -22,12 +22,12 @@ raised-one r k s inside =
       keeps = λ n. elim (cases_eq n k) [ inl same ↦ rw same (omega (arith, here)) | inr other ↦ omega (arith, there n other) ];
       takes = λ n t h. rw h.0 (omega (arith, here, h.1));
       only = λ n. elim (cases_eq n k) [
-          inl same ↦ elim (cases_lt (get_or r k 0) s) [
-            inl less ↦ inr (same, rw same (omega (arith, here, less)))
+        | inl same ↦ elim (cases_lt (get_or r k 0) s) [
+          | inl less ↦ inr (same, rw same (omega (arith, here, less)))
           | inr enough ↦ inl (rw same (omega (arith, here, enough)))
-          ]
+        ]
         | inr other ↦ inl (there n other)
-        ];
+      ];
     }
 
 -- one after another
@@ -38,12 +38,12 @@ raised-then P Q W a b c first second from left right = record {
   keeps = λ n. omega (arith, first.keeps n, second.keeps n);
   takes = λ n t h. elim (from n t h) [ inl p ↦ omega (arith, first.takes n t p, second.keeps n) | inr q ↦ second.takes n t q ];
   only = λ n. elim (second.only n) [
-      inl same ↦ elim (first.only n) [
-        inl old ↦ inl (same ∙ old)
+    | inl same ↦ elim (first.only n) [
+      | inl old ↦ inl (same ∙ old)
       | inr p ↦ inr (subst (W n) (sym same) (left n (get_or b n 0) p))
-      ]
+    ]
     | inr q ↦ inr (right n (get_or c n 0) q)
-    ];
+  ];
 }
 
 pub raised-same : (P Q : ℕ → ℕ → Type 0) (a b : List ℕ) → ((n t : ℕ) → Q n t → P n t) → ((n t : ℕ) → P n t → Q n t) → IsRaised P a b → IsRaised Q a b
@@ -68,7 +68,8 @@ raised-more Q i a b c first second =
     (λ n t h. (h.0, omega (arith, h.1), h.2))
     (λ n t h. (i, omega arith, h))
 
-pub raised-pass : (Q : ℕ → ℕ → ℕ → Type 0) (i : ℕ) (a b : List ℕ) → IsRaised (SomeBelow Q i) a b → ((n t : ℕ) → Q i n t → ⊥) → IsRaised (SomeBelow Q (i + 1)) a b
+pub raised-pass : (Q : ℕ → ℕ → ℕ → Type 0) (i : ℕ) (a b : List ℕ) → IsRaised (SomeBelow Q i) a b → ((n t : ℕ) → Q i n t → ⊥)
+    → IsRaised (SomeBelow Q (i + 1)) a b
 raised-pass Q i a b first none = raised-more Q i a b b first (raised-not (Q i) b (λ n t q. absurd (none n t q)))
 
 module _ (RestsOn : ℕ → ℕ → ℕ → ℕ → Type 0) (nodes horizon : ℕ)
@@ -88,23 +89,23 @@ module _ (RestsOn : ℕ → ℕ → ℕ → ℕ → Type 0) (nodes horizon : ℕ
     form = record {
       count = raised.count ∙ swept.form.count;
       within = λ n. elim (raised.only n) [
-          inl same ↦ omega (arith, same, swept.form.within n)
+        | inl same ↦ omega (arith, same, swept.form.within n)
         | inr q ↦ omega (arith, later n (get_or b n 0) q.0 (suc u) q.2.1, inside)
-        ];
+      ];
     };
     keeps = λ n t m v late on near.
         let was : v ≤ get_or a m 0 = was_at v m late near in
         elim (cases_lt (suc u) v) [
-          inl after ↦ omega (arith, swept.keeps n t m v after on was, raised.keeps n)
-        | inr now ↦
-            let is : v ≡ suc u = omega (arith, now, late) in
-            raised.takes n t (m, node n t m v on, (subst (λ x. x ≤ get_or a m 0) is was, subst (RestsOn n t m) is on))
+          | inl after ↦ omega (arith, swept.keeps n t m v after on was, raised.keeps n)
+          | inr now ↦
+              let is : v ≡ suc u = omega (arith, now, late) in
+              raised.takes n t (m, node n t m v on, (subst (λ x. x ≤ get_or a m 0) is was, subst (RestsOn n t m) is on))
         ];
     covers = λ n. omega (arith, swept.covers n, raised.keeps n);
     smallest = λ other form keeps covers n. elim (raised.only n) [
-        inl same ↦ omega (arith, same, swept.smallest other form keeps covers n)
+      | inl same ↦ omega (arith, same, swept.smallest other form keeps covers n)
       | inr q ↦ keeps n (get_or b n 0) q.0 (suc u) q.2.1 (omega (arith, q.2.0, swept.smallest other form keeps covers q.0))
-      ];
+    ];
   }
     where
       was_at : (v m : ℕ) → u < v → v ≤ get_or b m 0 → v ≤ get_or a m 0

@@ -9,19 +9,12 @@ use Rattle.lf_faults.specs.Faults.{set_omits, IsAscending}
 use Rattle.lf_faults.specs.Allowed.{Bounds, IsSubset, CanAdd}
 use Rattle.lf_sim.specs.Runs.{World, is_up, view, sent}
 use Rattle.lf_outcome.specs.declared.point.Point.{Point}
+use Rattle.lf_outcome.specs.Evidence.{Covers}
 
 -- a last step for each of the nodes, 0 for none
 pub record IsReachOf (nodes horizon : ℕ) (reach : List ℕ) : Type 0 where
   pub count : length reach ≡ nodes
   pub within : (n : ℕ) → slice_index reach n ≤ horizon
-
--- each of the points is within the reach
-abbrev pub Covers : List ℕ → List Point → Type 0
-Covers reach points = (p : Point) → Contains points p → p.step ≤ slice_index reach p.node
-
--- each of the points is one at which its node is up
-abbrev pub AreUp : {State Note Fact : Type 0} → World State Note Fact → List Parts → List Point → Type 0
-AreUp w faults points = (p : Point) → Contains points p → is_up w faults p.node p.step ≡ true
 
 -- at each node the one reach is at most the other
 abbrev pub IsAtMost : List ℕ → List ℕ → Type 0

@@ -53,7 +53,8 @@ RestsByOne nodes least m v from n t = (n ≡ from) × RestsByLeast nodes least n
 
 -- the point at a place
 abbrev pub PointAt : List Point → ℕ → ℕ → ℕ → Type 0
-PointAt points k n t = ((slice_index_or points k (record { node = 0; step = 0 })).node ≡ n) × ((slice_index_or points k (record { node = 0; step = 0 })).step ≡ t)
+PointAt points k n t = ((slice_index_or points k (record { node = 0; step = 0 })).node ≡ n) × ((slice_index_or points k
+    (record { node = 0; step = 0 })).step ≡ t)
 
 -- the points are of these nodes, and of steps up to this one
 abbrev pub AreInside : ℕ → ℕ → List Point → Type 0
@@ -62,7 +63,8 @@ AreInside nodes last points = (p : Point) → Contains points p → (p.node < no
 -- m can hear at u the slot at a place
 abbrev pub HeardAt : {State Note Fact : Type 0} → World State Note Fact → List Parts → ℕ → ℕ → List Slot → ℕ → ℕ → ℕ → Type 0
 HeardAt w faults m u slots k n t =
-    ((slice_index_or slots k (record { from = 0; sent = 0 })).from ≡ n) × ((slice_index_or slots k (record { from = 0; sent = 0 })).sent ≡ t) × CanHear w faults n t m u
+    ((slice_index_or slots k (record { from = 0; sent = 0 })).from ≡ n) × ((slice_index_or slots k
+    (record { from = 0; sent = 0 })).sent ≡ t) × CanHear w faults n t m u
 
 -- n is up at t, and what it sends to m isn't lost
 abbrev pub MaySend : {State Note Fact : Type 0} → World State Note Fact → List Parts → ℕ → ℕ → ℕ → Type 0

@@ -3,7 +3,8 @@
 ghost use Rattle.std.specs.Prelude.{◌≡◌, ◌<◌, ◌≤◌, length};
 ghost use Rattle.lf_latency.specs.Links.{least_of};
 ghost use Rattle.lf_sim.specs.Settings.{world_of, set_of, IsRun};
-ghost use Rattle.lf_cone.specs.Cones.{AreUp, IsClosed, IsCone};
+ghost use Rattle.lf_outcome.specs.Evidence.{AreUp};
+ghost use Rattle.lf_cone.specs.Cones.{IsClosed, IsCone};
 ghost use Rattle.lf_cone.specs.Sweeps.{IsRaised, SomeBelow, RestsAt, RestsByLeast};
 
 use crate::points::covering;

@@ -4,7 +4,8 @@ ghost use Rattle.std.specs.Prelude.{◌≡◌, ◌<◌, ◌≤◌, ◌↔◌, tr
 ghost use Rattle.lf_faults.specs.Allowed.{IsInLimits};
 ghost use Rattle.lf_sim.specs.Runs.{is_up};
 ghost use Rattle.lf_sim.specs.Settings.{world_of, set_of, IsRun};
-ghost use Rattle.lf_cone.specs.Cones.{IsReachOf, AreUp, CanHear, IsClosed, IsSharp};
+ghost use Rattle.lf_outcome.specs.Evidence.{AreUp};
+ghost use Rattle.lf_cone.specs.Cones.{IsReachOf, CanHear, IsClosed, IsSharp};
 ghost use Rattle.lf_cone.specs.Sweeps.{IsRaised, SomeBelow, RestsAt, IsLeastFrom, MaySend};
 
 use crate::points::covering;
@@ -129,7 +130,12 @@ fn heard_by<M: Machine>(
 }
 
 /// Whether a node is up at a step of the run.
-pub(crate) fn goes<M: Machine>(setting: &Setting<M>, effects: &Effects, node: u32, step: u32) -> bool
+pub(crate) fn goes<M: Machine>(
+    setting: &Setting<M>,
+    effects: &Effects,
+    node: u32,
+    step: u32,
+) -> bool
     requires node { node < setting.now.spec.nodes }
     requires first { 1 ≤ step }
     requires step { step ≤ setting.now.spec.horizon }
@@ -140,13 +146,7 @@ pub(crate) fn goes<M: Machine>(setting: &Setting<M>, effects: &Effects, node: u3
 }
 
 /// Whether a node is up at a step, and what it sends to another in it isn't lost.
-fn sends<M: Machine>(
-    setting: &Setting<M>,
-    effects: &Effects,
-    from: u32,
-    to: u32,
-    step: u32,
-) -> bool
+fn sends<M: Machine>(setting: &Setting<M>, effects: &Effects, from: u32, to: u32, step: u32) -> bool
     requires from { from < setting.now.spec.nodes }
     requires to { to < setting.now.spec.nodes }
     requires first { 1 ≤ step }

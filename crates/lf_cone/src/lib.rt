@@ -10,5 +10,8 @@ mod required;
 
 pub use delays::cone;
 pub use hearing::{is_closed, sharp};
-pub use laws::agree_everywhere;
+pub use laws::{agree, light_cone, reaches_are_one};
 pub use required::{edges, put_edges};
+
+#[cfg(test)]
+mod tests;

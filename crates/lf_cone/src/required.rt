@@ -178,7 +178,13 @@ fn put_pauses<M: Machine>(
         view.now.reach view.now.marks.faults.now) (step * 80) found.new.items) }
 {
     for node in 0..setting.spec.nodes() {
-        if lives(setting, view, node, step, step + setting.spec.pause_length()) {
+        if lives(
+            setting,
+            view,
+            node,
+            step,
+            step + setting.spec.pause_length(),
+        ) {
             put(setting, view, pause(node, step), found)?;
         }
     }
@@ -273,13 +279,7 @@ fn is_heard<M: Machine>(
 }
 
 /// Whether a note was sent in a slot.
-fn was_sent<M: Machine>(
-    setting: &Setting<M>,
-    run: &Run<M>,
-    from: u32,
-    to: u32,
-    step: u32,
-) -> bool
+fn was_sent<M: Machine>(setting: &Setting<M>, run: &Run<M>, from: u32, to: u32, step: u32) -> bool
     requires run { IsRun (world_of setting.now) run.now }
     requires from { from < setting.now.spec.nodes }
     requires last { step ≤ setting.now.spec.horizon }

@@ -11,7 +11,8 @@ use Rattle.lf_cone.proofs.delays.cone.Goals as goal
 pub covering-reach-requires-clause-inside : goal.covering-reach-requires-clause-inside
 covering-reach-requires-clause-inside g c =
     let s = c.args.setting.now in
-    inside-up (world_of s) (set_of c.args.run.now) c.args.points.now c.nodes-nodes.result 48 (c.nodes-nodes.ensures.value ∙ sym s.nodes_agree) (omega (arith, c.nodes-nodes.ensures.limits.horizon.1)) c.requires.up
+    inside-up (world_of s) (set_of c.args.run.now) c.args.points.now c.nodes-nodes.result 48 (c.nodes-nodes.ensures.value ∙ sym s.nodes_agree) (omega
+    (arith, c.nodes-nodes.ensures.limits.horizon.1)) c.requires.up
 
 pub loop-back-init : goal.loop-back-init
 loop-back-init g c =
@@ -22,8 +23,10 @@ loop-back-init g c =
     let rests = RestsByLeast c.nodes-nodes.result (least_of s.network.links) in
     let whole : c.horizon-horizon.result ≡ c.horizon-horizon.result - 0 = omega arith in
     subst (λ x. IsSweptTo rests c.nodes-nodes.result c.horizon-horizon.result c.covering-reach.result x c.covering-reach.result) whole
-    (swept_none rests c.nodes-nodes.result c.horizon-horizon.result (λ n t m v h. h.1) (later-least s.network c.nodes-nodes.result c.keeps_limits.ensures few)
-    c.covering-reach.result (start-form c.nodes-nodes.result c.horizon-horizon.result c.args.points.now c.covering-reach.result c.covering-reach.ensures inside))
+    (swept_none rests c.nodes-nodes.result c.horizon-horizon.result (λ n t m v h. h.1)
+    (later-least s.network c.nodes-nodes.result c.keeps_limits.ensures few)
+    c.covering-reach.result (start-form c.nodes-nodes.result c.horizon-horizon.result c.args.points.now c.covering-reach.result c.covering-reach.ensures
+    inside))
 
 pub loop-back-preserved : goal.loop-back-preserved
 loop-back-preserved g c =
@@ -47,7 +50,8 @@ returns-clause-cone g c =
     let rests = RestsByLeast nodes (least_of s.network.links) in
     let few : nodes ≤ 8 = omega (arith, c.nodes-nodes.ensures.value, c.nodes-nodes.ensures.limits.nodes.1) in
     let done : horizon - c.loop-back.back ≡ 0 = omega (arith, c.loop-back-test.false) in
-    let least = swept_all rests nodes horizon (λ n t m v h. h.1) (later-least s.network nodes c.keeps_limits.ensures few) c.covering-reach.result c.loop-back.reach
+    let least = swept_all rests nodes horizon (λ n t m v h. h.1) (later-least s.network nodes c.keeps_limits.ensures few) c.covering-reach.result
+    c.loop-back.reach
     (subst (λ x. IsSweptTo rests nodes horizon c.covering-reach.result x c.loop-back.reach) done c.loop-back.invariant) in
     let is = cone_is nodes horizon (least_of s.network.links) c.args.points.now c.covering-reach.result c.loop-back.reach c.covering-reach.ensures least in
     subst (λ x. IsCone x s.spec.horizon (least_of s.network.links) c.args.points.now c.loop-back.reach) c.nodes-nodes.ensures.value

@@ -18,5 +18,6 @@ loop-to-preserved c =
           (λ n t h. (omega (arith, w.if-step-at.true, c.at.ensures.value), h))
           w.told_to-reach.ensures))
       | else-step-at w ↦
-          rw w.reach-is (raised-pass by to c.args.reach c.loop-to.reach c.loop-to.invariant (λ n t h. omega (arith, h.0, w.if-step-at.false, c.at.ensures.value)))
+          rw w.reach-is (raised-pass by to c.args.reach c.loop-to.reach c.loop-to.invariant (λ n t h. omega
+          (arith, h.0, w.if-step-at.false, c.at.ensures.value)))
     ]

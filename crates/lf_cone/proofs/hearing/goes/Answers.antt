@@ -7,4 +7,5 @@ pub returns-clause-value : goal.returns-clause-value
 returns-clause-value g c =
     let s = c.args.setting.now in
     let node : c.args.node < (world_of s).rules.nodes = omega (arith, c.requires.node, s.nodes_agree) in
-    c.leaves_up.ensures ∙ up-left (world_of s) c.args.effects.now.set c.pause_length.result c.args.node c.args.step node c.requires.first c.requires.step c.pause_length.ensures.value
+    c.leaves_up.ensures ∙ up-left (world_of s) c.args.effects.now.set c.pause_length.result c.args.node c.args.step node c.requires.first c.requires.step
+    c.pause_length.ensures.value

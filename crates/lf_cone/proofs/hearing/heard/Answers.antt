@@ -23,10 +23,11 @@ loop-to-preserved g c =
           (λ n t h. (omega (arith, b.if-step-at.true, c.at.ensures.value), h))
           b.heard_by-reach.ensures))
       | else-step-at b ↦ elim b.else-step-at.branch [
-          | else-step-at-via-then-step-at+else-goes d ↦
-              rw b.reach-is (raised-pass by to c.args.reach c.loop-to.reach c.loop-to.invariant
-              (λ n t h. both_ways (is_up w F to c.args.step) (sym d.goes.ensures.value ∙ d.if-goes.false) h.1.hears))
-          | else-step-at-via-else-step-at d ↦
-              rw b.reach-is (raised-pass by to c.args.reach c.loop-to.reach c.loop-to.invariant (λ n t h. omega (arith, h.0, d.if-step-at.false, c.at.ensures.value)))
-        ]
+        | else-step-at-via-then-step-at+else-goes d ↦
+            rw b.reach-is (raised-pass by to c.args.reach c.loop-to.reach c.loop-to.invariant
+            (λ n t h. both_ways (is_up w F to c.args.step) (sym d.goes.ensures.value ∙ d.if-goes.false) h.1.hears))
+        | else-step-at-via-else-step-at d ↦
+            rw b.reach-is (raised-pass by to c.args.reach c.loop-to.reach c.loop-to.invariant (λ n t h. omega
+            (arith, h.0, d.if-step-at.false, c.at.ensures.value)))
+      ]
     ]

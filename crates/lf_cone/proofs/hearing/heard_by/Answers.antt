@@ -54,25 +54,31 @@ loop-slot-preserved g c =
     let F = c.args.effects.now.set in
     let slots = c.arriving-slot-items.result.now in
     let i = c.loop-slot.slot-index in
-    let known = slot_is w F s.network.nodes c.args.to c.args.step i slots (s.network_agrees ∙ sym s.nodes_agree) c.arriving-slot-items.ensures.members c.loop-slot-test.true in
+    let known = slot_is w F s.network.nodes c.args.to c.args.step i slots (s.network_agrees ∙ sym s.nodes_agree) c.arriving-slot-items.ensures.members
+    c.loop-slot-test.true in
     let slot = get_or slots i (blank w F) in
     let inside : slot.from < length c.loop-slot.reach = omega (arith, known.sender, s.nodes_agree, c.loop-slot.invariant.count, c.requires.count) in
     elim c.if-sends.branch [
       | then-sends b ↦
           let may : MaySend w F slot.from c.args.to slot.sent =
-          subst (λ k. MaySend w F k c.args.to slot.sent) c.from-from.ensures (subst (λ k. MaySend w F c.from-from.result c.args.to k) c.from-sent.ensures (c.sends.ensures.value.0 b.if-sends.true)) in
-          rw b.reach-is (heard_more w F c.args.to c.args.step i slots c.args.reach c.loop-slot.reach b.raised-reach.result c.requires.up known may c.loop-slot.invariant
+          subst (λ k. MaySend w F k c.args.to slot.sent) c.from-from.ensures (subst (λ k. MaySend w F c.from-from.result c.args.to k) c.from-sent.ensures
+          (c.sends.ensures.value.0 b.if-sends.true)) in
+          rw b.reach-is (heard_more w F c.args.to c.args.step i slots c.args.reach c.loop-slot.reach b.raised-reach.result c.requires.up known may
+          c.loop-slot.invariant
           (subst (IsRaised _ c.loop-slot.reach) (sym b.raised-reach.ensures)
           (rw (c.from-from.ensures, c.from-sent.ensures) (raised-one c.loop-slot.reach slot.from slot.sent inside))))
       | else-sends b ↦
           rw b.reach-is (heard_pass w F c.args.to c.args.step i slots c.args.reach c.loop-slot.reach
           (λ may. both_ways c.sends.result b.if-sends.false (c.sends.ensures.value.1
-          (subst (λ k. MaySend w F k c.args.to c.from-sent.result) (sym c.from-from.ensures) (subst (λ k. MaySend w F slot.from c.args.to k) (sym c.from-sent.ensures) may))))
+          (subst (λ k. MaySend w F k c.args.to c.from-sent.result) (sym c.from-from.ensures) (subst (λ k. MaySend w F slot.from c.args.to k)
+          (sym c.from-sent.ensures) may))))
           c.loop-slot.invariant)
     ]
 
 pub returns : goal.returns
 returns g c =
     let s = c.args.setting.now in
-    heard_all (world_of s) c.args.effects.now.set c.arrivals_are_later.ensures s.network.nodes c.args.to c.args.step c.loop-slot.slot-index c.arriving-slot-items.result.now
-    c.args.reach c.loop-slot.reach (s.network_agrees ∙ sym s.nodes_agree) c.arriving-slot-items.ensures.members c.loop-slot-test.false c.loop-slot.auto.slot-index-end c.loop-slot.invariant
+    heard_all (world_of s) c.args.effects.now.set c.arrivals_are_later.ensures s.network.nodes c.args.to c.args.step c.loop-slot.slot-index
+    c.arriving-slot-items.result.now
+    c.args.reach c.loop-slot.reach (s.network_agrees ∙ sym s.nodes_agree) c.arriving-slot-items.ensures.members c.loop-slot-test.false
+    c.loop-slot.auto.slot-index-end c.loop-slot.invariant

@@ -9,8 +9,10 @@ pub returns : goal.returns
 returns g c =
     let s = c.args.setting.now in
     let w = world_of s in
-    let form : IsReachOf s.spec.nodes s.spec.horizon c.args.reach.now = rw (c.nodes.ensures.value, c.horizon.ensures.value) at (c.has_form.ensures.0 c.if-not-has_form.false) in
+    let form : IsReachOf s.spec.nodes s.spec.horizon c.args.reach.now = rw (c.nodes.ensures.value, c.horizon.ensures.value) at
+    (c.has_form.ensures.0 c.if-not-has_form.false) in
     let least : IsLeastFrom (CanHear w (set_of c.args.run.now)) s.spec.nodes s.spec.horizon c.args.reach.now c.swept-least.result =
-    subst (λ F. IsLeastFrom (CanHear w F) s.spec.nodes s.spec.horizon c.args.reach.now c.swept-least.result) (c.new.ensures ∙ c.set.ensures) c.swept-least.ensures in
+    subst (λ F. IsLeastFrom (CanHear w F) s.spec.nodes s.spec.horizon c.args.reach.now c.swept-least.result)
+    (c.new.ensures ∙ c.set.ensures) c.swept-least.ensures in
     let iff = closed-least w (set_of c.args.run.now) s.spec.nodes c.args.reach.now c.swept-least.result (sym s.nodes_agree) form least in
     (λ h. iff.0 (c.are_same.ensures.0 h), λ h. c.are_same.ensures.1 (iff.1 h))

@@ -16,7 +16,8 @@ loop-back-preserved g c =
     let rests = CanHear w F in
     let u = horizon - (c.loop-back.back + 1) in
     let here : horizon - c.loop-back.back ≡ suc u = omega (arith, c.loop-back-test.true) in
-    swept_more rests nodes horizon (λ n t m v h. omega (arith, hearer w F n t m v h, c.nodes-nodes.ensures.value, s.nodes_agree)) (heard-later w F c.arrivals_are_later.ensures)
+    swept_more rests nodes horizon (λ n t m v h. omega (arith, hearer w F n t m v h, c.nodes-nodes.ensures.value, s.nodes_agree))
+    (heard-later w F c.arrivals_are_later.ensures)
     c.args.start u c.loop-back.reach c.heard-reach.result (omega (arith, here))
     (subst (λ x. IsSweptTo rests nodes horizon c.args.start x c.loop-back.reach) here c.loop-back.invariant)
     (subst (λ x. IsRaised (SomeBelow (RestsAt rests c.loop-back.reach x) nodes) c.loop-back.reach c.heard-reach.result) here c.heard-reach.ensures)
@@ -30,7 +31,8 @@ returns g c =
     let horizon = c.horizon-horizon.result in
     let rests = CanHear w F in
     let done : horizon - c.loop-back.back ≡ 0 = omega (arith, c.loop-back-test.false) in
-    let least = swept_all rests nodes horizon (λ n t m v h. omega (arith, hearer w F n t m v h, c.nodes-nodes.ensures.value, s.nodes_agree)) (heard-later w F c.arrivals_are_later.ensures)
+    let least = swept_all rests nodes horizon (λ n t m v h. omega (arith, hearer w F n t m v h, c.nodes-nodes.ensures.value, s.nodes_agree))
+    (heard-later w F c.arrivals_are_later.ensures)
     c.args.start c.loop-back.reach (subst (λ x. IsSweptTo rests nodes horizon c.args.start x c.loop-back.reach) done c.loop-back.invariant) in
     subst (λ x. IsLeastFrom rests x s.spec.horizon c.args.start c.loop-back.reach) c.nodes-nodes.ensures.value
     (subst (λ x. IsLeastFrom rests nodes x c.args.start c.loop-back.reach) c.horizon-horizon.ensures.value least)

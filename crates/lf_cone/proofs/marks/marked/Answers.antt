@@ -15,9 +15,12 @@ loop-fault-preserved c =
     let below : place_of g < length c.loop-fault.places = omega (arith, c.place.ensures.value, c.place.ensures.below, c.loop-fault.invariant.long) in
     record {
       long = length-set c.loop-fault.places c.place.result true ∙ c.loop-fault.invariant.long;
-      marks = subst (λ k. AreMarks (take (c.loop-fault.fault-index + 1) c.args.faults.now) (slice_set c.loop-fault.places k true)) (sym c.place.ensures.value)
-          (marks-more c.args.faults.now c.loop-fault.fault-index c.loop-fault.places g c.loop-fault-test.true c.fault-item.is c.place.ensures.in_range below c.loop-fault.invariant.marks);
+      marks = subst (λ k. AreMarks (take (c.loop-fault.fault-index + 1) c.args.faults.now) (slice_set c.loop-fault.places k true))
+          (sym c.place.ensures.value)
+          (marks-more c.args.faults.now c.loop-fault.fault-index c.loop-fault.places g c.loop-fault-test.true c.fault-item.is c.place.ensures.in_range
+          below c.loop-fault.invariant.marks);
     }
 
 pub returns : goal.returns
-returns c = subst (λ xs. AreMarks xs c.loop-fault.places) (take_all c.loop-fault.fault-index c.args.faults.now c.loop-fault-test.false) c.loop-fault.invariant.marks
+returns c = subst (λ xs. AreMarks xs c.loop-fault.places) (take_all c.loop-fault.fault-index c.args.faults.now c.loop-fault-test.false)
+    c.loop-fault.invariant.marks

@@ -6,7 +6,8 @@ use Rattle.std.specs.Prelude.{IsSome}
 use Rattle.lf_sim.specs.Settings.{world_of, set_of}
 use Rattle.lf_sim.proofs.Laws.{IsRunning-up}
 use Rattle.lf_cone.proofs.required.is_heard.Goals as goal
-use Rattle.lf_cone.proofs.required.is_heard.Goals.{then-at-arrival-via-then-at-arrival, then-at-arrival-via-else-at-arrival+then-horizon-arrival, then-not-was_sent-via-then-not-was_sent, then-not-was_sent-via-else-not-was_sent+then-omits}
+use Rattle.lf_cone.proofs.required.is_heard.Goals.{then-at-arrival-via-then-at-arrival, then-at-arrival-via-else-at-arrival+then-horizon-arrival}
+use Rattle.lf_cone.proofs.required.is_heard.Goals.{then-not-was_sent-via-then-not-was_sent, then-not-was_sent-via-else-not-was_sent+then-omits}
 
 pub returns-then-at-arrival : goal.returns-then-at-arrival
 returns-then-at-arrival g c =
@@ -14,13 +15,13 @@ returns-then-at-arrival g c =
     let F = c.args.view.now.effects.set in (
       λ h. absurd (false≢true h),
       λ s.
-        let can = s.1.2 in
-        let here : c.arrival-arrival.result ≡ s.1.0 = c.arrival-arrival.ensures.value ∙ can.arrives in
-        elim c.then-at-arrival.branch [
-          | then-at-arrival-via-then-at-arrival b ↦ absurd (omega (arith, b.if-at-arrival.true, c.at.ensures.value, here, s.1.1))
-          | then-at-arrival-via-else-at-arrival+then-horizon-arrival b ↦
-              absurd (omega (arith, b.if-horizon-arrival.true, b.horizon.ensures.value, here, (IsRunning-up w F c.args.to s.1.0 can.hears).last))
-        ],
+          let can = s.1.2 in
+          let here : c.arrival-arrival.result ≡ s.1.0 = c.arrival-arrival.ensures.value ∙ can.arrives in
+          elim c.then-at-arrival.branch [
+            | then-at-arrival-via-then-at-arrival b ↦ absurd (omega (arith, b.if-at-arrival.true, c.at.ensures.value, here, s.1.1))
+            | then-at-arrival-via-else-at-arrival+then-horizon-arrival b ↦
+                absurd (omega (arith, b.if-horizon-arrival.true, b.horizon.ensures.value, here, (IsRunning-up w F c.args.to s.1.0 can.hears).last))
+          ],
     )
 
 pub returns-then-not-was_sent : goal.returns-then-not-was_sent
@@ -29,7 +30,8 @@ returns-then-not-was_sent g c =
       λ h. absurd (false≢true h),
       λ s. elim c.then-not-was_sent.branch [
         | then-not-was_sent-via-then-not-was_sent b ↦
-            absurd (both_ways c.was_sent.result b.if-not-was_sent.true (c.was_sent.ensures.1 (subst (λ F. IsSome (sent w F c.args.from c.args.to c.args.step)) c.requires.set s.0)))
+            absurd (both_ways c.was_sent.result b.if-not-was_sent.true (c.was_sent.ensures.1 (subst (λ F. IsSome
+            (sent w F c.args.from c.args.to c.args.step)) c.requires.set s.0)))
         | then-not-was_sent-via-else-not-was_sent+then-omits b ↦
             absurd (both_ways (set_omits c.args.view.now.effects.set c.args.from c.args.to c.args.step) s.1.2.kept (sym b.omits.ensures ∙ b.if-omits.true))
       ],

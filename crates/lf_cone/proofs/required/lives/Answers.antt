@@ -9,6 +9,16 @@ returns g c =
     let s = c.args.setting.now in (
       λ h. absurd (false≢true h),
       λ h.
-        let r = IsRunning-up (world_of s) c.args.view.now.effects.set c.args.node h.0 h.3.0 in
-        absurd (c.loop-step.invariant h.0 h.1 (omega (arith, h.2, h.3.1, r.last, c.at.ensures.value, c.horizon.ensures.value, c.min.ensures, c.min-end.ensures, c.loop-step-test.false)) h.3.0),
+          let r = IsRunning-up (world_of s) c.args.view.now.effects.set c.args.node h.0 h.3.0 in
+          absurd (c.loop-step.invariant h.0 h.1 (omega (
+            arith,
+            h.2,
+            h.3.1,
+            r.last,
+            c.at.ensures.value,
+            c.horizon.ensures.value,
+            c.min.ensures,
+            c.min-end.ensures,
+            c.loop-step-test.false,
+          )) h.3.0),
     )

@@ -11,7 +11,8 @@ returns-then-not-admits g c =
     let w = world_of s in
     subst (AreRequired w (set_of c.args.run.now) s.spec c.args.reach.now c.args.excluded.now) (sym c.clear.ensures.items)
     (subst (λ F. AreRequired w F s.spec c.args.reach.now c.args.excluded.now []) c.set-set.ensures
-    (none_allowed w c.set-set.result s.spec c.args.reach.now c.args.excluded.now c.budget.ensures.limits c.len.ensures.ascending (iff_false c.admits.ensures c.if-not-admits.true)))
+    (none_allowed w c.set-set.result s.spec c.args.reach.now c.args.excluded.now c.budget.ensures.limits c.len.ensures.ascending
+    (iff_false c.admits.ensures c.if-not-admits.true)))
 
 pub returns-then-len-budget : goal.returns-then-len-budget
 returns-then-len-budget g c =
@@ -19,7 +20,8 @@ returns-then-len-budget g c =
     let w = world_of s in
     subst (AreRequired w (set_of c.args.run.now) s.spec c.args.reach.now c.args.excluded.now) (sym c.clear.ensures.items)
     (subst (λ F. AreRequired w F s.spec c.args.reach.now c.args.excluded.now []) c.set-set.ensures
-    (none_left w c.set-set.result s.spec c.args.reach.now c.args.excluded.now c.budget.ensures.limits (omega (arith, c.if-len-budget.true, c.len.ensures.value, c.budget.ensures.value))))
+    (none_left w c.set-set.result s.spec c.args.reach.now c.args.excluded.now c.budget.ensures.limits (omega
+    (arith, c.if-len-budget.true, c.len.ensures.value, c.budget.ensures.value))))
 
 pub returns : goal.returns
 returns g c =
@@ -29,4 +31,5 @@ returns g c =
     let short : s.spec.horizon ≤ last = omega (arith, c.loop-step-test.false, c.horizon-step-end.ensures.value) in
     subst (λ xs. AreRequired w (set_of c.args.run.now) s.spec c.args.reach.now xs c.loop-step.found.items) c.new-2.ensures.faults
     (subst (λ F. AreRequired w F s.spec c.args.reach.now c.new-2.result.faults.now c.loop-step.found.items) (c.new.ensures ∙ c.set-set.ensures)
-    (end_steps w c.new.result.set s.spec c.args.reach.now c.new-2.result.faults.now c.budget.ensures.limits c.loop-step.found.items last short c.loop-step.invariant))
+    (end_steps w c.new.result.set s.spec c.args.reach.now c.new-2.result.faults.now c.budget.ensures.limits c.loop-step.found.items last short
+    c.loop-step.invariant))

@@ -6,4 +6,5 @@ use Rattle.lf_cone.proofs.required.put_omissions.Given as goal
 
 abbrev pub invariant-loop-from : goal.invariant-loop-from
 invariant-loop-from g l =
-    IsGathered (IsRequired (world_of l.setting) l.view.effects.set l.setting.spec l.view.reach l.view.marks.faults.now) ((l.step - 1) * 80 + l.from * 8) l.found.items
+    IsGathered (IsRequired (world_of l.setting) l.view.effects.set l.setting.spec l.view.reach l.view.marks.faults.now)
+    ((l.step - 1) * 80 + l.from * 8) l.found.items

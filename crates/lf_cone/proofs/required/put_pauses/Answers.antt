@@ -15,7 +15,8 @@ put-requires-clause-supports g c =
     let s = c.args.setting.now in
     let v = c.args.view.now in
     let t = c.args.step in
-    subst (Supports (world_of s) v.effects.set v.reach) (sym c.pause.ensures) (subst (λ k. LivesBetween (world_of s) v.effects.set v.reach c.loop-node.node t (t + k)) c.pause_length.ensures.value (c.lives.ensures.0 c.if-lives.true))
+    subst (Supports (world_of s) v.effects.set v.reach) (sym c.pause.ensures) (subst (λ k. LivesBetween
+    (world_of s) v.effects.set v.reach c.loop-node.node t (t + k)) c.pause_length.ensures.value (c.lives.ensures.0 c.if-lives.true))
 
 pub loop-node-preserved : goal.loop-node-preserved
 loop-node-preserved g c =
@@ -28,11 +29,15 @@ loop-node-preserved g c =
     elim c.if-lives.branch [
       | then-lives+in_ok-put b ↦
           let is : place_of b.pause.result ≡ place_of (Pause n t) = ap place_of b.pause.ensures in
-          rw b.found-is (moved (world_of s) v.effects.set s.spec v.reach v.marks.faults.now limits b.put.new.found.items (place_of b.pause.result + 1) ((t - 1) * 80 + 72 + (n + 1)) (omega (arith, is)) b.in_ok-put.ensures)
+          rw b.found-is (moved (world_of s) v.effects.set s.spec v.reach v.marks.faults.now limits b.put.new.found.items (place_of b.pause.result + 1)
+          ((t - 1) * 80 + 72 + (n + 1)) (omega (arith, is)) b.in_ok-put.ensures)
       | else-lives b ↦
-          rw b.found-is (moved (world_of s) v.effects.set s.spec v.reach v.marks.faults.now limits c.loop-node.found.items ((t - 1) * 80 + 72 + n + 1) ((t - 1) * 80 + 72 + (n + 1)) (omega arith)
-          (skip_pause (world_of s) v.effects.set s.spec v.reach v.marks.faults.now limits c.loop-node.found.items n t c.requires.first node c.loop-node.invariant
-          (λ h. both_ways c.lives.result b.if-lives.false (c.lives.ensures.1 (subst (λ k. LivesBetween (world_of s) v.effects.set v.reach n t (t + k)) (sym c.pause_length.ensures.value) h)))))
+          rw b.found-is (moved (world_of s) v.effects.set s.spec v.reach v.marks.faults.now limits c.loop-node.found.items ((t - 1) * 80 + 72 + n + 1)
+          ((t - 1) * 80 + 72 + (n + 1)) (omega arith)
+          (skip_pause (world_of s) v.effects.set s.spec v.reach v.marks.faults.now limits c.loop-node.found.items n t c.requires.first node
+          c.loop-node.invariant
+          (λ h. both_ways c.lives.result b.if-lives.false (c.lives.ensures.1 (subst (λ k. LivesBetween (world_of s) v.effects.set v.reach n t (t + k))
+          (sym c.pause_length.ensures.value) h)))))
     ]
 
 pub returns : goal.returns
@@ -41,5 +46,6 @@ returns g c =
     let v = c.args.view.now in
     let t = c.args.step in
     let limits = c.nodes-node-end.ensures.limits in
-    end_pauses (world_of s) v.effects.set s.spec v.reach v.marks.faults.now limits c.loop-node.found.items c.loop-node.node t c.requires.first (omega (arith, c.loop-node-test.false, c.nodes-node-end.ensures.value))
+    end_pauses (world_of s) v.effects.set s.spec v.reach v.marks.faults.now limits c.loop-node.found.items c.loop-node.node t c.requires.first (omega
+    (arith, c.loop-node-test.false, c.nodes-node-end.ensures.value))
     (omega (arith, c.loop-node.auto.node-end, c.nodes-node-end.ensures.value, limits.nodes.1)) c.loop-node.invariant

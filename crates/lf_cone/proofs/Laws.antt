@@ -1,0 +1,59 @@
+-- What crates above may build on, in the words of specs/.
+use Rattle.std.proofs.Common.{◌≡◌, ℕ, ◌≤◌, true, List, length, get_or, sym, ◌∙◌, arith}
+use Rattle.std.specs.List.{Contains}
+use Rattle.lf_faults.specs.declared.fault.Parts.{Parts}
+use Rattle.lf_faults.specs.declared.fault.Parts.TheVariants.{Omit, Crash, Pause}
+use Rattle.lf_faults.specs.Faults.{step_of}
+use Rattle.lf_faults.specs.Allowed.{Bounds, IsAdmitted, IsAllowed}
+use Rattle.lf_faults.proofs.Laws.{in_allowed-admitted, same_members}
+use Rattle.lf_sim.specs.Runs.{World, is_up}
+use Rattle.lf_outcome.specs.declared.formula.Formula.{Formula}
+use Rattle.lf_outcome.specs.declared.point.Point.{Point}
+use Rattle.lf_outcome.specs.Truth.{reaches, reaches_within}
+use Rattle.lf_outcome.proofs.Laws.{within-carries, reaches-from_within}
+use Rattle.lf_cone.specs.Cones.{IsClosed, IsOutside, AgreesWithin, IsCone, IsSharp, AreRequired}
+use Rattle.lf_cone.proofs.HearingLemmas.{same-steps}
+use Rattle.lf_cone.proofs.Light as light
+
+starts-late : (b : Bounds) (f : Parts) → IsAdmitted b f → 1 ≤ step_of f
+starts-late b (Omit n m t) h = h.3
+starts-late b (Crash n t) h = h.1
+starts-late b (Pause n t) h = h.1
+
+module _ {State Note Fact : Type 0} (w : World State Note Fact) (b : Bounds) (faults wider : List Parts) (reach : List ℕ)
+    (lasts : 1 ≤ w.pause_length) (closed : IsClosed w faults reach) (allowed : IsAllowed b wider) (outside : IsOutside w faults reach wider) where
+  late : light.StartsLate wider
+  late f c = starts-late b f (in_allowed-admitted b wider f allowed c)
+
+  -- within a closed reach the run of a wider set that adds nothing of the support is the same
+  pub agrees : AgreesWithin w faults reach wider
+  agrees = light.agrees w faults reach wider lasts closed outside late
+
+  -- so an outcome that is true within the reach is true in the wider set's run
+  pub still_reaches : (formula : Formula Fact) → reaches_within w faults reach formula ≡ true → reaches w wider formula ≡ true
+  still_reaches formula h =
+      reaches-from_within w wider reach formula
+      (within-carries w faults wider reach (light.stays_up_only w faults reach wider lasts closed outside late) (λ n t near up. agrees n t
+      (up, near)) formula h)
+
+-- there is at most one cone, one sharp reach, one list of required edges
+pub cone_one : (nodes horizon : ℕ) (least : ℕ → ℕ → ℕ) (points : List Point) (x y : List ℕ) → IsCone nodes horizon least points x
+    → IsCone nodes horizon least points y → x ≡ y
+cone_one nodes horizon least points x y h k =
+    same-steps x y (h.form.count ∙ sym k.form.count) (λ n.
+    let low : get_or x n 0 ≤ get_or y n 0 = h.smallest y k.form k.keeps k.covers n in
+    let high : get_or y n 0 ≤ get_or x n 0 = k.smallest x h.form h.keeps h.covers n in
+    omega arith)
+
+module _ {State Note Fact : Type 0} (w : World State Note Fact) (faults : List Parts) where
+  pub sharp_one : (points : List Point) (x y : List ℕ) → IsSharp w faults points x → IsSharp w faults points y → x ≡ y
+  sharp_one points x y h k =
+      same-steps x y (h.closed.form.count ∙ sym k.closed.form.count) (λ n.
+      let low : get_or x n 0 ≤ get_or y n 0 = h.smallest y k.closed k.covers n in
+      let high : get_or y n 0 ≤ get_or x n 0 = k.smallest x h.closed h.covers n in
+      omega arith)
+
+  pub required_one : (b : Bounds) (reach : List ℕ) (excluded xs ys : List Parts) → AreRequired w faults b reach excluded xs
+      → AreRequired w faults b reach excluded ys → xs ≡ ys
+  required_one b reach excluded xs ys h k =
+      same_members xs ys h.ascending k.ascending (λ f c. (k.each f).1 ((h.each f).0 c)) (λ f c. (h.each f).1 ((k.each f).0 c))
