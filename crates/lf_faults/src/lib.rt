@@ -17,7 +17,7 @@ pub use facts::{first_set_is_one, orders_are_total, subsets_are_allowed, walks_e
 pub use fault::{Fault, Parts};
 pub use order::next_set;
 pub use set::FaultSet;
-pub use spec::FaultSpec;
+pub use spec::{Bounds, FaultSpec};
 pub use text::{fault_text, read_fault};
 
 #[cfg(test)]

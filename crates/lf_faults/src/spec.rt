@@ -11,16 +11,23 @@ use std::marker::Model;
 /// The longest pause, in steps.
 const LONGEST_PAUSE: u32 = 8;
 
-/// The numbers of the bounds.
+/// The numbers of bounds, by which contracts see a `FaultSpec`.
 #[derive(Clone, Copy, Debug, PartialEq, Eq)]
-struct Bounds {
-    nodes: u32,
-    horizon: u32,
-    last_omission: u32,
-    crashes: u32,
-    budget: u32,
-    pauses: u32,
-    pause_length: u32,
+pub struct Bounds {
+    /// How many nodes there are.
+    pub nodes: u32,
+    /// The last step.
+    pub horizon: u32,
+    /// The last step at which a note may be omitted, 0 for none.
+    pub last_omission: u32,
+    /// The most crashes in a set.
+    pub crashes: u32,
+    /// The most faults in a set.
+    pub budget: u32,
+    /// The most pauses in a set.
+    pub pauses: u32,
+    /// How many steps a pause takes.
+    pub pause_length: u32,
 }
 
 /// How many nodes and steps there are, and what bounds the faults.
@@ -94,6 +101,14 @@ impl FaultSpec {
         } else {
             None
         }
+    }
+
+    /// The numbers, each in the range that its reader names.
+    pub fn bounds(&self) -> Bounds
+        ensures value { result ≡ self.now }
+        ensures limits { IsInLimits self.now }
+    {
+        self.bounds
     }
 
     /// How many nodes there are, 2..=8.
