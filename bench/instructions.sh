@@ -7,9 +7,10 @@ set -euo pipefail
 cd "$(dirname "$0")/../crates/bench_runs"
 rt run -- 1 run_reusing 0 >/dev/null
 
-# the instructions of COUNT runs, in MODE (run or run_reusing), under sets of FAULTS faults
+# the instructions of COUNT runs, in MODE (run, run_reusing or edges), under sets of FAULTS faults, with EXCLUDED faults
+# excluded from the edges
 count() {
-    valgrind --tool=callgrind --callgrind-out-file=/dev/null out/bench_runs "$1" "$2" "$3" 2>&1 | awk '/Collected/ { print $NF }'
+    valgrind --tool=callgrind --callgrind-out-file=/dev/null out/bench_runs "$1" "$2" "$3" "${4:-0}" 2>&1 | awk '/Collected/ { print $NF }'
 }
 
 few=20
@@ -21,4 +22,12 @@ for mode in run_reusing run; do
         more=$(count "$many" "$mode" "$faults")
         echo "$mode, sets of $faults faults: $(((more - less) / points)) instructions a point"
     done
+done
+
+# what the sharp reach of one node's end and the edges within it take besides the run, for each slot of the horizon
+slots=$((8 * 7 * 48 * (many - few)))
+for excluded in 0 2000; do
+    run=$(($(count "$many" run_reusing 2) - $(count "$few" run_reusing 2)))
+    whole=$(($(count "$many" edges 2 "$excluded") - $(count "$few" edges 2 "$excluded")))
+    echo "sharp reach and edges, $excluded faults excluded: $(((whole - run) / slots)) instructions a slot"
 done

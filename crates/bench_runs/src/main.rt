@@ -1,15 +1,20 @@
 //! Runs a machine that sends to all at every step, as often as it is told, and prints a sum of what it finds:
 //!
-//!     bench_runs COUNT run|run_reusing FAULTS
+//!     bench_runs COUNT run|run_reusing|edges FAULTS EXCLUDED
 //!
-//! `run_reusing` gives one run's memory to the next. FAULTS is how many faults each set has, 0 to 6.
+//! `run_reusing` gives one run's memory to the next, and `edges` then looks for the sharp reach of what node 0 ends with
+//! and for the edges within it. FAULTS is how many faults each set has, 0 to 6, and EXCLUDED how many omissions are
+//! excluded from the edges, none where the word is missing.
 #![tactic(auto)]
 
 ghost use Rattle.std.specs.Prelude.{◌≡◌};
+ghost use Rattle.lf_sim.specs.Settings.{IsRun, world_of};
 ghost use Rattle.bench_runs.specs.Chatter.{heard};
 
+use lf_cone::{put_edges, sharp};
 use lf_faults::{Fault, FaultSet, FaultSpec};
 use lf_latency::{Links, Network};
+use lf_outcome::Point;
 use lf_sim::{Letter, Machine, Out, Run, Setting, Stepped, run, run_reusing};
 use std::alloc::{AllocError, Global};
 use std::env;
@@ -108,23 +113,85 @@ fn weigh(found: &Run<Chatter>) -> u32 {
     weight
 }
 
+/// What is measured.
+#[derive(Clone, Copy, Debug, PartialEq, Eq)]
+enum Mode {
+    Run,
+    RunReusing,
+    Edges,
+}
+
+/// How many edges there are within the sharp reach of what node 0 ends with, and how far that reach goes in all.
+fn edges_of<M: Machine>(
+    setting: &Setting<M>,
+    found: &Run<M>,
+    excluded: &[Fault],
+    edges: &mut Vec<Fault>,
+) -> Result<u32, AllocError>
+    requires { IsRun (world_of setting.now) found.now }
+{
+    let end = setting.spec.horizon();
+    if !found.up(0, end) {
+        return Ok(0);
+    }
+    let reach = sharp(setting, found, &[Point { node: 0, step: end }]);
+    put_edges(setting, found, &reach, excluded, edges)?;
+    let mut weight = edges.len() as u32 & 0xffff;
+    for step in reach.items() {
+        weight = weight.wrapping_add(u32::from(*step));
+    }
+    Ok(weight)
+}
+
+/// So many omissions, from step 1 on.
+fn omissions(alloc: Global, count: u32) -> Result<Vec<Fault>, AllocError> {
+    let mut faults = Vec::new(alloc);
+    for number in 0..count {
+        let (from, to) = (number % 8, number / 8 % 8);
+        if let Some(fault) = Fault::omit(from, to, number / 64 + 1) {
+            faults.push(fault)?;
+        }
+    }
+    Ok(faults)
+}
+
 /// The sum over so many runs.
-fn runs(alloc: Global, count: u32, again: bool, faults: u32) -> Result<u32, AllocError> {
+fn runs(
+    alloc: Global,
+    count: u32,
+    mode: Mode,
+    faults: u32,
+    excluded: u32,
+) -> Result<u32, AllocError> {
     let Some(setting) = setting() else {
         return Ok(0);
     };
+    let excluded = omissions(alloc, excluded)?;
+    let mut edges = Vec::new(alloc);
     let mut spent = run(alloc, &setting, &FaultSet::empty())?;
     let mut total = 0u32;
     for number in 0..count {
         let set = set_of(number, faults);
-        spent = if again {
-            run_reusing(&setting, &set, spent)
-        } else {
-            run(alloc, &setting, &set)?
+        spent = match mode {
+            Mode::Run => run(alloc, &setting, &set)?,
+            Mode::RunReusing | Mode::Edges => run_reusing(&setting, &set, spent),
         };
         total = total.wrapping_add(weigh(&spent));
+        if mode == Mode::Edges {
+            let weight = edges_of(&setting, &spent, excluded.as_slice(), &mut edges)?;
+            total = total.wrapping_add(weight);
+        }
     }
     Ok(total)
+}
+
+/// The mode that a word names.
+fn mode_named(word: Option<String>) -> Mode {
+    match word {
+        Some(word) if word.as_str() == "edges" => Mode::Edges,
+        Some(word) if word.as_str() == "run_reusing" => Mode::RunReusing,
+        _ => Mode::Run,
+    }
 }
 
 fn main(rt: HostRuntime) -> ExitCode {
@@ -133,12 +200,10 @@ fn main(rt: HostRuntime) -> ExitCode {
     };
     let _program = words.next();
     let count = number(words.next());
-    let again = match words.next() {
-        Some(word) => word.as_str() == "run_reusing",
-        None => false,
-    };
+    let mode = mode_named(words.next());
     let faults = number(words.next());
-    match runs(rt.alloc(), count, again, faults) {
+    let excluded = number(words.next());
+    match runs(rt.alloc(), count, mode, faults, excluded) {
         Ok(total) => {
             let _printed = println!(rt; "{total}").is_ok();
             ExitCode::SUCCESS
