@@ -136,7 +136,7 @@ fn edges_of<M: Machine>(
     }
     let reach = sharp(setting, found, &[Point { node: 0, step: end }]);
     put_edges(setting, found, &reach, excluded, edges)?;
-    let mut weight = edges.len() as u32 & 0xffff;
+    let mut weight = (edges.len() % 65_536) as u32;
     for step in reach.items() {
         weight = weight.wrapping_add(u32::from(*step));
     }
