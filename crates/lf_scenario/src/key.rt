@@ -87,10 +87,16 @@ impl Key {
             Key::Tries | Key::Patience => "a whole number from 1 to 48",
             Key::Votes => "a list of truth values, one for each of the nodes from 1 on",
             Key::Outcome => {
-                "a text: \"delivered\" for retry and redundant, \"agreement\" or \"unblocked\" for two_phase and three_phase, \"one_primary\" or \"durable\" for primary_backup, or a formula as a list"
+                concat!(
+                    "a text: \"delivered\" for retry and redundant, \"agreement\" or \"unblocked\" for two_phase and three_phase, ",
+                    "\"one_primary\" or \"durable\" for primary_backup, or a formula as a list",
+                )
             }
             Key::Links => {
-                "a list of tables, each with two different nodes `from` and `to`, a pair that no earlier table has, and with `least` from 1 to 16 and `spread` from 0 to 15 where they are its own"
+                concat!(
+                    "a list of tables, each with two different nodes `from` and `to`, a pair that no earlier table has, ",
+                    "and with `least` from 1 to 16 and `spread` from 0 to 15 where they are its own",
+                )
             }
         }
     }

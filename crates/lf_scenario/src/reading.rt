@@ -1,6 +1,7 @@
 //! The reading of a table.
 
 ghost use Rattle.std.specs.Prelude.{◌≡◌, ◌<◌, ◌≤◌, IfOk};
+ghost use Rattle.lf_faults.specs.Allowed.{without_pauses};
 ghost use Rattle.lf_protocols.specs.Limits.{IsWithinLimits};
 ghost use Rattle.lf_protocols.specs.Protocols.{nodes_of};
 ghost use Rattle.toml.specs.View.{view, table_view};
@@ -64,7 +65,7 @@ fn without_pauses(
     requires last_omission { last_omission < horizon }
     requires crashes { crashes ≤ nodes }
     requires budget { budget ≤ 6 }
-    ensures { result ≡ record { nodes = nodes; horizon = horizon; last_omission = last_omission; crashes = crashes; budget = budget; pauses = 0; pause_length = 1 } }
+    ensures { result ≡ without_pauses nodes horizon last_omission crashes budget }
 {
     FaultSpec::new(nodes, horizon, last_omission, crashes, budget).unwrap()
 }

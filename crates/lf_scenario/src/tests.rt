@@ -67,7 +67,11 @@ fn optional_keys_are_read(rt: HostRuntime) -> Result<(), Fail> {
         rt.alloc(),
         5,
         "protocol = \"redundant\"",
-        "pauses = 2\npause_length = 8\nmax_sets = 1_0\nleast = 0x2\nspread = +3\nseed = \"000102030405060708090a0b0c0d0e0f101112131415161718191a1b1c1d1E1F\"\nlinks = [{from = 0, to = 2, least = 4}, {to = 0, from = 2, spread = 0}]\n",
+        concat!(
+            "pauses = 2\npause_length = 8\nmax_sets = 1_0\nleast = 0x2\nspread = +3\n",
+            "seed = \"000102030405060708090a0b0c0d0e0f101112131415161718191a1b1c1d1E1F\"\n",
+            "links = [{from = 0, to = 2, least = 4}, {to = 0, from = 2, spread = 0}]\n",
+        ),
     )?;
     let scenario = read(rt.alloc(), text.as_bytes())?;
     assert_eq!(rt;
@@ -313,9 +317,12 @@ fn numbers_are_those_of_toml(rt: HostRuntime) -> Result<(), Fail> {
 
 #[test]
 fn late_notes_of_a_seed(rt: HostRuntime) -> Result<(), Fail> {
-    let text =
-        b"nodes = 2\nhorizon = 3\nlast_omission = 2\ncrashes = 0\nbudget = 1\nspread = 3\nseed = \"0000000000000000000000000000000000000000000000000000000000000000\"\nprotocol = \"retry\"\ntries = 2\noutcome = \"delivered\"\n";
-    let scenario = read(rt.alloc(), text)?;
+    let text = concat!(
+        "nodes = 2\nhorizon = 3\nlast_omission = 2\ncrashes = 0\nbudget = 1\nspread = 3\n",
+        "seed = \"0000000000000000000000000000000000000000000000000000000000000000\"\n",
+        "protocol = \"retry\"\ntries = 2\noutcome = \"delivered\"\n",
+    );
+    let scenario = read(rt.alloc(), text.as_bytes())?;
     let network = scenario.setting().network;
     assert_eq!(rt; network.nodes(), 2);
     assert_eq!(rt; network.horizon(), 3);
@@ -689,7 +696,10 @@ fn refusals_are_told_in_words(rt: HostRuntime) -> Result<(), Fail> {
         ),
         (
             ScenarioError::Missing(Key::Protocol),
-            "the key `protocol` is missing: it takes a text: \"retry\", \"redundant\", \"two_phase\", \"three_phase\", or with at least three nodes \"primary_backup\"",
+            concat!(
+                "the key `protocol` is missing: it takes a text: \"retry\", \"redundant\", \"two_phase\", \"three_phase\", ",
+                "or with at least three nodes \"primary_backup\"",
+            ),
         ),
         (ScenarioError::NoDocument, "the text is not TOML"),
     ] {
