@@ -1,5 +1,6 @@
 //! Reaches and edges of small scenarios, worked by hand.
 
+mod law;
 mod plainly;
 
 ghost use Rattle.std.specs.Prelude.{◌≤◌};
