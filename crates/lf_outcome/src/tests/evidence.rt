@@ -1,5 +1,7 @@
 //! Evidence, and truth within a reach.
 
+ghost use Rattle.lf_sim.specs.Settings.{IsRun, world_of};
+
 use crate::{Formula, Reach, evidence, holds, holds_within};
 use lf_faults::{FaultSet, FaultSpec};
 use lf_latency::{Links, Network};
@@ -29,19 +31,24 @@ fn two(alloc: Global, parts: [Formula<Fact>; 2]) -> Result<Listed<Formula<Fact>>
 fn check(
     rt: &impl Abort,
     alloc: Global,
+    setting: &Setting<Protocol>,
     run: &Run<Protocol>,
     formula: &Formula<Fact>,
     points: &[(u32, u32)],
-) -> Result<(), Fail> {
-    let setting = three_nodes().ok_or("setting")?;
-    let found = evidence(alloc, &setting, formula, run)?.ok_or("evidence")?;
+) -> Result<(), Fail>
+    requires { IsRun (world_of setting.now) run.now }
+{
+    let found = evidence(alloc, setting, formula, run)?.ok_or("evidence")?;
     assert_eq!(rt; found.len(), points.len());
-    let mut reach = Reach::none(3);
+    let mut steps = [0; 3];
     for (point, (node, step)) in found.iter().zip(points) {
         assert_eq!(rt; (point.node, point.step), (*node, *step));
-        reach = reach.raised(*node, *step);
+        if let Some(last) = steps.get_mut(*node as usize) {
+            *last = (*last).max(*step);
+        }
     }
-    assert!(rt; holds_within(&setting, formula, run, &reach));
+    let reach = Reach::new(&steps).ok_or("reach")?;
+    assert!(rt; holds_within(setting, formula, run, &reach));
     Ok(())
 }
 
@@ -57,6 +64,7 @@ fn evidence_has_the_points_of_the_first_true_parts(rt: HostRuntime) -> Result<()
     check(
         &rt,
         alloc,
+        &setting,
         &run,
         &all([either, shows(0, 1, Fact::Has)])?,
         &[(1, 2), (0, 1)],
@@ -66,6 +74,7 @@ fn evidence_has_the_points_of_the_first_true_parts(rt: HostRuntime) -> Result<()
     check(
         &rt,
         alloc,
+        &setting,
         &run,
         &all([first, shows(2, 3, Fact::Has)])?,
         &[(2, 3), (2, 3)],
@@ -75,6 +84,7 @@ fn evidence_has_the_points_of_the_first_true_parts(rt: HostRuntime) -> Result<()
     check(
         &rt,
         alloc,
+        &setting,
         &run,
         &any([nothing, shows(0, 1, Fact::Has)])?,
         &[],
@@ -82,6 +92,7 @@ fn evidence_has_the_points_of_the_first_true_parts(rt: HostRuntime) -> Result<()
     check(
         &rt,
         alloc,
+        &setting,
         &run,
         &all([Formula::Down { node: 0, step: 5 }, shows(0, 4, Fact::Has)])?,
         &[(0, 4)],
