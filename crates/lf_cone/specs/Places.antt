@@ -28,9 +28,10 @@ pub record IsGathered (P : Parts → Type 0) (place : ℕ) (faults : List Parts)
 abbrev pub AreMarks : List Parts → List Bool → Type 0
 AreMarks faults places = (f : Parts) → IsFault f → ((slice_index_or places (place_of f) false ≡ true) ↔ Contains faults f)
 
--- the fault may be added, and isn't excluded
-abbrev pub MayTry : Bounds → List Parts → List Parts → Parts → Type 0
-MayTry b faults excluded f = (¬ Contains excluded f) × CanAdd b faults f
+-- by node, whether a crash of it may be added, and whether a pause may
+pub record IsRoom (b : Bounds) (faults : List Parts) (crashes pauses : List Bool) : Type 0 where
+  pub crash : (n : ℕ) → n < b.nodes → ((slice_index_or crashes n false ≡ true) ↔ CanAdd b faults (Crash n 1))
+  pub pause : (n : ℕ) → n < b.nodes → ((slice_index_or pauses n false ≡ true) ↔ CanAdd b faults (Pause n 1))
 
 -- n is up at a step within the reach, from one step on and before another
 abbrev pub LivesBetween : {State Note Fact : Type 0} → World State Note Fact → List Parts → List ℕ → ℕ → ℕ → ℕ → Type 0

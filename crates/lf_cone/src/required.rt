@@ -1,27 +1,30 @@
 //! The faults that are to be tried.
 
-ghost use Rattle.std.specs.Prelude.{◌≡◌, ◌≢◌, ℕ, ◌+◌, ◌-◌, ◌*◌, ◌<◌, ◌≤◌, ◌↔◌, true, IsTrue, IsSome, IfOk, OnOk};
+ghost use Rattle.std.specs.Prelude.{◌≡◌, ◌≢◌, ℕ, ◌+◌, ◌-◌, ◌*◌, ◌<◌, ◌≤◌, ◌↔◌, true, IsTrue, IsSome, IfOk, OnOk, length};
 ghost use Rattle.lf_faults.specs.declared.fault.Parts.TheVariants.{Omit, Crash, Pause};
 ghost use Rattle.lf_faults.specs.Faults.{IsFault};
-ghost use Rattle.lf_faults.specs.Allowed.{IsInLimits, IsAllowed};
+ghost use Rattle.lf_faults.specs.Allowed.{IsAllowed};
 ghost use Rattle.lf_sim.specs.Runs.{is_up, sent};
 ghost use Rattle.lf_sim.specs.Settings.{world_of, set_of, IsRun};
 ghost use Rattle.lf_cone.specs.Cones.{IsRequired, AreRequired, Supports};
-ghost use Rattle.lf_cone.specs.Places.{place_of, IsGathered, AreMarks, MayTry, LivesBetween};
+ghost use Rattle.lf_cone.specs.Places.{IsGathered, AreMarks, IsRoom, LivesBetween};
 
 use crate::hearing::goes;
 use crate::marks::Marks;
-use lf_faults::{Fault, admits, fits};
+use crate::room::{Room, room_in};
+use lf_faults::{Fault, admits};
 use lf_outcome::Reach;
 use lf_sim::{Effects, Machine, Run, Setting};
 use std::alloc::{AllocError, Global};
 
-/// What the support is looked up in: what the set does, the reach, and which faults are excluded.
+/// What the required edges are looked up in: what the set does, the reach, which faults are excluded, and at which nodes
+/// the bounds leave room for a crash or a pause.
 #[derive(Drop)]
 struct View<'a> {
     effects: Effects,
     reach: Reach,
     marks: Marks<'a>,
+    room: Room,
 }
 
 /// The required edges of a run within a reach: of the faults that could change what is within it, ascending, those that
@@ -68,6 +71,7 @@ pub fn put_edges<M: Machine>(
         effects: Effects::new(&set),
         reach: *reach,
         marks: Marks::new(excluded),
+        room: room_in(&setting.spec, &set),
     };
     for step in 1..setting.spec.horizon() + 1 {
         put_omissions(setting, run, &view, step, found)?;
@@ -89,6 +93,7 @@ fn put_omissions<M: Machine>(
     requires set { view.now.effects.set ≡ set_of run.now }
     requires marks { AreMarks view.now.marks.faults.now view.now.marks.places }
     requires allowed { IsAllowed setting.now.spec view.now.effects.set }
+    requires few { length view.now.effects.set < setting.now.spec.budget }
     requires first { 1 ≤ step }
     requires last { step ≤ setting.now.spec.horizon }
     requires so_far { IsGathered (IsRequired (world_of setting.now) view.now.effects.set setting.now.spec
@@ -120,9 +125,10 @@ fn put_omissions_of<M: Machine>(
     requires set { view.now.effects.set ≡ set_of run.now }
     requires marks { AreMarks view.now.marks.faults.now view.now.marks.places }
     requires allowed { IsAllowed setting.now.spec view.now.effects.set }
+    requires few { length view.now.effects.set < setting.now.spec.budget }
     requires from { from < setting.now.spec.nodes }
     requires first { 1 ≤ step }
-    requires last { step ≤ setting.now.spec.horizon }
+    requires last { step ≤ setting.now.spec.last_omission }
     requires up { is_up (world_of setting.now) view.now.effects.set from step ≡ true }
     requires so_far { IsGathered (IsRequired (world_of setting.now) view.now.effects.set setting.now.spec
         view.now.reach view.now.marks.faults.now) ((step - 1) * 80 + from * 8) found.old.items }
@@ -130,8 +136,8 @@ fn put_omissions_of<M: Machine>(
         view.now.reach view.now.marks.faults.now) ((step - 1) * 80 + (from + 1) * 8) found.new.items) }
 {
     for to in 0..setting.spec.nodes() {
-        if from != to && is_heard(setting, run, view, from, to, step) {
-            put(setting, view, omission(from, to, step), found)?;
+        if tries_omission(setting, run, view, from, to, step) {
+            found.push(omission(from, to, step))?;
         }
     }
     Ok(())
@@ -146,6 +152,7 @@ fn put_crashes<M: Machine>(
 ) -> Result<(), AllocError>
     requires marks { AreMarks view.now.marks.faults.now view.now.marks.places }
     requires allowed { IsAllowed setting.now.spec view.now.effects.set }
+    requires room { IsRoom setting.now.spec view.now.effects.set view.now.room.crashes view.now.room.pauses }
     requires first { 1 ≤ step }
     requires last { step ≤ setting.now.spec.horizon }
     requires so_far { IsGathered (IsRequired (world_of setting.now) view.now.effects.set setting.now.spec
@@ -154,8 +161,8 @@ fn put_crashes<M: Machine>(
         view.now.reach view.now.marks.faults.now) ((step - 1) * 80 + 72) found.new.items) }
 {
     for node in 0..setting.spec.nodes() {
-        if lives(setting, view, node, step, setting.spec.horizon() + 1) {
-            put(setting, view, crash(node, step), found)?;
+        if tries_crash(setting, view, node, step) {
+            found.push(crash(node, step))?;
         }
     }
     Ok(())
@@ -170,6 +177,7 @@ fn put_pauses<M: Machine>(
 ) -> Result<(), AllocError>
     requires marks { AreMarks view.now.marks.faults.now view.now.marks.places }
     requires allowed { IsAllowed setting.now.spec view.now.effects.set }
+    requires room { IsRoom setting.now.spec view.now.effects.set view.now.room.crashes view.now.room.pauses }
     requires first { 1 ≤ step }
     requires last { step ≤ setting.now.spec.horizon }
     requires so_far { IsGathered (IsRequired (world_of setting.now) view.now.effects.set setting.now.spec
@@ -178,14 +186,8 @@ fn put_pauses<M: Machine>(
         view.now.reach view.now.marks.faults.now) (step * 80) found.new.items) }
 {
     for node in 0..setting.spec.nodes() {
-        if lives(
-            setting,
-            view,
-            node,
-            step,
-            step + setting.spec.pause_length(),
-        ) {
-            put(setting, view, pause(node, step), found)?;
+        if tries_pause(setting, view, node, step) {
+            found.push(pause(node, step))?;
         }
     }
     Ok(())
@@ -200,7 +202,7 @@ fn omission(from: u32, to: u32, step: u32) -> Fault
 }
 
 /// The crash of a node at a step.
-fn crash(node: u32, step: u32) -> Fault
+pub(crate) fn crash(node: u32, step: u32) -> Fault
     requires { IsFault (Crash node step) }
     ensures { result ≡ Crash node step }
 {
@@ -208,45 +210,92 @@ fn crash(node: u32, step: u32) -> Fault
 }
 
 /// The pause of a node from a step on.
-fn pause(node: u32, step: u32) -> Fault
+pub(crate) fn pause(node: u32, step: u32) -> Fault
     requires { IsFault (Pause node step) }
     ensures { result ≡ Pause node step }
 {
     Fault::pause(node, step).unwrap()
 }
 
-/// Puts a fault that could change something, unless it is excluded or may not be added.
-fn put<M: Machine>(
+/// Whether the omission in a slot is to be tried: a note in it is heard within the reach, and the omission isn't excluded.
+/// The set doesn't have it, and there is room for one.
+fn tries_omission<M: Machine>(
     setting: &Setting<M>,
+    run: &Run<M>,
     view: &View,
-    fault: Fault,
-    found: &mut Vec<Fault>,
-) -> Result<(), AllocError>
+    from: u32,
+    to: u32,
+    step: u32,
+) -> bool
+    requires run { IsRun (world_of setting.now) run.now }
+    requires set { view.now.effects.set ≡ set_of run.now }
     requires marks { AreMarks view.now.marks.faults.now view.now.marks.places }
     requires allowed { IsAllowed setting.now.spec view.now.effects.set }
-    requires supports { Supports (world_of setting.now) view.now.effects.set view.now.reach fault }
-    requires so_far { IsGathered (IsRequired (world_of setting.now) view.now.effects.set setting.now.spec
-        view.now.reach view.now.marks.faults.now) (place_of fault) found.old.items }
-    ensures { OnOk result (IsGathered (IsRequired (world_of setting.now) view.now.effects.set setting.now.spec
-        view.now.reach view.now.marks.faults.now) (place_of fault + 1) found.new.items) }
-{
-    if may_try(setting, view, &fault) {
-        found.push(fault)?;
-    }
-    Ok(())
-}
-
-/// Whether a fault may be added, and isn't excluded.
-fn may_try<M: Machine>(setting: &Setting<M>, view: &View, fault: &Fault) -> bool
-    requires marks { AreMarks view.now.marks.faults.now view.now.marks.places }
-    requires allowed { IsAllowed setting.now.spec view.now.effects.set }
-    ensures value { IsTrue result ↔ MayTry setting.now.spec view.now.effects.set view.now.marks.faults.now fault.now }
-    ensures in_range { IsFault fault.now }
-    ensures limits { IsInLimits setting.now.spec }
+    requires few { length view.now.effects.set < setting.now.spec.budget }
+    requires from { from < setting.now.spec.nodes }
+    requires to { to < setting.now.spec.nodes }
+    requires first { 1 ≤ step }
+    requires last { step ≤ setting.now.spec.last_omission }
+    requires up { is_up (world_of setting.now) view.now.effects.set from step ≡ true }
+    ensures { IsTrue result ↔ IsRequired (world_of setting.now) view.now.effects.set setting.now.spec
+        view.now.reach view.now.marks.faults.now (Omit from to step) }
 {
     let _nodes = setting.spec.nodes();
-    let is_excluded = view.marks.has(fault);
-    !is_excluded && fits(&setting.spec, &view.effects.set, fault)
+    if from == to {
+        return false;
+    }
+    if view.marks.at((step - 1) * 80 + (from * 8 + to)) {
+        return false;
+    }
+    is_heard(setting, run, view, from, to, step)
+}
+
+/// Whether the crash of a node at a step is to be tried.
+fn tries_crash<M: Machine>(setting: &Setting<M>, view: &View, node: u32, step: u32) -> bool
+    requires marks { AreMarks view.now.marks.faults.now view.now.marks.places }
+    requires allowed { IsAllowed setting.now.spec view.now.effects.set }
+    requires room { IsRoom setting.now.spec view.now.effects.set view.now.room.crashes view.now.room.pauses }
+    requires node { node < setting.now.spec.nodes }
+    requires first { 1 ≤ step }
+    requires last { step ≤ setting.now.spec.horizon }
+    ensures { IsTrue result ↔ IsRequired (world_of setting.now) view.now.effects.set setting.now.spec
+        view.now.reach view.now.marks.faults.now (Crash node step) }
+{
+    let _nodes = setting.spec.nodes();
+    if !view.room.crashes[node as usize] {
+        return false;
+    }
+    if view.marks.at((step - 1) * 80 + (64 + node)) {
+        return false;
+    }
+    lives(setting, view, node, step, setting.spec.horizon() + 1)
+}
+
+/// Whether the pause of a node from a step on is to be tried.
+fn tries_pause<M: Machine>(setting: &Setting<M>, view: &View, node: u32, step: u32) -> bool
+    requires marks { AreMarks view.now.marks.faults.now view.now.marks.places }
+    requires allowed { IsAllowed setting.now.spec view.now.effects.set }
+    requires room { IsRoom setting.now.spec view.now.effects.set view.now.room.crashes view.now.room.pauses }
+    requires node { node < setting.now.spec.nodes }
+    requires first { 1 ≤ step }
+    requires last { step ≤ setting.now.spec.horizon }
+    ensures { IsTrue result ↔ IsRequired (world_of setting.now) view.now.effects.set setting.now.spec
+        view.now.reach view.now.marks.faults.now (Pause node step) }
+{
+    let _nodes = setting.spec.nodes();
+    if !view.room.pauses[node as usize] {
+        return false;
+    }
+    if view.marks.at((step - 1) * 80 + (72 + node)) {
+        return false;
+    }
+    lives(
+        setting,
+        view,
+        node,
+        step,
+        step + setting.spec.pause_length(),
+    )
 }
 
 /// Whether a note is sent in a slot, and is heard within the reach.

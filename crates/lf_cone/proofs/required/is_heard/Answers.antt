@@ -1,9 +1,9 @@
-use Rattle.std.proofs.Common.{◌≡◌, ◌≤◌, ◌<◌, sym, ◌∙◌, subst, true, false, arith, get_or}
+use Rattle.std.proofs.Common.{◌≡◌, sym, ◌∙◌, subst, true, arith}
 use Rattle.std.proofs.lemmas.Bool.{both_ways, false≢true}
 use Rattle.lf_faults.specs.Faults.{set_omits}
 use Rattle.lf_sim.specs.Runs.{sent, is_up}
 use Rattle.std.specs.Prelude.{IsSome}
-use Rattle.lf_sim.specs.Settings.{world_of, set_of}
+use Rattle.lf_sim.specs.Settings.{world_of}
 use Rattle.lf_sim.proofs.Laws.{IsRunning-up}
 use Rattle.lf_cone.proofs.required.is_heard.Goals as goal
 use Rattle.lf_cone.proofs.required.is_heard.Goals.{then-at-arrival-via-then-at-arrival, then-at-arrival-via-else-at-arrival+then-horizon-arrival}
