@@ -1,7 +1,7 @@
 -- Which faults are to be tried, place by place.
-use Rattle.std.proofs.Common.{◌≡◌, ◌≢◌, ℕ, ◌+◌, ◌-◌, ◌*◌, ◌<◌, ◌≤◌, true, false, List, length, [], ◌∷◌, ◌++◌, sym, ap, ◌∙◌, inl, inr, arith}
+use Rattle.std.proofs.Common.{◌≡◌, ◌≢◌, ℕ, ◌+◌, ◌-◌, ◌*◌, ◌<◌, ◌≤◌, false, List, length, [], ◌∷◌, ◌++◌, sym, ap, ◌∙◌, inl, inr, arith}
 use Rattle.std.proofs.Common.{subst, get_or}
-use Rattle.std.specs.Prelude.{Bool, ◌↔◌, slice_set}
+use Rattle.std.specs.Prelude.{slice_set}
 use Rattle.std.proofs.lemmas.Bool.{both_ways, cases_lt}
 use Rattle.std.proofs.lemmas.List.{get_or-set_same, get_or-set_other}
 use Rattle.lf_faults.specs.declared.fault.Parts.{Parts}
@@ -193,16 +193,11 @@ module _ {State Note Fact : Type 0} (w : World State Note Fact) (faults : List P
       (λ c. both_ways (set_omits faults n m t) h.1.2.kept (contains-omitted faults n m t c)) tt
 
 -- a table's entries, one more
-pub table-more : (Q : ℕ → Type 0) (table : List Bool) (k : ℕ) (value : Bool) → k < length table → ((value ≡ true) ↔ Q k)
-    → ((n : ℕ) → n < k → ((get_or table n false ≡ true) ↔ Q n))
-    → (n : ℕ) → n < k + 1 → ((get_or (slice_set table k value) n false ≡ true) ↔ Q n)
-table-more Q table k value inside is before n below = elim (cases_lt n k) [
-  | inl early ↦
-      let kept : get_or (slice_set table k value) n false ≡ get_or table n false = get_or-set_other table k n value false (λ e. omega (arith, e, early)) in
-      let was = before n early in
-      (λ e. was.0 (sym kept ∙ e), λ q. kept ∙ was.1 q)
+pub table-more : {X : Type 0} (Q : ℕ → X → Type 0) (table : List X) (d : X) (k : ℕ) (value : X) → k < length table → Q k value
+    → ((n : ℕ) → n < k → Q n (get_or table n d)) → (n : ℕ) → n < k + 1 → Q n (get_or (slice_set table k value) n d)
+table-more Q table d k value inside is before n below = elim (cases_lt n k) [
+  | inl early ↦ subst (Q n) (sym (get_or-set_other table k n value d (λ e. omega (arith, e, early)))) (before n early)
   | inr late ↦
-      let same : n ≡ k = omega (arith, below, late) in
-      let at : get_or (slice_set table k value) n false ≡ value = rw same (get_or-set_same table k value false inside) in
-      (λ e. subst Q (sym same) (is.0 (sym at ∙ e)), λ q. at ∙ is.1 (subst Q same q))
+      let same : k ≡ n = omega (arith, below, late) in
+      subst (λ m. Q m (get_or (slice_set table k value) m d)) same (subst (Q k) (sym (get_or-set_same table k value d inside)) is)
 ]

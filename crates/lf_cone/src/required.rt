@@ -7,7 +7,7 @@ ghost use Rattle.lf_faults.specs.Allowed.{IsAllowed};
 ghost use Rattle.lf_sim.specs.Runs.{is_up, sent};
 ghost use Rattle.lf_sim.specs.Settings.{world_of, set_of, IsRun};
 ghost use Rattle.lf_cone.specs.Cones.{IsRequired, AreRequired, Supports};
-ghost use Rattle.lf_cone.specs.Places.{IsGathered, AreMarks, IsRoom, LivesBetween};
+ghost use Rattle.lf_cone.specs.Places.{IsGathered, AreMarks, AreEnds, AreSent, IsRoom, LivesBetween};
 
 use crate::hearing::goes;
 use crate::marks::Marks;
@@ -23,6 +23,8 @@ use std::alloc::{AllocError, Global};
 struct View<'a> {
     effects: Effects,
     reach: Reach,
+    // By node, the last step of the run within the reach.
+    ends: [u32; 8],
     marks: Marks<'a>,
     room: Room,
 }
@@ -70,6 +72,7 @@ pub fn put_edges<M: Machine>(
     let view = View {
         effects: Effects::new(&set),
         reach: *reach,
+        ends: ends_of(reach, setting.spec.horizon()),
         marks: Marks::new(excluded),
         room: room_in(&setting.spec, &set),
     };
@@ -94,6 +97,7 @@ fn put_omissions<M: Machine>(
     requires marks { AreMarks view.now.marks.faults.now view.now.marks.places }
     requires allowed { IsAllowed setting.now.spec view.now.effects.set }
     requires few { length view.now.effects.set < setting.now.spec.budget }
+    requires ends { AreEnds view.now.reach setting.now.spec.horizon view.now.ends }
     requires first { 1 ≤ step }
     requires last { step ≤ setting.now.spec.horizon }
     requires so_far { IsGathered (IsRequired (world_of setting.now) view.now.effects.set setting.now.spec
@@ -126,6 +130,7 @@ fn put_omissions_of<M: Machine>(
     requires marks { AreMarks view.now.marks.faults.now view.now.marks.places }
     requires allowed { IsAllowed setting.now.spec view.now.effects.set }
     requires few { length view.now.effects.set < setting.now.spec.budget }
+    requires ends { AreEnds view.now.reach setting.now.spec.horizon view.now.ends }
     requires from { from < setting.now.spec.nodes }
     requires first { 1 ≤ step }
     requires last { step ≤ setting.now.spec.last_omission }
@@ -135,8 +140,10 @@ fn put_omissions_of<M: Machine>(
     ensures { OnOk result (IsGathered (IsRequired (world_of setting.now) view.now.effects.set setting.now.spec
         view.now.reach view.now.marks.faults.now) ((step - 1) * 80 + (from + 1) * 8) found.new.items) }
 {
-    for to in 0..setting.spec.nodes() {
-        if tries_omission(setting, run, view, from, to, step) {
+    let nodes = setting.spec.nodes();
+    let sent = sent_by(setting, run, from, step);
+    for to in 0..nodes {
+        if tries_omission(setting, view, &sent, from, to, step) {
             found.push(omission(from, to, step))?;
         }
     }
@@ -153,6 +160,7 @@ fn put_crashes<M: Machine>(
     requires marks { AreMarks view.now.marks.faults.now view.now.marks.places }
     requires allowed { IsAllowed setting.now.spec view.now.effects.set }
     requires room { IsRoom setting.now.spec view.now.effects.set view.now.room.crashes view.now.room.pauses }
+    requires ends { AreEnds view.now.reach setting.now.spec.horizon view.now.ends }
     requires first { 1 ≤ step }
     requires last { step ≤ setting.now.spec.horizon }
     requires so_far { IsGathered (IsRequired (world_of setting.now) view.now.effects.set setting.now.spec
@@ -178,6 +186,7 @@ fn put_pauses<M: Machine>(
     requires marks { AreMarks view.now.marks.faults.now view.now.marks.places }
     requires allowed { IsAllowed setting.now.spec view.now.effects.set }
     requires room { IsRoom setting.now.spec view.now.effects.set view.now.room.crashes view.now.room.pauses }
+    requires ends { AreEnds view.now.reach setting.now.spec.horizon view.now.ends }
     requires first { 1 ≤ step }
     requires last { step ≤ setting.now.spec.horizon }
     requires so_far { IsGathered (IsRequired (world_of setting.now) view.now.effects.set setting.now.spec
@@ -221,17 +230,17 @@ pub(crate) fn pause(node: u32, step: u32) -> Fault
 /// The set doesn't have it, and there is room for one.
 fn tries_omission<M: Machine>(
     setting: &Setting<M>,
-    run: &Run<M>,
     view: &View,
+    sent: &[bool; 8],
     from: u32,
     to: u32,
     step: u32,
 ) -> bool
-    requires run { IsRun (world_of setting.now) run.now }
-    requires set { view.now.effects.set ≡ set_of run.now }
+    requires sent { AreSent (world_of setting.now) view.now.effects.set from step sent.now }
     requires marks { AreMarks view.now.marks.faults.now view.now.marks.places }
     requires allowed { IsAllowed setting.now.spec view.now.effects.set }
     requires few { length view.now.effects.set < setting.now.spec.budget }
+    requires ends { AreEnds view.now.reach setting.now.spec.horizon view.now.ends }
     requires from { from < setting.now.spec.nodes }
     requires to { to < setting.now.spec.nodes }
     requires first { 1 ≤ step }
@@ -247,7 +256,7 @@ fn tries_omission<M: Machine>(
     if view.marks.at((step - 1) * 80 + (from * 8 + to)) {
         return false;
     }
-    is_heard(setting, run, view, from, to, step)
+    is_heard(setting, view, sent, from, to, step)
 }
 
 /// Whether the crash of a node at a step is to be tried.
@@ -255,6 +264,7 @@ fn tries_crash<M: Machine>(setting: &Setting<M>, view: &View, node: u32, step: u
     requires marks { AreMarks view.now.marks.faults.now view.now.marks.places }
     requires allowed { IsAllowed setting.now.spec view.now.effects.set }
     requires room { IsRoom setting.now.spec view.now.effects.set view.now.room.crashes view.now.room.pauses }
+    requires ends { AreEnds view.now.reach setting.now.spec.horizon view.now.ends }
     requires node { node < setting.now.spec.nodes }
     requires first { 1 ≤ step }
     requires last { step ≤ setting.now.spec.horizon }
@@ -276,6 +286,7 @@ fn tries_pause<M: Machine>(setting: &Setting<M>, view: &View, node: u32, step: u
     requires marks { AreMarks view.now.marks.faults.now view.now.marks.places }
     requires allowed { IsAllowed setting.now.spec view.now.effects.set }
     requires room { IsRoom setting.now.spec view.now.effects.set view.now.room.crashes view.now.room.pauses }
+    requires ends { AreEnds view.now.reach setting.now.spec.horizon view.now.ends }
     requires node { node < setting.now.spec.nodes }
     requires first { 1 ≤ step }
     requires last { step ≤ setting.now.spec.horizon }
@@ -301,14 +312,14 @@ fn tries_pause<M: Machine>(setting: &Setting<M>, view: &View, node: u32, step: u
 /// Whether a note is sent in a slot, and is heard within the reach.
 fn is_heard<M: Machine>(
     setting: &Setting<M>,
-    run: &Run<M>,
     view: &View,
+    sent: &[bool; 8],
     from: u32,
     to: u32,
     step: u32,
 ) -> bool
-    requires run { IsRun (world_of setting.now) run.now }
-    requires set { view.now.effects.set ≡ set_of run.now }
+    requires sent { AreSent (world_of setting.now) view.now.effects.set from step sent.now }
+    requires ends { AreEnds view.now.reach setting.now.spec.horizon view.now.ends }
     requires from { from < setting.now.spec.nodes }
     requires to { to < setting.now.spec.nodes }
     requires apart { from ≢ to }
@@ -317,14 +328,29 @@ fn is_heard<M: Machine>(
     requires up { is_up (world_of setting.now) view.now.effects.set from step ≡ true }
     ensures { IsTrue result ↔ Supports (world_of setting.now) view.now.effects.set view.now.reach (Omit from to step) }
 {
+    let _nodes = setting.spec.nodes();
     let arrival = setting.network.arrival(from, to, step);
-    if view.reach.at(to) < arrival || setting.spec.horizon() < arrival {
+    if view.ends[to as usize] < arrival {
         return false;
     }
-    if !was_sent(setting, run, from, to, step) || view.effects.omits(from, to, step) {
+    if !sent[to as usize] || view.effects.omits(from, to, step) {
         return false;
     }
     goes(setting, &view.effects, to, arrival)
+}
+
+/// By receiver, whether a note to it was sent by a node at a step.
+fn sent_by<M: Machine>(setting: &Setting<M>, run: &Run<M>, from: u32, step: u32) -> [bool; 8]
+    requires run { IsRun (world_of setting.now) run.now }
+    requires from { from < setting.now.spec.nodes }
+    requires last { step ≤ setting.now.spec.horizon }
+    ensures { AreSent (world_of setting.now) (set_of run.now) from step result }
+{
+    let mut sent = [false; 8];
+    for to in 0..8 {
+        sent[to as usize] = was_sent(setting, run, from, to, step);
+    }
+    sent
 }
 
 /// Whether a note was sent in a slot.
@@ -340,16 +366,29 @@ fn was_sent<M: Machine>(setting: &Setting<M>, run: &Run<M>, from: u32, to: u32, 
 
 /// Whether a node is up at a step within the reach, of those from one step on, before another.
 fn lives<M: Machine>(setting: &Setting<M>, view: &View, node: u32, first: u32, end: u32) -> bool
+    requires ends { AreEnds view.now.reach setting.now.spec.horizon view.now.ends }
     requires node { node < setting.now.spec.nodes }
     requires first { 1 ≤ first }
     requires end { end < 100 }
     ensures { IsTrue result ↔ LivesBetween (world_of setting.now) view.now.effects.set view.now.reach node first end }
 {
-    let end = end.min(view.reach.at(node).min(setting.spec.horizon()) + 1);
+    let _nodes = setting.spec.nodes();
+    let end = end.min(view.ends[node as usize] + 1);
     for step in first..end {
         if goes(setting, &view.effects, node, step) {
             return true;
         }
     }
     false
+}
+
+/// By node, the last step up to the horizon that is within a reach, or 0.
+fn ends_of(reach: &Reach, horizon: u32) -> [u32; 8]
+    ensures { AreEnds reach.now horizon result }
+{
+    let mut ends = [0; 8];
+    for node in 0..8 {
+        ends[node as usize] = reach.at(node).min(horizon);
+    }
+    ends
 }

@@ -6,11 +6,14 @@ use Rattle.lf_cone.proofs.RequiredLemmas.{moved, is-fault, put_one, skip_omissio
 use Rattle.lf_cone.proofs.required.put_omissions_of.Goals as goal
 use Rattle.lf_cone.proofs.required.put_omissions_of.Goals.{then-tries_omission+in_ok-push, else-tries_omission}
 
+pub sent_by-sent-requires-clause-last : goal.sent_by-sent-requires-clause-last
+sent_by-sent-requires-clause-last g c = omega (arith, c.requires.last, c.nodes-nodes.ensures.limits.last_omission)
+
 pub omission-requires : goal.omission-requires
 omission-requires g c =
     let s = c.args.setting.now in
     let v = c.args.view.now in
-    is-fault (world_of s) v.effects.set s.spec v.reach v.marks.faults.now c.nodes-to-end.ensures.limits (Omit c.args.from c.loop-to.to c.args.step)
+    is-fault (world_of s) v.effects.set s.spec v.reach v.marks.faults.now c.nodes-nodes.ensures.limits (Omit c.args.from c.loop-to.to c.args.step)
     (c.tries_omission.ensures.0 c.if-tries_omission.true)
 
 pub loop-to-preserved : goal.loop-to-preserved
@@ -20,9 +23,9 @@ loop-to-preserved g c =
     let t = c.args.step in
     let n = c.args.from in
     let m = c.loop-to.to in
-    let limits = c.nodes-to-end.ensures.limits in
+    let limits = c.nodes-nodes.ensures.limits in
     let sender : n < 8 = omega (arith, c.requires.from, limits.nodes.1) in
-    let receiver : m < 8 = omega (arith, c.loop-to-test.true, c.nodes-to-end.ensures.value, limits.nodes.1) in
+    let receiver : m < 8 = omega (arith, c.loop-to-test.true, c.nodes-nodes.ensures.value, limits.nodes.1) in
     elim c.if-tries_omission.branch [
       | then-tries_omission+in_ok-push b ↦
           rw b.found-is (put_one (world_of s) v.effects.set s.spec v.reach v.marks.faults.now limits c.loop-to.found.items _ b.omission.result (Omit n m t)
@@ -40,7 +43,7 @@ returns g c =
     let s = c.args.setting.now in
     let v = c.args.view.now in
     let t = c.args.step in
-    let limits = c.nodes-to-end.ensures.limits in
+    let limits = c.nodes-nodes.ensures.limits in
     end_receivers (world_of s) v.effects.set s.spec v.reach v.marks.faults.now limits c.loop-to.found.items c.args.from c.loop-to.to t c.requires.first
-    (omega (arith, c.requires.from, limits.nodes.1)) (omega (arith, c.loop-to-test.false, c.nodes-to-end.ensures.value))
-    (omega (arith, c.loop-to.auto.to-end, c.nodes-to-end.ensures.value, limits.nodes.1)) c.loop-to.invariant
+    (omega (arith, c.requires.from, limits.nodes.1)) (omega (arith, c.loop-to-test.false, c.nodes-nodes.ensures.value))
+    (omega (arith, c.loop-to.auto.to-end, c.nodes-nodes.ensures.value, limits.nodes.1)) c.loop-to.invariant
