@@ -1,17 +1,16 @@
 -- The cone of points, by the least delays of the links.
-use Rattle.std.proofs.Common.{◌≡◌, ◌≢◌, ℕ, suc, ◌+◌, ◌-◌, ◌<◌, ◌≤◌, true, List, length, get_or, replicate, refl, sym, ap, ◌∙◌, inl, inr, arith, subst}
+use Rattle.std.proofs.Common.{◌≡◌, ℕ, ◌-◌, ◌<◌, ◌≤◌, List, length, get_or, replicate, sym, ◌∙◌, inl, inr, arith}
 use Rattle.std.proofs.lemmas.Bool.{cases_lt}
 use Rattle.lf_latency.specs.declared.network.Timing.{Timing}
 use Rattle.lf_latency.specs.Links.{least_of}
 use Rattle.lf_latency.specs.Arrivals.{IsTiming, arrival_of}
 use Rattle.lf_latency.proofs.Laws.{arrival-late}
 use Rattle.lf_faults.specs.declared.fault.Parts.{Parts}
-use Rattle.lf_sim.specs.Runs.{World, is_up}
+use Rattle.lf_sim.specs.Runs.{World}
 use Rattle.lf_sim.proofs.Laws.{IsRunning-up}
 use Rattle.lf_outcome.specs.declared.point.Point.{Point}
-use Rattle.lf_outcome.specs.Evidence.{Covers}
-use Rattle.lf_cone.specs.Cones.{IsReachOf, IsAtMost, KeepsLeast, IsCone, IsClosed, IsHeard, CanHear}
-use Rattle.lf_cone.specs.Sweeps.{IsRaised, SomeBelow, PointAt, AreInside, KeepsTo, IsLeastFrom, RestsByLeast}
+use Rattle.lf_cone.specs.Cones.{KeepsLeast, IsCone, IsClosed}
+use Rattle.lf_cone.specs.Sweeps.{IsRaised, SomeBelow, PointAt, KeepsTo, IsLeastFrom, RestsByLeast}
 use Rattle.lf_cone.proofs.Covering.{start-covers, start-smallest}
 
 pub later-least : (timing : Timing) (nodes : ℕ) → IsTiming timing → nodes ≤ 8 → (n t m v : ℕ) → RestsByLeast nodes (least_of timing.links) n t m v → t < v

@@ -1,6 +1,5 @@
 -- The least reach that covers points.
-use Rattle.std.proofs.Common.{◌≡◌, ℕ, zero, suc, [], ◌∷◌, ◌+◌, ◌<◌, ◌≤◌, true, List, length, get_or, replicate, refl, sym, ap, ◌∙◌, inl, inr, arith, subst}
-use Rattle.std.specs.Prelude.{◌⊎◌}
+use Rattle.std.proofs.Common.{◌≡◌, ℕ, zero, suc, [], ◌∷◌, ◌+◌, ◌<◌, ◌≤◌, true, List, length, get_or, replicate, sym, ap, ◌∙◌, inl, inr, arith, subst}
 use Rattle.std.specs.List.{Contains}
 use Rattle.std.proofs.lemmas.Bool.{cases_lt}
 use Rattle.std.proofs.lemmas.List.{get_or_default, get_or-replicate, length-replicate}
@@ -12,7 +11,7 @@ use Rattle.lf_outcome.specs.declared.point.Point.{Point}
 use Rattle.lf_outcome.specs.Evidence.{Covers, AreUp}
 use Rattle.lf_cone.specs.Cones.{IsReachOf, IsAtMost}
 use Rattle.lf_cone.specs.Sweeps.{IsRaised, SomeBelow, PointAt, AreInside}
-use Rattle.lf_cone.proofs.Sweeping.{raised-more, raised-one, raised-same}
+use Rattle.lf_cone.proofs.Sweeping.{raised-more, raised-same}
 
 abbrev pub blank : Point
 blank = record { node = 0; step = 0 }

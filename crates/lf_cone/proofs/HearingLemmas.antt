@@ -1,5 +1,5 @@
 -- What a node hears, slot by slot.
-use Rattle.std.proofs.Common.{◌≡◌, ◌≢◌, ℕ, suc, [], ◌∷◌, inl, inr, replicate, ◌+◌, ◌<◌, ◌≤◌, Bool, true, false, List, length, get_or, refl, sym, ap}
+use Rattle.std.proofs.Common.{◌≡◌, ℕ, suc, [], ◌∷◌, inl, inr, replicate, ◌+◌, ◌<◌, ◌≤◌, true, List, length, get_or, refl, sym, ap}
 use Rattle.std.proofs.Common.{◌∙◌, arith, subst}
 use Rattle.std.specs.Prelude.{not, ◌&&◌}
 use Rattle.std.specs.List.{All, Contains}
@@ -14,11 +14,10 @@ use Rattle.lf_sim.specs.Runs.{World, is_up}
 use Rattle.lf_sim.specs.Schedules.{IsArriving}
 use Rattle.lf_sim.proofs.Laws.{IsRunning-up}
 use Rattle.lf_outcome.specs.declared.point.Point.{Point}
-use Rattle.lf_outcome.specs.Evidence.{Covers}
-use Rattle.lf_cone.specs.Cones.{CanHear, IsHeard, IsReachOf, IsAtMost, IsClosed, IsSharp}
+use Rattle.lf_cone.specs.Cones.{CanHear, IsReachOf, IsClosed, IsSharp}
 use Rattle.lf_cone.specs.Sweeps.{IsRaised, SomeBelow, HeardAt, MaySend, KeepsTo, IsLeastFrom, PointAt}
 use Rattle.lf_cone.proofs.Covering.{start-covers, start-smallest}
-use Rattle.lf_cone.proofs.Sweeping.{raised-more, raised-pass, raised-same}
+use Rattle.lf_cone.proofs.Sweeping.{raised-more, raised-pass, raised-enough, raised-same}
 
 -- lists of numbers that are the same at each place
 pub same-steps : (xs ys : List ℕ) → length xs ≡ length ys → ((n : ℕ) → get_or xs n 0 ≡ get_or ys n 0) → xs ≡ ys
@@ -101,6 +100,12 @@ module _ {State Note Fact : Type 0} (w : World State Note Fact) (faults : List P
   heard_pass m u i slots a b none first =
       raised-pass (HeardAt w faults m u slots) i a b first
       (λ n t h. none (rw (h.0, h.1) (h.2.sends, h.2.kept)))
+
+  pub heard_within : (m u i : ℕ) (slots : List Slot) (a b : List ℕ) → (get_or slots i blank).sent ≤ get_or b (get_or slots i blank).from 0
+      → IsRaised (SomeBelow (HeardAt w faults m u slots) i) a b → IsRaised (SomeBelow (HeardAt w faults m u slots) (i + 1)) a b
+  heard_within m u i slots a b near first =
+      raised-enough (HeardAt w faults m u slots) i a b first (λ n t h. subst (λ k. t ≤ get_or b k 0) h.0 (subst (λ k. k ≤ get_or b
+      (get_or slots i blank).from 0) h.1 near))
 
   pub heard_all : ArrivesLater w → (nodes m u i : ℕ) (slots : List Slot) (a b : List ℕ) → nodes ≡ w.rules.nodes → Slots nodes m u slots
       → length slots ≤ i → i ≤ length slots

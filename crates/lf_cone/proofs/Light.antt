@@ -1,6 +1,6 @@
 -- Within a closed reach the run of a wider set is the run.
 use Rattle.std.proofs.Common.{◌≡◌, ◌≢◌, ℕ, zero, suc, ◌+◌, ◌<◌, ◌≤◌, Bool, true, false, List, get_or, Option, None, Some, refl, sym, ap, ◌∙◌, inl, inr}
-use Rattle.std.proofs.Common.{arith, add-one, subst}
+use Rattle.std.proofs.Common.{arith, add-one}
 use Rattle.std.specs.Prelude.{IsSome}
 use Rattle.std.specs.List.{Contains}
 use Rattle.std.specs.Option.{option_map}
@@ -10,11 +10,10 @@ use Rattle.lf_faults.specs.declared.fault.Parts.TheVariants.{Omit, Crash, Pause}
 use Rattle.lf_faults.specs.Faults.{set_omits, set_wakes, step_of}
 use Rattle.lf_sim.specs.declared.out.Stepped.{Stepped}
 use Rattle.lf_sim.specs.Outs.{note_to, nothing}
-use Rattle.lf_sim.specs.Points.{IsRunning}
 use Rattle.lf_sim.specs.Runs.{World, is_up, before_step, did, view, sent, inbox, letter}
 use Rattle.lf_sim.proofs.Laws.{omitted-contains, contains-omitted, woken-contains, contains-woken, IsRunning-up, up-IsRunning, did-up, did-down}
 use Rattle.lf_sim.proofs.Laws.{did-zero, sent-down, letters-each, letter-self, letter-elsewhere, letter-omitted, letter-comes, letter-silent}
-use Rattle.lf_cone.specs.Cones.{CanHear, IsHeard, IsClosed, IsLive, Supports, IsOutside, AgreesWithin}
+use Rattle.lf_cone.specs.Cones.{IsHeard, IsClosed, IsLive, IsOutside, AgreesWithin}
 
 both_ways' : (a b : Bool) → (a ≡ true → b ≡ true) → (b ≡ true → a ≡ true) → a ≡ b
 both_ways' true b h k = sym (h refl)

@@ -1,20 +1,20 @@
 -- Which faults are to be tried, place by place.
-use Rattle.std.proofs.Common.{◌≡◌, ◌≢◌, ℕ, ◌+◌, ◌-◌, ◌*◌, ◌<◌, ◌≤◌, true, false, List, length, [], ◌∷◌, ◌++◌, refl, sym, ap, ◌∙◌, inl, inr, arith}
+use Rattle.std.proofs.Common.{◌≡◌, ◌≢◌, ℕ, ◌+◌, ◌-◌, ◌*◌, ◌<◌, ◌≤◌, false, List, length, [], ◌∷◌, ◌++◌, sym, ap, ◌∙◌, inl, inr, arith}
 use Rattle.std.proofs.Common.{subst, get_or}
-use Rattle.std.specs.Prelude.{IsSome}
-use Rattle.std.specs.List.{Contains}
-use Rattle.std.proofs.lemmas.Bool.{both_ways}
+use Rattle.std.specs.Prelude.{slice_set}
+use Rattle.std.proofs.lemmas.Bool.{both_ways, cases_lt}
+use Rattle.std.proofs.lemmas.List.{get_or-set_same, get_or-set_other}
 use Rattle.lf_faults.specs.declared.fault.Parts.{Parts}
 use Rattle.lf_faults.specs.declared.fault.Parts.TheVariants.{Omit, Crash, Pause}
-use Rattle.lf_faults.specs.Faults.{IsFault, IsAscending, inserted}
+use Rattle.lf_faults.specs.Faults.{IsFault, IsAscending, inserted, set_omits}
 use Rattle.lf_faults.specs.declared.spec.Bounds.{Bounds}
-use Rattle.lf_faults.specs.Allowed.{IsInLimits, IsAdmitted, IsAllowed, IsSubset, CanAdd}
-use Rattle.lf_faults.proofs.Laws.{in_allowed-admitted, admitted-fault, subset_allowed, in-inserted, still-in, length-inserted}
-use Rattle.lf_sim.specs.Runs.{World, is_up, sent}
-use Rattle.lf_sim.proofs.Laws.{IsRunning-up}
-use Rattle.lf_cone.specs.Cones.{CanHear, IsHeard, Supports, IsRequired, AreRequired, IsLive}
-use Rattle.lf_cone.specs.Places.{place_in_step, place_of, IsGathered, MayTry, LivesBetween}
-use Rattle.lf_cone.proofs.Gathering.{place-one, gathered-none, gathered-push, gathered-leap}
+use Rattle.lf_faults.specs.Allowed.{IsInLimits, IsAdmitted, IsAllowed, CanAdd}
+use Rattle.lf_faults.proofs.Laws.{in_allowed-admitted, admitted-fault, subset_allowed, in-inserted, still-in, length-inserted, can_add}
+use Rattle.lf_sim.specs.Runs.{World, is_up}
+use Rattle.lf_sim.proofs.Laws.{IsRunning-up, contains-omitted}
+use Rattle.lf_cone.specs.Cones.{Supports, IsRequired, AreRequired}
+use Rattle.lf_cone.specs.Places.{place_of, IsGathered, LivesBetween}
+use Rattle.lf_cone.proofs.Gathering.{gathered-none, gathered-push, gathered-leap}
 
 -- what stands at a step's places
 abbrev base : ℕ → ℕ
@@ -53,31 +53,25 @@ module _ {State Note Fact : Type 0} (w : World State Note Fact) (faults : List P
   abbrev pub Gathered : ℕ → List Parts → Type 0
   Gathered = IsGathered (IsRequired w faults b reach excluded)
 
-  is-admitted : (f : Parts) → P f → IsAdmitted b f
+  pub is-admitted : (f : Parts) → IsRequired w faults b reach excluded f → IsAdmitted b f
   is-admitted f h = in_allowed-admitted b (inserted f faults) f h.allowed.1 (in-inserted f faults)
 
-  is-fault : (f : Parts) → P f → IsFault f
+  pub is-fault : (f : Parts) → IsRequired w faults b reach excluded f → IsFault f
   is-fault f h = admitted-fault b f limits (is-admitted f h)
 
   pub start : Gathered 0 []
   start = gathered-none P is-fault
 
-  -- a fault is put, or may not be tried
-  pub put_one : (fs : List Parts) (f : Parts) → Gathered (place_of f) fs → Supports w faults reach f → MayTry b faults excluded f
-      → Gathered (place_of f + 1) (fs ++ f ∷ [])
-  put_one fs f h supports may = gathered-push P is-fault fs (place_of f) f h (record { supports = supports; allowed = may.1; included = may.0 }) refl
-
-  pub put_none : (fs : List Parts) (f : Parts) → IsFault f → Gathered (place_of f) fs → (MayTry b faults excluded f → ⊥) → Gathered (place_of f + 1) fs
-  put_none fs f is h none =
-      gathered-leap P is-fault fs (place_of f) (place_of f + 1) (omega arith) h
-      (λ g p low high.
-      let same : f ≡ g = place-one f g is (is-fault g p) (omega arith) in
-      let again : P f = subst P (sym same) p in
-      none (again.included, again.allowed))
+  -- a fault is put
+  pub put_one : (fs xs : List Parts) (f g : Parts) (k l : ℕ) → xs ≡ fs ++ f ∷ [] → f ≡ g → place_of g ≡ k → l ≡ k + 1 → Gathered k fs
+      → IsRequired w faults b reach excluded g → Gathered l xs
+  put_one fs xs f g k l whole same at next h p =
+      subst (λ n. Gathered n xs) (sym next)
+      (subst (Gathered (k + 1)) (sym (whole ∙ ap (λ x. fs ++ x ∷ []) same)) (gathered-push P is-fault fs k g h p at))
 
   -- no omission of the slot
-  pub skip_omission : (fs : List Parts) (n m t : ℕ) → 1 ≤ t → n < 8 → m < 8 → Gathered (base t + n * 8 + m) fs → (n ≢ m
-      → Supports w faults reach (Omit n m t) → ⊥) → Gathered (base t + n * 8 + m + 1) fs
+  pub skip_omission : (fs : List Parts) (n m t : ℕ) → 1 ≤ t → n < 8 → m < 8 → Gathered (base t + n * 8 + m) fs
+      → (IsRequired w faults b reach excluded (Omit n m t) → ⊥) → Gathered (base t + n * 8 + m + 1) fs
   skip_omission fs n m t first sender receiver h none =
       gathered-leap P is-fault fs (base t + n * 8 + m) (base t + n * 8 + m + 1) (omega arith) h
       (λ f p low high.
@@ -85,7 +79,7 @@ module _ {State Note Fact : Type 0} (w : World State Note Fact) (faults : List P
       let from : at.0 ≡ n = omega (arith, at.3, at.4) in
       let to : at.1 ≡ m = omega (arith, at.3, at.4) in
       let is : P (Omit n m t) = subst (λ k. P (Omit k m t)) from (subst (λ k. P (Omit at.0 k t)) to (subst P at.2 p)) in
-      none (is-admitted (Omit n m t) is).2 is.supports)
+      none is)
 
   -- no omission of what a node sends
   pub skip_sender : (fs : List Parts) (n t : ℕ) → 1 ≤ t → n < 8 → Gathered (base t + n * 8) fs → is_up w faults n t ≡ false
@@ -125,7 +119,7 @@ module _ {State Note Fact : Type 0} (w : World State Note Fact) (faults : List P
       omega (arith, is.4))
 
   -- crashes and pauses
-  pub skip_crash : (fs : List Parts) (n t : ℕ) → 1 ≤ t → n < 8 → Gathered (base t + 64 + n) fs → (Supports w faults reach (Crash n t) → ⊥)
+  pub skip_crash : (fs : List Parts) (n t : ℕ) → 1 ≤ t → n < 8 → Gathered (base t + 64 + n) fs → (IsRequired w faults b reach excluded (Crash n t) → ⊥)
       → Gathered (base t + 64 + n + 1) fs
   skip_crash fs n t first node h none =
       gathered-leap P is-fault fs (base t + 64 + n) (base t + 64 + n + 1) (omega arith) h
@@ -133,7 +127,7 @@ module _ {State Note Fact : Type 0} (w : World State Note Fact) (faults : List P
       let at = crash-at t f (is-fault f p) first (omega arith) (omega arith) in
       let from : at.0 ≡ n = omega (arith, at.2) in
       let is : P (Crash n t) = subst (λ k. P (Crash k t)) from (subst P at.1 p) in
-      none is.supports)
+      none is)
 
   pub end_crashes : (fs : List Parts) (n t : ℕ) → 1 ≤ t → b.nodes ≤ n → n ≤ 8 → Gathered (base t + 64 + n) fs → Gathered (base t + 72) fs
   end_crashes fs n t first past few h =
@@ -143,7 +137,7 @@ module _ {State Note Fact : Type 0} (w : World State Note Fact) (faults : List P
       let is = is-admitted (Crash at.0 t) (subst P at.1 p) in
       omega (arith, at.2, is.0))
 
-  pub skip_pause : (fs : List Parts) (n t : ℕ) → 1 ≤ t → n < 8 → Gathered (base t + 72 + n) fs → (Supports w faults reach (Pause n t) → ⊥)
+  pub skip_pause : (fs : List Parts) (n t : ℕ) → 1 ≤ t → n < 8 → Gathered (base t + 72 + n) fs → (IsRequired w faults b reach excluded (Pause n t) → ⊥)
       → Gathered (base t + 72 + n + 1) fs
   skip_pause fs n t first node h none =
       gathered-leap P is-fault fs (base t + 72 + n) (base t + 72 + n + 1) (omega arith) h
@@ -151,7 +145,7 @@ module _ {State Note Fact : Type 0} (w : World State Note Fact) (faults : List P
       let at = pause-at t f (is-fault f p) first (omega arith) (omega arith) in
       let from : at.0 ≡ n = omega (arith, at.2) in
       let is : P (Pause n t) = subst (λ k. P (Pause k t)) from (subst P at.1 p) in
-      none is.supports)
+      none is)
 
   pub end_pauses : (fs : List Parts) (n t : ℕ) → 1 ≤ t → b.nodes ≤ n → n ≤ 8 → Gathered (base t + 72 + n) fs → Gathered (t * 80) fs
   end_pauses fs n t first past few h =
@@ -190,3 +184,20 @@ module _ {State Note Fact : Type 0} (w : World State Note Fact) (faults : List P
 
   pub lives-crash : (n t end : ℕ) → w.horizon < end → Supports w faults reach (Crash n t) → LivesBetween w faults reach n t end
   lives-crash n t end far h = (h.0, h.1, omega (arith, (IsRunning-up w faults n h.0 h.2.0).last, far), h.2)
+
+  -- an omission of a note that is kept may be added where the budget isn't used up
+  pub omission-added : IsAllowed b faults → length faults < b.budget → (n m t : ℕ) → n < b.nodes → m < b.nodes → n ≢ m → 1 ≤ t → t ≤ b.last_omission
+      → Supports w faults reach (Omit n m t) → CanAdd b faults (Omit n m t)
+  omission-added allowed few n m t sender receiver apart first last h =
+      can_add b faults (Omit n m t) allowed few (sender, receiver, apart, first, last)
+      (λ c. both_ways (set_omits faults n m t) h.1.2.kept (contains-omitted faults n m t c)) tt
+
+-- a table's entries, one more
+pub table-more : {X : Type 0} (Q : ℕ → X → Type 0) (table : List X) (d : X) (k : ℕ) (value : X) → k < length table → Q k value
+    → ((n : ℕ) → n < k → Q n (get_or table n d)) → (n : ℕ) → n < k + 1 → Q n (get_or (slice_set table k value) n d)
+table-more Q table d k value inside is before n below = elim (cases_lt n k) [
+  | inl early ↦ subst (Q n) (sym (get_or-set_other table k n value d (λ e. omega (arith, e, early)))) (before n early)
+  | inr late ↦
+      let same : k ≡ n = omega (arith, below, late) in
+      subst (λ m. Q m (get_or (slice_set table k value) m d)) same (subst (Q k) (sym (get_or-set_same table k value d inside)) is)
+]

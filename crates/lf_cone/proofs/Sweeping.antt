@@ -1,11 +1,11 @@
 -- How a reach grows to the least one that keeps to itself.
-use Rattle.std.proofs.Common.{◌≡◌, ◌≢◌, ℕ, zero, suc, ◌+◌, ◌-◌, ◌<◌, ◌≤◌, List, length, get_or, refl, sym, ap, ◌∙◌, inl, inr, arith, subst, max}
+use Rattle.std.proofs.Common.{◌≡◌, ◌≢◌, ℕ, suc, ◌+◌, ◌<◌, ◌≤◌, List, length, get_or, refl, sym, ◌∙◌, inl, inr, arith, subst, max}
 use Rattle.std.specs.Prelude.{◌⊎◌, slice_set}
 use Rattle.std.proofs.lemmas.Bool.{cases_lt, cases_eq}
 use Rattle.std.proofs.lemmas.List.{get_or-set_other, get_or-set_same}
 use Rattle.std.proofs.Math.ListN.{length-set}
-use Rattle.lf_cone.specs.Cones.{IsReachOf, IsAtMost}
-use Rattle.lf_cone.specs.Sweeps.{IsRaised, SomeBelow, KeepsTo, RestsAt, IsLeastFrom, IsSweptTo}
+use Rattle.lf_cone.specs.Cones.{IsReachOf}
+use Rattle.lf_cone.specs.Sweeps.{IsRaised, SomeBelow, RestsAt, IsLeastFrom, IsSweptTo}
 
 -- nothing is raised
 pub raised-not : (P : ℕ → ℕ → Type 0) (r : List ℕ) → ((n t : ℕ) → P n t → t ≤ get_or r n 0) → IsRaised P r r
@@ -71,6 +71,10 @@ raised-more Q i a b c first second =
 pub raised-pass : (Q : ℕ → ℕ → ℕ → Type 0) (i : ℕ) (a b : List ℕ) → IsRaised (SomeBelow Q i) a b → ((n t : ℕ) → Q i n t → ⊥)
     → IsRaised (SomeBelow Q (i + 1)) a b
 raised-pass Q i a b first none = raised-more Q i a b b first (raised-not (Q i) b (λ n t q. absurd (none n t q)))
+
+pub raised-enough : (Q : ℕ → ℕ → ℕ → Type 0) (i : ℕ) (a b : List ℕ) → IsRaised (SomeBelow Q i) a b → ((n t : ℕ) → Q i n t → t ≤ get_or b n 0)
+    → IsRaised (SomeBelow Q (i + 1)) a b
+raised-enough Q i a b first enough = raised-more Q i a b b first (raised-not (Q i) b enough)
 
 module _ (RestsOn : ℕ → ℕ → ℕ → ℕ → Type 0) (nodes horizon : ℕ)
     (node : (n t m v : ℕ) → RestsOn n t m v → m < nodes) (later : (n t m v : ℕ) → RestsOn n t m v → t < v) where

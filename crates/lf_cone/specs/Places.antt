@@ -1,12 +1,12 @@
 -- The places of faults in their order, and how a list of them is gathered place by place. This page is about inner functions.
-use Rattle.std.specs.Prelude.{◌≡◌, ◌↔◌, ℕ, ◌+◌, ◌-◌, ◌*◌, ◌<◌, ◌≤◌, Bool, true, false, List, slice_index_or}
+use Rattle.std.specs.Prelude.{◌≡◌, ◌↔◌, ℕ, ◌+◌, ◌-◌, ◌*◌, ◌<◌, ◌≤◌, Bool, true, false, List, slice_index_or, slice_index, min, IsSome}
 use Rattle.std.specs.List.{Contains}
 use Rattle.lf_faults.specs.declared.fault.Parts.{Parts}
 use Rattle.lf_faults.specs.declared.fault.Parts.TheVariants.{Omit, Crash, Pause}
 use Rattle.lf_faults.specs.Faults.{IsFault, IsAscending, step_of}
 use Rattle.lf_faults.specs.declared.spec.Bounds.{Bounds}
 use Rattle.lf_faults.specs.Allowed.{CanAdd}
-use Rattle.lf_sim.specs.Runs.{World}
+use Rattle.lf_sim.specs.Runs.{World, sent}
 use Rattle.lf_cone.specs.Cones.{IsLive}
 
 -- the place of a fault among those of its step: 64 omissions, 8 crashes, 8 pauses
@@ -28,9 +28,18 @@ pub record IsGathered (P : Parts → Type 0) (place : ℕ) (faults : List Parts)
 abbrev pub AreMarks : List Parts → List Bool → Type 0
 AreMarks faults places = (f : Parts) → IsFault f → ((slice_index_or places (place_of f) false ≡ true) ↔ Contains faults f)
 
--- the fault may be added, and isn't excluded
-abbrev pub MayTry : Bounds → List Parts → List Parts → Parts → Type 0
-MayTry b faults excluded f = (¬ Contains excluded f) × CanAdd b faults f
+-- by node, the last step within a reach that is at most the horizon
+abbrev pub AreEnds : List ℕ → ℕ → List ℕ → Type 0
+AreEnds reach horizon ends = (n : ℕ) → n < 8 → slice_index ends n ≡ min (slice_index reach n) horizon
+
+-- by receiver, whether a note to it was sent by `from` at t
+abbrev pub AreSent : {State Note Fact : Type 0} → World State Note Fact → List Parts → ℕ → ℕ → List Bool → Type 0
+AreSent w faults from t table = (to : ℕ) → to < 8 → ((slice_index_or table to false ≡ true) ↔ IsSome (sent w faults from to t))
+
+-- by node, whether a crash of it may be added, and whether a pause may
+pub record IsRoom (b : Bounds) (faults : List Parts) (crashes pauses : List Bool) : Type 0 where
+  pub crash : (n : ℕ) → n < b.nodes → ((slice_index_or crashes n false ≡ true) ↔ CanAdd b faults (Crash n 1))
+  pub pause : (n : ℕ) → n < b.nodes → ((slice_index_or pauses n false ≡ true) ↔ CanAdd b faults (Pause n 1))
 
 -- n is up at a step within the reach, from one step on and before another
 abbrev pub LivesBetween : {State Note Fact : Type 0} → World State Note Fact → List Parts → List ℕ → ℕ → ℕ → ℕ → Type 0

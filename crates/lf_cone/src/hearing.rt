@@ -122,7 +122,7 @@ fn heard_by<M: Machine>(
     for slot in setting.arriving(to, step) {
         let from = u32::from(slot.from);
         let sent = u32::from(slot.sent);
-        if sends(setting, effects, from, to, sent) {
+        if reach.at(from) < sent && sends(setting, effects, from, to, sent) {
             reach = reach.raised(from, sent);
         }
     }

@@ -7,6 +7,7 @@ mod marks;
 mod points;
 mod promises;
 mod required;
+mod room;
 
 pub use delays::cone;
 pub use hearing::{is_closed, sharp};

@@ -1,7 +1,6 @@
 //! Which faults are in a list, as a table.
 
-ghost use Rattle.std.specs.Prelude.{◌≡◌, ◌<◌, ◌↔◌, IsTrue, length, false, replicate};
-ghost use Rattle.std.specs.List.{Contains};
+ghost use Rattle.std.specs.Prelude.{◌≡◌, ◌<◌, length, false, replicate, slice_index_or};
 ghost use Rattle.lf_faults.specs.Faults.{IsFault};
 ghost use Rattle.lf_cone.specs.Places.{place_of, AreMarks};
 
@@ -27,13 +26,12 @@ impl<'a> Marks<'a> {
         Marks { faults, places }
     }
 
-    /// Whether the fault is one of them.
-    pub(crate) fn has(&self, fault: &Fault) -> bool
-        requires { AreMarks self.now.faults.now self.now.places }
-        ensures value { IsTrue result ↔ Contains self.now.faults.now fault.now }
-        ensures in_range { IsFault fault.now }
+    /// Whether the fault at a place is one of them.
+    pub(crate) fn at(&self, place: u32) -> bool
+        requires { place < 3840 }
+        ensures { result ≡ slice_index_or self.now.places place false }
     {
-        self.places[place(fault)]
+        self.places[place as usize]
     }
 }
 

@@ -1,27 +1,32 @@
 //! The faults that are to be tried.
 
-ghost use Rattle.std.specs.Prelude.{◌≡◌, ◌≢◌, ℕ, ◌+◌, ◌-◌, ◌*◌, ◌<◌, ◌≤◌, ◌↔◌, true, IsTrue, IsSome, IfOk, OnOk};
+ghost use Rattle.std.specs.Prelude.{◌≡◌, ◌≢◌, ℕ, ◌+◌, ◌-◌, ◌*◌, ◌<◌, ◌≤◌, ◌↔◌, true, IsTrue, IsSome, IfOk, OnOk, length};
 ghost use Rattle.lf_faults.specs.declared.fault.Parts.TheVariants.{Omit, Crash, Pause};
 ghost use Rattle.lf_faults.specs.Faults.{IsFault};
-ghost use Rattle.lf_faults.specs.Allowed.{IsInLimits, IsAllowed};
+ghost use Rattle.lf_faults.specs.Allowed.{IsAllowed};
 ghost use Rattle.lf_sim.specs.Runs.{is_up, sent};
 ghost use Rattle.lf_sim.specs.Settings.{world_of, set_of, IsRun};
 ghost use Rattle.lf_cone.specs.Cones.{IsRequired, AreRequired, Supports};
-ghost use Rattle.lf_cone.specs.Places.{place_of, IsGathered, AreMarks, MayTry, LivesBetween};
+ghost use Rattle.lf_cone.specs.Places.{IsGathered, AreMarks, AreEnds, AreSent, IsRoom, LivesBetween};
 
 use crate::hearing::goes;
 use crate::marks::Marks;
-use lf_faults::{Fault, admits, fits};
+use crate::room::{Room, room_in};
+use lf_faults::{Fault, admits};
 use lf_outcome::Reach;
 use lf_sim::{Effects, Machine, Run, Setting};
 use std::alloc::{AllocError, Global};
 
-/// What the support is looked up in: what the set does, the reach, and which faults are excluded.
+/// What the required edges are looked up in: what the set does, the reach, which faults are excluded, and at which nodes
+/// the bounds leave room for a crash or a pause.
 #[derive(Drop)]
 struct View<'a> {
     effects: Effects,
     reach: Reach,
+    // By node, the last step of the run within the reach.
+    ends: [u32; 8],
     marks: Marks<'a>,
+    room: Room,
 }
 
 /// The required edges of a run within a reach: of the faults that could change what is within it, ascending, those that
@@ -67,7 +72,9 @@ pub fn put_edges<M: Machine>(
     let view = View {
         effects: Effects::new(&set),
         reach: *reach,
+        ends: ends_of(reach, setting.spec.horizon()),
         marks: Marks::new(excluded),
+        room: room_in(&setting.spec, &set),
     };
     for step in 1..setting.spec.horizon() + 1 {
         put_omissions(setting, run, &view, step, found)?;
@@ -89,6 +96,8 @@ fn put_omissions<M: Machine>(
     requires set { view.now.effects.set ≡ set_of run.now }
     requires marks { AreMarks view.now.marks.faults.now view.now.marks.places }
     requires allowed { IsAllowed setting.now.spec view.now.effects.set }
+    requires few { length view.now.effects.set < setting.now.spec.budget }
+    requires ends { AreEnds view.now.reach setting.now.spec.horizon view.now.ends }
     requires first { 1 ≤ step }
     requires last { step ≤ setting.now.spec.horizon }
     requires so_far { IsGathered (IsRequired (world_of setting.now) view.now.effects.set setting.now.spec
@@ -120,18 +129,22 @@ fn put_omissions_of<M: Machine>(
     requires set { view.now.effects.set ≡ set_of run.now }
     requires marks { AreMarks view.now.marks.faults.now view.now.marks.places }
     requires allowed { IsAllowed setting.now.spec view.now.effects.set }
+    requires few { length view.now.effects.set < setting.now.spec.budget }
+    requires ends { AreEnds view.now.reach setting.now.spec.horizon view.now.ends }
     requires from { from < setting.now.spec.nodes }
     requires first { 1 ≤ step }
-    requires last { step ≤ setting.now.spec.horizon }
+    requires last { step ≤ setting.now.spec.last_omission }
     requires up { is_up (world_of setting.now) view.now.effects.set from step ≡ true }
     requires so_far { IsGathered (IsRequired (world_of setting.now) view.now.effects.set setting.now.spec
         view.now.reach view.now.marks.faults.now) ((step - 1) * 80 + from * 8) found.old.items }
     ensures { OnOk result (IsGathered (IsRequired (world_of setting.now) view.now.effects.set setting.now.spec
         view.now.reach view.now.marks.faults.now) ((step - 1) * 80 + (from + 1) * 8) found.new.items) }
 {
-    for to in 0..setting.spec.nodes() {
-        if from != to && is_heard(setting, run, view, from, to, step) {
-            put(setting, view, omission(from, to, step), found)?;
+    let nodes = setting.spec.nodes();
+    let sent = sent_by(setting, run, from, step);
+    for to in 0..nodes {
+        if tries_omission(setting, view, &sent, from, to, step) {
+            found.push(omission(from, to, step))?;
         }
     }
     Ok(())
@@ -146,6 +159,8 @@ fn put_crashes<M: Machine>(
 ) -> Result<(), AllocError>
     requires marks { AreMarks view.now.marks.faults.now view.now.marks.places }
     requires allowed { IsAllowed setting.now.spec view.now.effects.set }
+    requires room { IsRoom setting.now.spec view.now.effects.set view.now.room.crashes view.now.room.pauses }
+    requires ends { AreEnds view.now.reach setting.now.spec.horizon view.now.ends }
     requires first { 1 ≤ step }
     requires last { step ≤ setting.now.spec.horizon }
     requires so_far { IsGathered (IsRequired (world_of setting.now) view.now.effects.set setting.now.spec
@@ -154,8 +169,8 @@ fn put_crashes<M: Machine>(
         view.now.reach view.now.marks.faults.now) ((step - 1) * 80 + 72) found.new.items) }
 {
     for node in 0..setting.spec.nodes() {
-        if lives(setting, view, node, step, setting.spec.horizon() + 1) {
-            put(setting, view, crash(node, step), found)?;
+        if tries_crash(setting, view, node, step) {
+            found.push(crash(node, step))?;
         }
     }
     Ok(())
@@ -170,6 +185,8 @@ fn put_pauses<M: Machine>(
 ) -> Result<(), AllocError>
     requires marks { AreMarks view.now.marks.faults.now view.now.marks.places }
     requires allowed { IsAllowed setting.now.spec view.now.effects.set }
+    requires room { IsRoom setting.now.spec view.now.effects.set view.now.room.crashes view.now.room.pauses }
+    requires ends { AreEnds view.now.reach setting.now.spec.horizon view.now.ends }
     requires first { 1 ≤ step }
     requires last { step ≤ setting.now.spec.horizon }
     requires so_far { IsGathered (IsRequired (world_of setting.now) view.now.effects.set setting.now.spec
@@ -178,14 +195,8 @@ fn put_pauses<M: Machine>(
         view.now.reach view.now.marks.faults.now) (step * 80) found.new.items) }
 {
     for node in 0..setting.spec.nodes() {
-        if lives(
-            setting,
-            view,
-            node,
-            step,
-            step + setting.spec.pause_length(),
-        ) {
-            put(setting, view, pause(node, step), found)?;
+        if tries_pause(setting, view, node, step) {
+            found.push(pause(node, step))?;
         }
     }
     Ok(())
@@ -200,7 +211,7 @@ fn omission(from: u32, to: u32, step: u32) -> Fault
 }
 
 /// The crash of a node at a step.
-fn crash(node: u32, step: u32) -> Fault
+pub(crate) fn crash(node: u32, step: u32) -> Fault
     requires { IsFault (Crash node step) }
     ensures { result ≡ Crash node step }
 {
@@ -208,58 +219,107 @@ fn crash(node: u32, step: u32) -> Fault
 }
 
 /// The pause of a node from a step on.
-fn pause(node: u32, step: u32) -> Fault
+pub(crate) fn pause(node: u32, step: u32) -> Fault
     requires { IsFault (Pause node step) }
     ensures { result ≡ Pause node step }
 {
     Fault::pause(node, step).unwrap()
 }
 
-/// Puts a fault that could change something, unless it is excluded or may not be added.
-fn put<M: Machine>(
+/// Whether the omission in a slot is to be tried: a note in it is heard within the reach, and the omission isn't excluded.
+/// The set doesn't have it, and there is room for one.
+fn tries_omission<M: Machine>(
     setting: &Setting<M>,
     view: &View,
-    fault: Fault,
-    found: &mut Vec<Fault>,
-) -> Result<(), AllocError>
+    sent: &[bool; 8],
+    from: u32,
+    to: u32,
+    step: u32,
+) -> bool
+    requires sent { AreSent (world_of setting.now) view.now.effects.set from step sent.now }
     requires marks { AreMarks view.now.marks.faults.now view.now.marks.places }
     requires allowed { IsAllowed setting.now.spec view.now.effects.set }
-    requires supports { Supports (world_of setting.now) view.now.effects.set view.now.reach fault }
-    requires so_far { IsGathered (IsRequired (world_of setting.now) view.now.effects.set setting.now.spec
-        view.now.reach view.now.marks.faults.now) (place_of fault) found.old.items }
-    ensures { OnOk result (IsGathered (IsRequired (world_of setting.now) view.now.effects.set setting.now.spec
-        view.now.reach view.now.marks.faults.now) (place_of fault + 1) found.new.items) }
-{
-    if may_try(setting, view, &fault) {
-        found.push(fault)?;
-    }
-    Ok(())
-}
-
-/// Whether a fault may be added, and isn't excluded.
-fn may_try<M: Machine>(setting: &Setting<M>, view: &View, fault: &Fault) -> bool
-    requires marks { AreMarks view.now.marks.faults.now view.now.marks.places }
-    requires allowed { IsAllowed setting.now.spec view.now.effects.set }
-    ensures value { IsTrue result ↔ MayTry setting.now.spec view.now.effects.set view.now.marks.faults.now fault.now }
-    ensures in_range { IsFault fault.now }
-    ensures limits { IsInLimits setting.now.spec }
+    requires few { length view.now.effects.set < setting.now.spec.budget }
+    requires ends { AreEnds view.now.reach setting.now.spec.horizon view.now.ends }
+    requires from { from < setting.now.spec.nodes }
+    requires to { to < setting.now.spec.nodes }
+    requires first { 1 ≤ step }
+    requires last { step ≤ setting.now.spec.last_omission }
+    requires up { is_up (world_of setting.now) view.now.effects.set from step ≡ true }
+    ensures { IsTrue result ↔ IsRequired (world_of setting.now) view.now.effects.set setting.now.spec
+        view.now.reach view.now.marks.faults.now (Omit from to step) }
 {
     let _nodes = setting.spec.nodes();
-    let is_excluded = view.marks.has(fault);
-    !is_excluded && fits(&setting.spec, &view.effects.set, fault)
+    if from == to {
+        return false;
+    }
+    if view.marks.at((step - 1) * 80 + (from * 8 + to)) {
+        return false;
+    }
+    is_heard(setting, view, sent, from, to, step)
+}
+
+/// Whether the crash of a node at a step is to be tried.
+fn tries_crash<M: Machine>(setting: &Setting<M>, view: &View, node: u32, step: u32) -> bool
+    requires marks { AreMarks view.now.marks.faults.now view.now.marks.places }
+    requires allowed { IsAllowed setting.now.spec view.now.effects.set }
+    requires room { IsRoom setting.now.spec view.now.effects.set view.now.room.crashes view.now.room.pauses }
+    requires ends { AreEnds view.now.reach setting.now.spec.horizon view.now.ends }
+    requires node { node < setting.now.spec.nodes }
+    requires first { 1 ≤ step }
+    requires last { step ≤ setting.now.spec.horizon }
+    ensures { IsTrue result ↔ IsRequired (world_of setting.now) view.now.effects.set setting.now.spec
+        view.now.reach view.now.marks.faults.now (Crash node step) }
+{
+    let _nodes = setting.spec.nodes();
+    if !view.room.crashes[node as usize] {
+        return false;
+    }
+    if view.marks.at((step - 1) * 80 + (64 + node)) {
+        return false;
+    }
+    lives(setting, view, node, step, setting.spec.horizon() + 1)
+}
+
+/// Whether the pause of a node from a step on is to be tried.
+fn tries_pause<M: Machine>(setting: &Setting<M>, view: &View, node: u32, step: u32) -> bool
+    requires marks { AreMarks view.now.marks.faults.now view.now.marks.places }
+    requires allowed { IsAllowed setting.now.spec view.now.effects.set }
+    requires room { IsRoom setting.now.spec view.now.effects.set view.now.room.crashes view.now.room.pauses }
+    requires ends { AreEnds view.now.reach setting.now.spec.horizon view.now.ends }
+    requires node { node < setting.now.spec.nodes }
+    requires first { 1 ≤ step }
+    requires last { step ≤ setting.now.spec.horizon }
+    ensures { IsTrue result ↔ IsRequired (world_of setting.now) view.now.effects.set setting.now.spec
+        view.now.reach view.now.marks.faults.now (Pause node step) }
+{
+    let _nodes = setting.spec.nodes();
+    if !view.room.pauses[node as usize] {
+        return false;
+    }
+    if view.marks.at((step - 1) * 80 + (72 + node)) {
+        return false;
+    }
+    lives(
+        setting,
+        view,
+        node,
+        step,
+        step + setting.spec.pause_length(),
+    )
 }
 
 /// Whether a note is sent in a slot, and is heard within the reach.
 fn is_heard<M: Machine>(
     setting: &Setting<M>,
-    run: &Run<M>,
     view: &View,
+    sent: &[bool; 8],
     from: u32,
     to: u32,
     step: u32,
 ) -> bool
-    requires run { IsRun (world_of setting.now) run.now }
-    requires set { view.now.effects.set ≡ set_of run.now }
+    requires sent { AreSent (world_of setting.now) view.now.effects.set from step sent.now }
+    requires ends { AreEnds view.now.reach setting.now.spec.horizon view.now.ends }
     requires from { from < setting.now.spec.nodes }
     requires to { to < setting.now.spec.nodes }
     requires apart { from ≢ to }
@@ -268,14 +328,29 @@ fn is_heard<M: Machine>(
     requires up { is_up (world_of setting.now) view.now.effects.set from step ≡ true }
     ensures { IsTrue result ↔ Supports (world_of setting.now) view.now.effects.set view.now.reach (Omit from to step) }
 {
+    let _nodes = setting.spec.nodes();
     let arrival = setting.network.arrival(from, to, step);
-    if view.reach.at(to) < arrival || setting.spec.horizon() < arrival {
+    if view.ends[to as usize] < arrival {
         return false;
     }
-    if !was_sent(setting, run, from, to, step) || view.effects.omits(from, to, step) {
+    if !sent[to as usize] || view.effects.omits(from, to, step) {
         return false;
     }
     goes(setting, &view.effects, to, arrival)
+}
+
+/// By receiver, whether a note to it was sent by a node at a step.
+fn sent_by<M: Machine>(setting: &Setting<M>, run: &Run<M>, from: u32, step: u32) -> [bool; 8]
+    requires run { IsRun (world_of setting.now) run.now }
+    requires from { from < setting.now.spec.nodes }
+    requires last { step ≤ setting.now.spec.horizon }
+    ensures { AreSent (world_of setting.now) (set_of run.now) from step result }
+{
+    let mut sent = [false; 8];
+    for to in 0..8 {
+        sent[to as usize] = was_sent(setting, run, from, to, step);
+    }
+    sent
 }
 
 /// Whether a note was sent in a slot.
@@ -291,16 +366,29 @@ fn was_sent<M: Machine>(setting: &Setting<M>, run: &Run<M>, from: u32, to: u32, 
 
 /// Whether a node is up at a step within the reach, of those from one step on, before another.
 fn lives<M: Machine>(setting: &Setting<M>, view: &View, node: u32, first: u32, end: u32) -> bool
+    requires ends { AreEnds view.now.reach setting.now.spec.horizon view.now.ends }
     requires node { node < setting.now.spec.nodes }
     requires first { 1 ≤ first }
     requires end { end < 100 }
     ensures { IsTrue result ↔ LivesBetween (world_of setting.now) view.now.effects.set view.now.reach node first end }
 {
-    let end = end.min(view.reach.at(node).min(setting.spec.horizon()) + 1);
+    let _nodes = setting.spec.nodes();
+    let end = end.min(view.ends[node as usize] + 1);
     for step in first..end {
         if goes(setting, &view.effects, node, step) {
             return true;
         }
     }
     false
+}
+
+/// By node, the last step up to the horizon that is within a reach, or 0.
+fn ends_of(reach: &Reach, horizon: u32) -> [u32; 8]
+    ensures { AreEnds reach.now horizon result }
+{
+    let mut ends = [0; 8];
+    for node in 0..8 {
+        ends[node as usize] = reach.at(node).min(horizon);
+    }
+    ends
 }

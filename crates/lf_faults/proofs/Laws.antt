@@ -6,7 +6,8 @@ use Rattle.lf_list.proofs.Laws.{each-in}
 use Rattle.lf_faults.specs.declared.fault.Parts.{Parts}
 use Rattle.lf_faults.specs.declared.fault.Parts.TheVariants.{Crash, Pause}
 use Rattle.lf_faults.specs.Faults.{IsFault, is_before, IsAscending, inserted, set_is_before, step_of}
-use Rattle.lf_faults.specs.Allowed.{Bounds, IsInLimits, IsAdmitted, IsAllowed, IsSubset, IsNext, IsFirst, IsWalkFrom, is_crash_of, is_pause_of}
+use Rattle.lf_faults.specs.Allowed.{Bounds, IsInLimits, IsAdmitted, IsAllowed, CanAdd, HasRoom, IsSubset, IsNext, IsFirst, IsWalkFrom}
+use Rattle.lf_faults.specs.Allowed.{is_crash_of, is_pause_of}
 use Rattle.lf_faults.specs.Texts.{spelling}
 use Rattle.lf_faults.proofs.Allowing as allowing
 use Rattle.lf_faults.proofs.Counts as counts
@@ -102,6 +103,27 @@ pub one_pause : (b : Bounds) (fs : List Parts) (n t u : ℕ) → IsAllowed b fs 
 one_pause b fs n t u allowed here there =
     ap step_of (members.counted_once (is_pause_of n) fs (allowed.pause_once n (in_allowed-admitted b fs (Pause n t) allowed here).0)
     (Pause n t) (Pause n u) here there (eq-eqb n n refl) (eq-eqb n n refl))
+
+-- Where the budget isn't used up, a fault of the bounds that isn't there may be added if there is room for it;
+pub can_add : (b : Bounds) (fs : List Parts) (f : Parts) → IsAllowed b fs → length fs < b.budget → IsAdmitted b f → (Contains fs f → ⊥) → HasRoom b fs f
+    → CanAdd b fs f
+can_add b fs f allowed few is none room = (allowing.can_add-iff b fs f allowed is none few).0 room
+
+-- a crash that may be added at one step may be added at each,
+pub any_crash : (b : Bounds) (fs : List Parts) (n t u : ℕ) → IsAllowed b fs → CanAdd b fs (Crash n t) → 1 ≤ u → u ≤ b.horizon → CanAdd b fs (Crash n u)
+any_crash b fs n t u allowed can first last =
+    let room = allowing.room-from_allowed b fs (Crash n t) can.1 in
+    let is = allowing.admitted-from_allowed b fs (Crash n t) can.1 in
+    can_add b fs (Crash n u) allowed (allowing.budget-from_allowed b fs (Crash n t) can.1) (is.0, first, last)
+    (λ c. members.uncounted (is_crash_of n) fs room.0 (Crash n u) c (eq-eqb n n refl)) room
+
+-- and so may a pause
+pub any_pause : (b : Bounds) (fs : List Parts) (n t u : ℕ) → IsAllowed b fs → CanAdd b fs (Pause n t) → 1 ≤ u → u ≤ b.horizon → CanAdd b fs (Pause n u)
+any_pause b fs n t u allowed can first last =
+    let room = allowing.room-from_allowed b fs (Pause n t) can.1 in
+    let is = allowing.admitted-from_allowed b fs (Pause n t) can.1 in
+    can_add b fs (Pause n u) allowed (allowing.budget-from_allowed b fs (Pause n t) can.1) (is.0, first, last)
+    (λ c. members.uncounted (is_pause_of n) fs room.0 (Pause n u) c (eq-eqb n n refl)) room
 
 -- The walk over allowed sets: from each there is one,
 pub walk : (b : Bounds) (here : List Parts) → IsInLimits b → IsAllowed b here → (sets : List (List Parts)) × IsWalkFrom b here sets

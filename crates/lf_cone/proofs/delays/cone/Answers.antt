@@ -1,8 +1,8 @@
-use Rattle.std.proofs.Common.{◌≡◌, ◌+◌, ◌-◌, ◌<◌, ◌≤◌, suc, sym, ◌∙◌, arith, subst, refl, ℕ, List, replicate, length}
+use Rattle.std.proofs.Common.{◌≡◌, ◌+◌, ◌-◌, ◌≤◌, suc, sym, ◌∙◌, arith, subst, refl}
 use Rattle.lf_latency.specs.Links.{least_of}
 use Rattle.lf_sim.specs.Settings.{world_of, set_of}
-use Rattle.lf_cone.specs.Cones.{IsReachOf, IsCone}
-use Rattle.lf_cone.specs.Sweeps.{IsSweptTo, IsRaised, SomeBelow, RestsAt, RestsByLeast, AreInside, PointAt}
+use Rattle.lf_cone.specs.Cones.{IsCone}
+use Rattle.lf_cone.specs.Sweeps.{IsSweptTo, IsRaised, SomeBelow, RestsAt, RestsByLeast}
 use Rattle.lf_cone.proofs.Covering.{inside-up, start-form}
 use Rattle.lf_cone.proofs.Coning.{later-least, cone_is, cone_closed}
 use Rattle.lf_cone.proofs.Sweeping.{swept_none, swept_more, swept_all}

@@ -1,6 +1,6 @@
-use Rattle.std.proofs.Common.{◌<◌, ◌≤◌, arith, subst, sym}
+use Rattle.std.proofs.Common.{arith}
 use Rattle.lf_latency.specs.Links.{least_of}
-use Rattle.lf_cone.specs.Sweeps.{IsRaised, SomeBelow, RestsAt, RestsByLeast}
+use Rattle.lf_cone.specs.Sweeps.{RestsAt, RestsByLeast}
 use Rattle.lf_cone.proofs.Sweeping.{raised-more, raised-pass, raised-same}
 use Rattle.lf_cone.proofs.delays.told.Goals as goal
 use Rattle.lf_cone.proofs.delays.told.Goals.{then-step-at, else-step-at}

@@ -1,9 +1,9 @@
-use Rattle.std.proofs.Common.{◌≡◌, ◌<◌, ◌≤◌, arith, subst, sym, ◌∙◌, true, false}
+use Rattle.std.proofs.Common.{arith, sym, ◌∙◌}
 use Rattle.std.proofs.lemmas.Bool.{both_ways}
 use Rattle.lf_sim.specs.Runs.{is_up}
 use Rattle.lf_sim.specs.Settings.{world_of}
 use Rattle.lf_cone.specs.Cones.{CanHear}
-use Rattle.lf_cone.specs.Sweeps.{IsRaised, SomeBelow, RestsAt}
+use Rattle.lf_cone.specs.Sweeps.{RestsAt}
 use Rattle.lf_cone.proofs.Sweeping.{raised-more, raised-pass, raised-same}
 use Rattle.lf_cone.proofs.hearing.heard.Goals as goal
 use Rattle.lf_cone.proofs.hearing.heard.Goals.{then-step-at+then-goes, else-step-at, else-step-at-via-then-step-at+else-goes, else-step-at-via-else-step-at}

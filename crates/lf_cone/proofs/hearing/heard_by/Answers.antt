@@ -1,11 +1,11 @@
-use Rattle.std.proofs.Common.{◌≡◌, ◌<◌, ◌≤◌, get_or, length, sym, ◌∙◌, arith, subst, true, false, List}
+use Rattle.std.proofs.Common.{◌<◌, ◌≤◌, get_or, length, sym, ◌∙◌, arith, subst}
 use Rattle.std.proofs.lemmas.Bool.{both_ways}
 use Rattle.lf_sim.specs.Settings.{world_of}
-use Rattle.lf_cone.specs.Sweeps.{IsRaised, MaySend, SomeBelow, HeardAt}
-use Rattle.lf_cone.proofs.HearingLemmas.{blank, slot_is, heard_more, heard_pass, heard_all}
+use Rattle.lf_cone.specs.Sweeps.{IsRaised, MaySend}
+use Rattle.lf_cone.proofs.HearingLemmas.{blank, slot_is, heard_more, heard_pass, heard_within, heard_all}
 use Rattle.lf_cone.proofs.Sweeping.{raised-one}
 use Rattle.lf_cone.proofs.hearing.heard_by.Goals as goal
-use Rattle.lf_cone.proofs.hearing.heard_by.Goals.{then-sends, else-sends}
+use Rattle.lf_cone.proofs.hearing.heard_by.Goals.{then-at-sent+then-sends, else-at-sent, else-at-sent-via-then-at-sent+else-sends, else-at-sent-via-else-at-sent}
 
 pub sends-requires-clause-from : goal.sends-requires-clause-from
 sends-requires-clause-from g c =
@@ -58,21 +58,28 @@ loop-slot-preserved g c =
     c.loop-slot-test.true in
     let slot = get_or slots i (blank w F) in
     let inside : slot.from < length c.loop-slot.reach = omega (arith, known.sender, s.nodes_agree, c.loop-slot.invariant.count, c.requires.count) in
-    elim c.if-sends.branch [
-      | then-sends b ↦
+    elim c.if-at-sent.branch [
+      | then-at-sent+then-sends b ↦
           let may : MaySend w F slot.from c.args.to slot.sent =
           subst (λ k. MaySend w F k c.args.to slot.sent) c.from-from.ensures (subst (λ k. MaySend w F c.from-from.result c.args.to k) c.from-sent.ensures
-          (c.sends.ensures.value.0 b.if-sends.true)) in
+          (b.sends.ensures.value.0 b.if-sends.true)) in
           rw b.reach-is (heard_more w F c.args.to c.args.step i slots c.args.reach c.loop-slot.reach b.raised-reach.result c.requires.up known may
           c.loop-slot.invariant
           (subst (IsRaised _ c.loop-slot.reach) (sym b.raised-reach.ensures)
           (rw (c.from-from.ensures, c.from-sent.ensures) (raised-one c.loop-slot.reach slot.from slot.sent inside))))
-      | else-sends b ↦
-          rw b.reach-is (heard_pass w F c.args.to c.args.step i slots c.args.reach c.loop-slot.reach
-          (λ may. both_ways c.sends.result b.if-sends.false (c.sends.ensures.value.1
-          (subst (λ k. MaySend w F k c.args.to c.from-sent.result) (sym c.from-from.ensures) (subst (λ k. MaySend w F slot.from c.args.to k)
-          (sym c.from-sent.ensures) may))))
-          c.loop-slot.invariant)
+      | else-at-sent b ↦ elim b.else-at-sent.branch [
+        | else-at-sent-via-then-at-sent+else-sends d ↦
+            rw b.reach-is (heard_pass w F c.args.to c.args.step i slots c.args.reach c.loop-slot.reach
+            (λ may. both_ways d.sends.result d.if-sends.false (d.sends.ensures.value.1
+            (subst (λ k. MaySend w F k c.args.to c.from-sent.result) (sym c.from-from.ensures) (subst (λ k. MaySend w F slot.from c.args.to k)
+            (sym c.from-sent.ensures) may))))
+            c.loop-slot.invariant)
+        | else-at-sent-via-else-at-sent d ↦
+            rw b.reach-is (heard_within w F c.args.to c.args.step i slots c.args.reach c.loop-slot.reach
+            (subst (λ k. slot.sent ≤ get_or c.loop-slot.reach k 0) c.from-from.ensures (omega
+            (arith, d.if-at-sent.false, c.at.ensures.value, c.from-sent.ensures)))
+            c.loop-slot.invariant)
+      ]
     ]
 
 pub returns : goal.returns

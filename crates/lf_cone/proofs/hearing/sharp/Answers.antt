@@ -1,4 +1,4 @@
-use Rattle.std.proofs.Common.{◌≡◌, ◌≤◌, sym, ◌∙◌, subst, refl, arith}
+use Rattle.std.proofs.Common.{sym, ◌∙◌, subst, arith}
 use Rattle.lf_sim.specs.Settings.{world_of, set_of}
 use Rattle.lf_cone.specs.Cones.{CanHear, IsReachOf}
 use Rattle.lf_cone.specs.Sweeps.{IsLeastFrom}

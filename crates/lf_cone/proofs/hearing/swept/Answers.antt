@@ -1,4 +1,4 @@
-use Rattle.std.proofs.Common.{◌≡◌, ◌+◌, ◌-◌, ◌<◌, ◌≤◌, suc, sym, ◌∙◌, arith, subst, ℕ}
+use Rattle.std.proofs.Common.{◌≡◌, ◌+◌, ◌-◌, suc, arith, subst}
 use Rattle.lf_sim.specs.Settings.{world_of}
 use Rattle.lf_cone.specs.Cones.{CanHear}
 use Rattle.lf_cone.specs.Sweeps.{IsSweptTo, IsRaised, SomeBelow, RestsAt, IsLeastFrom}

@@ -1,4 +1,4 @@
-use Rattle.std.proofs.Common.{ℕ, ◌≡◌, ◌<◌, ◌+◌, Bool, true, false, replicate, take, length, get_or, sym, ◌∙◌, subst, arith, refl}
+use Rattle.std.proofs.Common.{◌<◌, ◌+◌, true, false, replicate, take, length, sym, ◌∙◌, subst, arith, refl}
 use Rattle.std.specs.Prelude.{slice_set}
 use Rattle.std.proofs.lemmas.List.{take_all}
 use Rattle.std.proofs.Math.ListN.{length-set}

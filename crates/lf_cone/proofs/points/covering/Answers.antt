@@ -1,4 +1,4 @@
-use Rattle.std.proofs.Common.{ℕ, ◌<◌, ◌≤◌, length, arith, get_or, subst, sym}
+use Rattle.std.proofs.Common.{ℕ, ◌<◌, length, arith, get_or, subst, sym}
 use Rattle.std.proofs.lemmas.List.{length-replicate}
 use Rattle.lf_cone.specs.Sweeps.{IsRaised}
 use Rattle.lf_cone.proofs.Covering.{blank, point_in, covering_more}

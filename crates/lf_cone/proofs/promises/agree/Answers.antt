@@ -1,5 +1,4 @@
 use Rattle.lf_sim.specs.Settings.{world_of, set_of}
-use Rattle.std.proofs.Common.{◌≤◌, arith}
 use Rattle.lf_cone.proofs.Laws.{agrees, still_reaches}
 use Rattle.lf_cone.proofs.promises.agree.Goals as goal
 

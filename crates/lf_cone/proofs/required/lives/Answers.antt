@@ -1,4 +1,4 @@
-use Rattle.std.proofs.Common.{◌≤◌, ◌<◌, ◌≡◌, arith, true}
+use Rattle.std.proofs.Common.{arith}
 use Rattle.std.proofs.lemmas.Bool.{false≢true}
 use Rattle.lf_sim.specs.Settings.{world_of}
 use Rattle.lf_sim.proofs.Laws.{IsRunning-up}
@@ -15,9 +15,7 @@ returns g c =
             h.2,
             h.3.1,
             r.last,
-            c.at.ensures.value,
-            c.horizon.ensures.value,
-            c.min.ensures,
+            c.requires.ends c.args.node (omega (arith, c.requires.node, c.nodes-nodes.ensures.limits.nodes.1)),
             c.min-end.ensures,
             c.loop-step-test.false,
           )) h.3.0),

@@ -1,8 +1,8 @@
-use Rattle.std.proofs.Common.{[], ◌≡◌, ◌≤◌, ◌+◌, ◌-◌, ◌*◌, ℕ, true, false, length, sym, ◌∙◌, subst, arith}
-use Rattle.std.proofs.lemmas.Bool.{both_ways, iff_false}
+use Rattle.std.proofs.Common.{[], ◌≤◌, ◌-◌, sym, ◌∙◌, subst, arith}
+use Rattle.std.proofs.lemmas.Bool.{iff_false}
 use Rattle.lf_sim.specs.Settings.{world_of, set_of}
 use Rattle.lf_cone.specs.Cones.{AreRequired}
-use Rattle.lf_cone.proofs.RequiredLemmas.{moved, none_allowed, none_left, end_steps}
+use Rattle.lf_cone.proofs.RequiredLemmas.{none_allowed, none_left, end_steps}
 use Rattle.lf_cone.proofs.required.put_edges.Goals as goal
 
 pub returns-then-not-admits : goal.returns-then-not-admits

@@ -1,11 +1,5 @@
-use Rattle.std.proofs.Common.{ℕ, ◌≡◌, ◌≢◌, ◌≤◌, ◌<◌, ◌+◌, ◌-◌, ◌*◌, sym, ◌∙◌, subst, true, false, arith}
-use Rattle.std.proofs.lemmas.Bool.{both_ways}
-use Rattle.lf_faults.specs.declared.fault.Parts.TheVariants.{Omit, Crash, Pause}
-use Rattle.lf_faults.specs.Faults.{IsFault}
+use Rattle.std.proofs.Common.{◌<◌, sym, ◌∙◌, arith}
 use Rattle.lf_sim.specs.Settings.{world_of}
-use Rattle.lf_sim.specs.Runs.{is_up}
-use Rattle.lf_cone.specs.Cones.{Supports, IsRequired}
-use Rattle.lf_cone.specs.Places.{place_of, IsGathered}
 use Rattle.lf_cone.proofs.RequiredLemmas.{skip_sender, end_senders, skip_omissions}
 use Rattle.lf_cone.proofs.required.put_omissions.Goals as goal
 use Rattle.lf_cone.proofs.required.put_omissions.Goals.{then-goes+in_ok-put_omissions_of, else-goes}

@@ -1,4 +1,4 @@
-use Rattle.std.proofs.Common.{◌≡◌, sym, ◌∙◌, ap}
+use Rattle.std.proofs.Common.{sym, ◌∙◌, ap}
 use Rattle.std.specs.Option.{is_some}
 use Rattle.lf_sim.specs.Settings.{world_of}
 use Rattle.lf_cone.proofs.required.was_sent.Goals as goal
