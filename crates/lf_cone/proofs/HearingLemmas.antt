@@ -1,23 +1,20 @@
 -- What a node hears, slot by slot.
-use Rattle.std.proofs.Common.{◌≡◌, ℕ, suc, [], ◌∷◌, inl, inr, replicate, ◌+◌, ◌<◌, ◌≤◌, true, List, length, get_or, refl, sym, ap}
+use Rattle.std.proofs.Common.{◌≡◌, ℕ, suc, [], ◌∷◌, inl, inr, replicate, ◌<◌, ◌≤◌, List, length, get_or, refl, sym}
 use Rattle.std.proofs.Common.{◌∙◌, arith, subst}
 use Rattle.std.specs.Prelude.{not, ◌&&◌}
-use Rattle.std.specs.List.{All, Contains}
+use Rattle.std.specs.List.{All}
 use Rattle.std.proofs.lemmas.Bool.{cases_lt, lt-ltb, le-leb}
 use Rattle.std.proofs.lemmas.List.{get_or_default}
 use Rattle.std.proofs.Math.ListN.{get_or-eq_default}
 use Rattle.lf_faults.specs.declared.fault.Parts.{Parts}
 use Rattle.lf_faults.specs.Faults.{set_crashes, set_pauses}
-use Rattle.lf_sim.specs.declared.schedule.Slot.{Slot}
 use Rattle.lf_sim.specs.Points.{ArrivesLater}
 use Rattle.lf_sim.specs.Runs.{World, is_up}
-use Rattle.lf_sim.specs.Schedules.{IsArriving}
 use Rattle.lf_sim.proofs.Laws.{IsRunning-up}
 use Rattle.lf_outcome.specs.declared.point.Point.{Point}
 use Rattle.lf_cone.specs.Cones.{CanHear, IsReachOf, IsClosed, IsSharp}
-use Rattle.lf_cone.specs.Sweeps.{IsRaised, SomeBelow, HeardAt, MaySend, KeepsTo, IsLeastFrom, PointAt}
+use Rattle.lf_cone.specs.Sweeps.{IsRaised, SomeBelow, KeepsTo, IsLeastFrom, PointAt}
 use Rattle.lf_cone.proofs.Covering.{start-covers, start-smallest}
-use Rattle.lf_cone.proofs.Sweeping.{raised-more, raised-pass, raised-enough, raised-same}
 
 -- lists of numbers that are the same at each place
 pub same-steps : (xs ys : List ℕ) → length xs ≡ length ys → ((n : ℕ) → get_or xs n 0 ≡ get_or ys n 0) → xs ≡ ys
@@ -57,68 +54,11 @@ module _ {State Note Fact : Type 0} (w : World State Note Fact) (faults : List P
       let s = IsRunning-up w faults m u h.hears in
       omega (arith, later n m t r.node s.node h.apart r.first r.last, h.arrives)
 
-  -- the slots of what arrives are all that can be heard
-  pub heard-slot : ArrivesLater w → (n t m u : ℕ) → CanHear w faults n t m u → IsArriving w.arrival w.rules.nodes m u (record { from = n; sent = t })
-  heard-slot later n t m u h =
-      let r = IsRunning-up w faults n t h.sends in
-      record { sender = r.node; apart = h.apart; first = r.first; early = heard-later later n t m u h; arrives = h.arrives }
+  pub speaker : (n t m u : ℕ) → CanHear w faults n t m u → n < w.rules.nodes
+  speaker n t m u h = (IsRunning-up w faults n t h.sends).node
 
-  abbrev pub blank : Slot
-  blank = record { from = 0; sent = 0 }
-
-  -- as the slots of a step are told
-  abbrev pub Slots : ℕ → ℕ → ℕ → List Slot → Type 0
-  Slots nodes m u slots = (s : Slot) → (Contains slots s → IsArriving w.arrival nodes m u s) × (IsArriving w.arrival nodes m u s → Contains slots s)
-
-  pub slot_is : (nodes m u i : ℕ) (slots : List Slot) → nodes ≡ w.rules.nodes → Slots nodes m u slots → i < length slots
-      → IsArriving w.arrival w.rules.nodes m u (get_or slots i blank)
-  slot_is nodes m u i slots e h l =
-      subst (λ k. IsArriving w.arrival k m u (get_or slots i blank)) e ((h (get_or slots i blank)).0 (
-        i,
-        l,
-        get_or_default slots i
-            (get_or slots i blank) blank l,
-      ))
-
-  -- a slot more
-  pub heard_more : (m u i : ℕ) (slots : List Slot) (a b c : List ℕ) → is_up w faults m u ≡ true
-      → IsArriving w.arrival w.rules.nodes m u (get_or slots i blank)
-      → MaySend w faults (get_or slots i blank).from m (get_or slots i blank).sent
-      → IsRaised (SomeBelow (HeardAt w faults m u slots) i) a b
-      → IsRaised (λ n t. (n ≡ (get_or slots i blank).from) × (t ≡ (get_or slots i blank).sent)) b c
-      → IsRaised (SomeBelow (HeardAt w faults m u slots) (i + 1)) a c
-  heard_more m u i slots a b c up slot may first second =
-      let s = get_or slots i blank in
-      let can : CanHear w faults s.from s.sent m u = record { apart = slot.apart; sends = may.0; arrives = slot.arrives; kept = may.1; hears = up } in
-      raised-more (HeardAt w faults m u slots) i a b c first
-      (raised-same _ (HeardAt w faults m u slots i) b c (λ n t h. (sym h.0, sym h.1))
-      (λ n t h. (sym h.0, sym h.1, subst (λ k. CanHear w faults k t m u) (sym h.0) (subst (λ k. CanHear w faults s.from k m u) (sym h.1) can)))
-      second)
-
-  pub heard_pass : (m u i : ℕ) (slots : List Slot) (a b : List ℕ) → (MaySend w faults (get_or slots i blank).from m (get_or slots i blank).sent → ⊥)
-      → IsRaised (SomeBelow (HeardAt w faults m u slots) i) a b → IsRaised (SomeBelow (HeardAt w faults m u slots) (i + 1)) a b
-  heard_pass m u i slots a b none first =
-      raised-pass (HeardAt w faults m u slots) i a b first
-      (λ n t h. none (rw (h.0, h.1) (h.2.sends, h.2.kept)))
-
-  pub heard_within : (m u i : ℕ) (slots : List Slot) (a b : List ℕ) → (get_or slots i blank).sent ≤ get_or b (get_or slots i blank).from 0
-      → IsRaised (SomeBelow (HeardAt w faults m u slots) i) a b → IsRaised (SomeBelow (HeardAt w faults m u slots) (i + 1)) a b
-  heard_within m u i slots a b near first =
-      raised-enough (HeardAt w faults m u slots) i a b first (λ n t h. subst (λ k. t ≤ get_or b k 0) h.0 (subst (λ k. k ≤ get_or b
-      (get_or slots i blank).from 0) h.1 near))
-
-  pub heard_all : ArrivesLater w → (nodes m u i : ℕ) (slots : List Slot) (a b : List ℕ) → nodes ≡ w.rules.nodes → Slots nodes m u slots
-      → length slots ≤ i → i ≤ length slots
-      → IsRaised (SomeBelow (HeardAt w faults m u slots) i) a b → IsRaised (λ n t. CanHear w faults n t m u) a b
-  heard_all later nodes m u i slots a b e members long short h =
-      raised-same (SomeBelow (HeardAt w faults m u slots) i) _ a b
-      (λ n t can.
-      let c = (members (record { from = n; sent = t })).1 (subst (λ k. IsArriving w.arrival k m u (record { from = n; sent = t })) (sym e)
-      (heard-slot later n t m u can)) in
-      let at : get_or slots c.0 blank ≡ record { from = n; sent = t } = get_or_default slots c.0 blank (record { from = n; sent = t }) c.1 ∙ c.2 in
-      (c.0, omega (arith, c.1, long), (ap (λ (s : Slot). s.from) at, ap (λ (s : Slot). s.sent) at, can)))
-      (λ n t q. q.2.2)
-      h
+  pub speaks_from : (n t m u : ℕ) → CanHear w faults n t m u → 1 ≤ t
+  speaks_from n t m u h = (IsRunning-up w faults n t h.sends).first
 
   -- the least that keeps to itself is the least closed one
   pub closed-keeps : (reach : List ℕ) → IsReachOf w.rules.nodes w.horizon reach → KeepsTo (CanHear w faults) reach → IsClosed w faults reach

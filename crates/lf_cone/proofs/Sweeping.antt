@@ -5,7 +5,7 @@ use Rattle.std.proofs.lemmas.Bool.{cases_lt, cases_eq}
 use Rattle.std.proofs.lemmas.List.{get_or-set_other, get_or-set_same}
 use Rattle.std.proofs.Math.ListN.{length-set}
 use Rattle.lf_cone.specs.Cones.{IsReachOf}
-use Rattle.lf_cone.specs.Sweeps.{IsRaised, SomeBelow, RestsAt, IsLeastFrom, IsSweptTo}
+use Rattle.lf_cone.specs.Sweeps.{IsRaised, SomeBelow, RestsAt, IsLeastFrom, IsSweptTo, IsDone, IsSweptFrom}
 
 -- nothing is raised
 pub raised-not : (P : ℕ → ℕ → Type 0) (r : List ℕ) → ((n t : ℕ) → P n t → t ≤ get_or r n 0) → IsRaised P r r
@@ -131,6 +131,60 @@ module _ (RestsOn : ℕ → ℕ → ℕ → ℕ → Type 0) (nodes horizon : ℕ
   swept_all start reach swept = record {
     form = swept.form;
     keeps = λ n t m v on near. swept.keeps n t m v (omega (arith, later n t m v on)) on near;
+    covers = swept.covers;
+    smallest = swept.smallest;
+  }
+
+  -- a step of the sweep by what is done at a step
+  pub done_more : (sender : (n t m v : ℕ) → RestsOn n t m v → n < nodes) (start : List ℕ) (u : ℕ) (a b : List ℕ) → suc u ≤ horizon
+      → IsSweptFrom RestsOn nodes horizon start (suc u) a
+      → IsRaised (SomeBelow (IsDone RestsOn a (suc u)) nodes) a b → IsSweptFrom RestsOn nodes horizon start u b
+  done_more sender start u a b inside swept raised = record {
+    form = record {
+      count = raised.count ∙ swept.form.count;
+      within = λ n. elim (raised.only n) [
+        | inl same ↦ omega (arith, same, swept.form.within n)
+        | inr q ↦ omega (arith, q.2.1, inside)
+      ];
+    };
+    keeps = λ n t m v late on near.
+        let was : v ≤ get_or a m 0 = was_at v m (omega (arith, late, later n t m v on)) near in
+        elim (cases_lt (suc u) t) [
+          | inl after ↦ omega (arith, swept.keeps n t m v after on was, raised.keeps n)
+          | inr now ↦
+              let is : t ≡ suc u = omega (arith, now, late) in
+              raised.takes n t (n, sender n t m v on, (refl, is, m, v, was, subst (λ x. RestsOn n x m v) is on))
+        ];
+    covers = λ n. omega (arith, swept.covers n, raised.keeps n);
+    smallest = λ other form keeps covers n. elim (raised.only n) [
+      | inl same ↦ omega (arith, same, swept.smallest other form keeps covers n)
+      | inr q ↦
+          let at : suc u ≤ get_or other q.0 0 = keeps q.0 (suc u) q.2.2 q.2.3 q.2.5
+          (omega (arith, q.2.4, swept.smallest other form keeps covers q.2.2)) in
+          subst (λ k. get_or b n 0 ≤ get_or other k 0) (sym q.2.0) (omega (arith, at, q.2.1))
+    ];
+  }
+    where
+      was_at : (v m : ℕ) → suc u < v → v ≤ get_or b m 0 → v ≤ get_or a m 0
+      was_at v m late near =
+          elim (raised.only m) [
+            | inl same ↦ omega (arith, same, near)
+            | inr q ↦ absurd (omega (arith, q.2.1, near, late))
+          ]
+
+  pub done_none : (start : List ℕ) → IsReachOf nodes horizon start → IsSweptFrom RestsOn nodes horizon start horizon start
+  done_none start form = record {
+    form = form;
+    keeps = λ n t m v late on near. absurd (omega (arith, late, near, form.within m, later n t m v on));
+    covers = λ n. omega arith;
+    smallest = λ other is keeps covers. covers;
+  }
+
+  pub done_all : (start reach : List ℕ) → ((n t m v : ℕ) → RestsOn n t m v → 1 ≤ t) → IsSweptFrom RestsOn nodes horizon start 0 reach
+      → IsLeastFrom RestsOn nodes horizon start reach
+  done_all start reach first swept = record {
+    form = swept.form;
+    keeps = λ n t m v on near. swept.keeps n t m v (first n t m v on) on near;
     covers = swept.covers;
     smallest = swept.smallest;
   }

@@ -1,10 +1,8 @@
 -- How a reach grows, step by step. This page is about inner functions.
-use Rattle.std.specs.Prelude.{◌≡◌, ◌≢◌, ◌⊎◌, true, false, ℕ, ◌+◌, ◌<◌, ◌≤◌, List, length, slice_index, slice_index_or}
+use Rattle.std.specs.Prelude.{◌≡◌, ◌≢◌, ◌⊎◌, ℕ, ◌+◌, ◌<◌, ◌≤◌, List, length, slice_index, slice_index_or}
 use Rattle.std.specs.List.{Contains}
 use Rattle.lf_faults.specs.declared.fault.Parts.{Parts}
-use Rattle.lf_sim.specs.declared.schedule.Slot.{Slot}
-use Rattle.lf_faults.specs.Faults.{set_omits}
-use Rattle.lf_sim.specs.Runs.{World, is_up}
+use Rattle.lf_sim.specs.Runs.{World}
 use Rattle.lf_outcome.specs.declared.point.Point.{Point}
 use Rattle.lf_cone.specs.Cones.{IsReachOf, IsAtMost, CanHear}
 
@@ -29,6 +27,10 @@ module _ (RestsOn : ℕ → ℕ → ℕ → ℕ → Type 0) where
   abbrev pub RestsAt : List ℕ → ℕ → ℕ → ℕ → ℕ → Type 0
   RestsAt reach v m n t = (v ≤ slice_index reach m) × RestsOn n t m v
 
+  -- something within the reach rests on k at step s
+  abbrev pub IsDone : List ℕ → ℕ → ℕ → ℕ → ℕ → Type 0
+  IsDone reach s k n t = (n ≡ k) × (t ≡ s) × (m : ℕ) × (v : ℕ) × (v ≤ slice_index reach m) × RestsOn k s m v
+
   -- the least reach of those that keep to themselves and have the start in them
   pub record IsLeastFrom (nodes horizon : ℕ) (start reach : List ℕ) : Type 0 where
     pub form : IsReachOf nodes horizon reach
@@ -40,6 +42,13 @@ module _ (RestsOn : ℕ → ℕ → ℕ → ℕ → Type 0) where
   pub record IsSweptTo (nodes horizon : ℕ) (start : List ℕ) (u : ℕ) (reach : List ℕ) : Type 0 where
     pub form : IsReachOf nodes horizon reach
     pub keeps : (n t m v : ℕ) → u < v → RestsOn n t m v → v ≤ slice_index reach m → t ≤ slice_index reach n
+    pub covers : IsAtMost start reach
+    pub smallest : (other : List ℕ) → IsReachOf nodes horizon other → KeepsTo other → IsAtMost start other → IsAtMost reach other
+
+  -- the same, so far as what is done after step u goes
+  pub record IsSweptFrom (nodes horizon : ℕ) (start : List ℕ) (u : ℕ) (reach : List ℕ) : Type 0 where
+    pub form : IsReachOf nodes horizon reach
+    pub keeps : (n t m v : ℕ) → u < t → RestsOn n t m v → v ≤ slice_index reach m → t ≤ slice_index reach n
     pub covers : IsAtMost start reach
     pub smallest : (other : List ℕ) → IsReachOf nodes horizon other → KeepsTo other → IsAtMost start other → IsAtMost reach other
 
@@ -60,12 +69,6 @@ PointAt points k n t = ((slice_index_or points k (record { node = 0; step = 0 })
 abbrev pub AreInside : ℕ → ℕ → List Point → Type 0
 AreInside nodes last points = (p : Point) → Contains points p → (p.node < nodes) × (p.step ≤ last)
 
--- m can hear at u the slot at a place
-abbrev pub HeardAt : {State Note Fact : Type 0} → World State Note Fact → List Parts → ℕ → ℕ → List Slot → ℕ → ℕ → ℕ → Type 0
-HeardAt w faults m u slots k n t =
-    ((slice_index_or slots k (record { from = 0; sent = 0 })).from ≡ n) × ((slice_index_or slots k
-    (record { from = 0; sent = 0 })).sent ≡ t) × CanHear w faults n t m u
-
--- n is up at t, and what it sends to m isn't lost
-abbrev pub MaySend : {State Note Fact : Type 0} → World State Note Fact → List Parts → ℕ → ℕ → ℕ → Type 0
-MaySend w faults n m t = (is_up w faults n t ≡ true) × (set_omits faults n m t ≡ false)
+-- m hears by `last` what n does at t
+abbrev pub HearsBy : {State Note Fact : Type 0} → World State Note Fact → List Parts → ℕ → ℕ → ℕ → ℕ → Type 0
+HearsBy w faults last n t m = (u : ℕ) × (u ≤ last) × CanHear w faults n t m u

@@ -1,12 +1,12 @@
 //! Closed reaches, by what is really heard.
 
-ghost use Rattle.std.specs.Prelude.{◌≡◌, ◌<◌, ◌≤◌, ◌↔◌, true, IsTrue, length, All};
+ghost use Rattle.std.specs.Prelude.{◌≡◌, ◌≢◌, ℕ, ◌<◌, ◌≤◌, ◌↔◌, true, IsTrue, All};
 ghost use Rattle.lf_faults.specs.Allowed.{IsInLimits};
 ghost use Rattle.lf_sim.specs.Runs.{is_up};
 ghost use Rattle.lf_sim.specs.Settings.{world_of, set_of, IsRun};
 ghost use Rattle.lf_outcome.specs.Evidence.{AreUp};
-ghost use Rattle.lf_cone.specs.Cones.{IsReachOf, CanHear, IsClosed, IsSharp};
-ghost use Rattle.lf_cone.specs.Sweeps.{IsRaised, SomeBelow, RestsAt, IsLeastFrom, MaySend};
+ghost use Rattle.lf_cone.specs.Cones.{IsReachOf, CanHear, IsHeard, IsClosed, IsSharp};
+ghost use Rattle.lf_cone.specs.Sweeps.{IsRaised, SomeBelow, IsDone, IsLeastFrom, HearsBy};
 
 use crate::points::covering;
 use lf_outcome::{Point, Reach};
@@ -59,8 +59,8 @@ fn ends_by(reach: &Reach, last: u32) -> bool
     reach.items().iter().all(|step| u32::from(*step) <= last)
 }
 
-/// The least closed reach in which the start is, by one sweep over the steps, the last first: what is heard at a step
-/// was done before it, so a reach that has the step is not raised to it any more.
+/// The least closed reach in which the start is, by one sweep over the steps, the last first: what is done at a step is
+/// heard after it, so how far the hearers reach then is known.
 fn swept<M: Machine>(setting: &Setting<M>, effects: &Effects, start: Reach) -> Reach
     requires { IsReachOf setting.now.spec.nodes setting.now.spec.horizon start }
     ensures { IsLeastFrom (CanHear (world_of setting.now) effects.now.set)
@@ -76,7 +76,7 @@ fn swept<M: Machine>(setting: &Setting<M>, effects: &Effects, start: Reach) -> R
     reach
 }
 
-/// The reach with what is heard within it at a step.
+/// The reach with what is done at a step and heard within it.
 fn heard<M: Machine>(
     setting: &Setting<M>,
     effects: &Effects,
@@ -86,47 +86,77 @@ fn heard<M: Machine>(
 ) -> Reach
     requires nodes { nodes ≡ setting.now.spec.nodes }
     requires few { nodes ≤ 8 }
-    requires count { length reach ≡ nodes }
+    requires form { IsReachOf setting.now.spec.nodes setting.now.spec.horizon reach }
     requires first { 1 ≤ step }
     requires step { step ≤ setting.now.spec.horizon }
-    ensures { IsRaised (SomeBelow (RestsAt (CanHear (world_of setting.now) effects.now.set) reach step) nodes)
+    requires short { step ≤ 48 }
+    ensures { IsRaised (SomeBelow (IsDone (CanHear (world_of setting.now) effects.now.set) reach step) nodes)
         reach result }
 {
     let before = reach;
     let mut reach = reach;
-    for to in 0..nodes {
-        if step <= before.at(to) && goes(setting, effects, to, step) {
-            reach = heard_by(setting, effects, reach, to, step);
+    for from in 0..nodes {
+        if before.at(from) < step && is_done(setting, effects, nodes, &before, from, step) {
+            reach = reach.raised(from, step);
         }
     }
     reach
 }
 
-/// The reach with what a node that is up hears at a step.
-fn heard_by<M: Machine>(
+/// Whether some node hears, within the reach, what another does at a step.
+fn is_done<M: Machine>(
     setting: &Setting<M>,
     effects: &Effects,
-    reach: Reach,
-    to: u32,
+    nodes: u32,
+    reach: &Reach,
+    from: u32,
     step: u32,
-) -> Reach
-    requires to { to < setting.now.spec.nodes }
-    requires count { length reach ≡ setting.now.spec.nodes }
+) -> bool
+    requires nodes { nodes ≡ setting.now.spec.nodes }
+    requires form { IsReachOf setting.now.spec.nodes setting.now.spec.horizon reach.now }
+    requires from { from < setting.now.spec.nodes }
     requires first { 1 ≤ step }
     requires step { step ≤ setting.now.spec.horizon }
-    requires up { is_up (world_of setting.now) effects.now.set to step ≡ true }
-    ensures { IsRaised (λ n t. CanHear (world_of setting.now) effects.now.set n t to step) reach result }
+    ensures { IsTrue result ↔ ((to : ℕ) × IsHeard (world_of setting.now) effects.now.set reach.now from step to) }
 {
-    arrivals_are_later(setting);
-    let mut reach = reach;
-    for slot in setting.arriving(to, step) {
-        let from = u32::from(slot.from);
-        let sent = u32::from(slot.sent);
-        if reach.at(from) < sent && sends(setting, effects, from, to, sent) {
-            reach = reach.raised(from, sent);
+    if !goes(setting, effects, from, step) {
+        return false;
+    }
+    for to in 0..nodes {
+        if from != to && hears(setting, effects, reach.at(to), from, to, step) {
+            return true;
         }
     }
-    reach
+    false
+}
+
+/// Whether a node hears, up to a last step, what another that is up does at a step.
+pub(crate) fn hears<M: Machine>(
+    setting: &Setting<M>,
+    effects: &Effects,
+    last: u32,
+    from: u32,
+    to: u32,
+    step: u32,
+) -> bool
+    requires last { last ≤ setting.now.spec.horizon }
+    requires from { from < setting.now.spec.nodes }
+    requires to { to < setting.now.spec.nodes }
+    requires apart { from ≢ to }
+    requires first { 1 ≤ step }
+    requires step { step ≤ setting.now.spec.horizon }
+    requires up { is_up (world_of setting.now) effects.now.set from step ≡ true }
+    ensures { IsTrue result ↔ HearsBy (world_of setting.now) effects.now.set last from step to }
+{
+    let _nodes = setting.spec.nodes();
+    let arrival = setting.network.arrival(from, to, step);
+    if last < arrival {
+        return false;
+    }
+    if effects.omits(from, to, step) {
+        return false;
+    }
+    goes(setting, effects, to, arrival)
 }
 
 /// Whether a node is up at a step of the run.
@@ -143,16 +173,4 @@ pub(crate) fn goes<M: Machine>(
     ensures limits { IsInLimits setting.now.spec }
 {
     effects.leaves_up(node, step, setting.spec.pause_length())
-}
-
-/// Whether a node is up at a step, and what it sends to another in it isn't lost.
-fn sends<M: Machine>(setting: &Setting<M>, effects: &Effects, from: u32, to: u32, step: u32) -> bool
-    requires from { from < setting.now.spec.nodes }
-    requires to { to < setting.now.spec.nodes }
-    requires first { 1 ≤ step }
-    requires step { step ≤ setting.now.spec.horizon }
-    ensures value { IsTrue result ↔ MaySend (world_of setting.now) effects.now.set from to step }
-    ensures limits { IsInLimits setting.now.spec }
-{
-    goes(setting, effects, from, step) && !effects.omits(from, to, step)
 }

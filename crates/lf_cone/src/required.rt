@@ -9,7 +9,7 @@ ghost use Rattle.lf_sim.specs.Settings.{world_of, set_of, IsRun};
 ghost use Rattle.lf_cone.specs.Cones.{IsRequired, AreRequired, Supports};
 ghost use Rattle.lf_cone.specs.Places.{IsGathered, AreMarks, AreEnds, AreSent, IsRoom, LivesBetween};
 
-use crate::hearing::goes;
+use crate::hearing::{goes, hears};
 use crate::marks::Marks;
 use crate::room::{Room, room_in};
 use lf_faults::{Fault, admits};
@@ -329,14 +329,11 @@ fn is_heard<M: Machine>(
     ensures { IsTrue result ↔ Supports (world_of setting.now) view.now.effects.set view.now.reach (Omit from to step) }
 {
     let _nodes = setting.spec.nodes();
-    let arrival = setting.network.arrival(from, to, step);
-    if view.ends[to as usize] < arrival {
+    if !sent[to as usize] {
         return false;
     }
-    if !sent[to as usize] || view.effects.omits(from, to, step) {
-        return false;
-    }
-    goes(setting, &view.effects, to, arrival)
+    let last = view.ends[to as usize];
+    hears(setting, &view.effects, last, from, to, step)
 }
 
 /// By receiver, whether a note to it was sent by a node at a step.

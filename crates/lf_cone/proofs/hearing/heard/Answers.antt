@@ -1,33 +1,35 @@
-use Rattle.std.proofs.Common.{arith, sym, ◌∙◌}
+use Rattle.std.proofs.Common.{◌≡◌, ◌<◌, arith, subst, sym, length}
 use Rattle.std.proofs.lemmas.Bool.{both_ways}
-use Rattle.lf_sim.specs.Runs.{is_up}
 use Rattle.lf_sim.specs.Settings.{world_of}
 use Rattle.lf_cone.specs.Cones.{CanHear}
-use Rattle.lf_cone.specs.Sweeps.{RestsAt}
-use Rattle.lf_cone.proofs.Sweeping.{raised-more, raised-pass, raised-same}
+use Rattle.lf_cone.specs.Sweeps.{IsRaised, IsDone}
+use Rattle.lf_cone.proofs.Sweeping.{raised-more, raised-pass, raised-enough, raised-same, raised-one}
 use Rattle.lf_cone.proofs.hearing.heard.Goals as goal
-use Rattle.lf_cone.proofs.hearing.heard.Goals.{then-step-at+then-goes, else-step-at, else-step-at-via-then-step-at+else-goes, else-step-at-via-else-step-at}
+use Rattle.lf_cone.proofs.hearing.heard.Goals.{then-at-step+then-is_done, else-at-step, else-at-step-via-then-at-step+else-is_done, else-at-step-via-else-at-step}
 
-pub loop-to-preserved : goal.loop-to-preserved
-loop-to-preserved g c =
+pub loop-from-preserved : goal.loop-from-preserved
+loop-from-preserved g c =
     let w = world_of c.args.setting.now in
     let F = c.args.effects.now.set in
-    let rests = CanHear w F in
-    let by = RestsAt rests c.args.reach c.args.step in
-    let to = c.loop-to.to in
-    elim c.if-step-at.branch [
-      | then-step-at+then-goes b ↦
-          rw b.reach-is (raised-more by to c.args.reach c.loop-to.reach b.heard_by-reach.result c.loop-to.invariant
-          (raised-same (λ n t. rests n t to c.args.step) (by to) c.loop-to.reach b.heard_by-reach.result
-          (λ n t h. h.1)
-          (λ n t h. (omega (arith, b.if-step-at.true, c.at.ensures.value), h))
-          b.heard_by-reach.ensures))
-      | else-step-at b ↦ elim b.else-step-at.branch [
-        | else-step-at-via-then-step-at+else-goes d ↦
-            rw b.reach-is (raised-pass by to c.args.reach c.loop-to.reach c.loop-to.invariant
-            (λ n t h. both_ways (is_up w F to c.args.step) (sym d.goes.ensures.value ∙ d.if-goes.false) h.1.hears))
-        | else-step-at-via-else-step-at d ↦
-            rw b.reach-is (raised-pass by to c.args.reach c.loop-to.reach c.loop-to.invariant (λ n t h. omega
-            (arith, h.0, d.if-step-at.false, c.at.ensures.value)))
+    let by = IsDone (CanHear w F) c.args.reach c.args.step in
+    let n = c.loop-from.from in
+    let r = c.loop-from.reach in
+    let inside : n < length r = omega (arith, c.loop-from-test.true, c.loop-from.invariant.count, c.requires.form.count, c.requires.nodes) in
+    elim c.if-at-step.branch [
+      | then-at-step+then-is_done b ↦
+          let done = b.is_done.ensures.0 b.if-is_done.true in
+          rw b.reach-is (raised-more by n c.args.reach r b.raised-reach.result c.loop-from.invariant
+          (subst (IsRaised (by n) r) (sym b.raised-reach.ensures)
+          (raised-same (λ k t. (k ≡ n) × (t ≡ c.args.step)) (by n) r _
+          (λ k t h. (h.0, h.1))
+          (λ k t h. (h.0, h.1, done.0, done.1.0, done.1.1, done.1.2))
+          (raised-one r n c.args.step inside))))
+      | else-at-step b ↦ elim b.else-at-step.branch [
+        | else-at-step-via-then-at-step+else-is_done d ↦
+            rw b.reach-is (raised-pass by n c.args.reach r c.loop-from.invariant
+            (λ k t h. both_ways d.is_done.result d.if-is_done.false (d.is_done.ensures.1 (h.2, (h.3, h.4, h.5)))))
+        | else-at-step-via-else-at-step d ↦
+            rw b.reach-is (raised-enough by n c.args.reach r c.loop-from.invariant (λ k t h.
+            rw h.0 (omega (arith, h.1, d.if-at-step.false, c.at.ensures.value, c.loop-from.invariant.keeps n))))
       ]
     ]

@@ -1,9 +1,9 @@
 use Rattle.std.proofs.Common.{◌≡◌, ◌+◌, ◌-◌, suc, arith, subst}
 use Rattle.lf_sim.specs.Settings.{world_of}
 use Rattle.lf_cone.specs.Cones.{CanHear}
-use Rattle.lf_cone.specs.Sweeps.{IsSweptTo, IsRaised, SomeBelow, RestsAt, IsLeastFrom}
-use Rattle.lf_cone.proofs.HearingLemmas.{hearer, heard-later}
-use Rattle.lf_cone.proofs.Sweeping.{swept_more, swept_all}
+use Rattle.lf_cone.specs.Sweeps.{IsSweptFrom, IsRaised, SomeBelow, IsDone, IsLeastFrom}
+use Rattle.lf_cone.proofs.HearingLemmas.{hearer, heard-later, speaker, speaks_from}
+use Rattle.lf_cone.proofs.Sweeping.{done_more, done_all}
 use Rattle.lf_cone.proofs.hearing.swept.Goals as goal
 
 pub loop-back-preserved : goal.loop-back-preserved
@@ -16,11 +16,12 @@ loop-back-preserved g c =
     let rests = CanHear w F in
     let u = horizon - (c.loop-back.back + 1) in
     let here : horizon - c.loop-back.back ≡ suc u = omega (arith, c.loop-back-test.true) in
-    swept_more rests nodes horizon (λ n t m v h. omega (arith, hearer w F n t m v h, c.nodes-nodes.ensures.value, s.nodes_agree))
+    done_more rests nodes horizon (λ n t m v h. omega (arith, hearer w F n t m v h, c.nodes-nodes.ensures.value, s.nodes_agree))
     (heard-later w F c.arrivals_are_later.ensures)
+    (λ n t m v h. omega (arith, speaker w F n t m v h, c.nodes-nodes.ensures.value, s.nodes_agree))
     c.args.start u c.loop-back.reach c.heard-reach.result (omega (arith, here))
-    (subst (λ x. IsSweptTo rests nodes horizon c.args.start x c.loop-back.reach) here c.loop-back.invariant)
-    (subst (λ x. IsRaised (SomeBelow (RestsAt rests c.loop-back.reach x) nodes) c.loop-back.reach c.heard-reach.result) here c.heard-reach.ensures)
+    (subst (λ x. IsSweptFrom rests nodes horizon c.args.start x c.loop-back.reach) here c.loop-back.invariant)
+    (subst (λ x. IsRaised (SomeBelow (IsDone rests c.loop-back.reach x) nodes) c.loop-back.reach c.heard-reach.result) here c.heard-reach.ensures)
 
 pub returns : goal.returns
 returns g c =
@@ -31,8 +32,8 @@ returns g c =
     let horizon = c.horizon-horizon.result in
     let rests = CanHear w F in
     let done : horizon - c.loop-back.back ≡ 0 = omega (arith, c.loop-back-test.false) in
-    let least = swept_all rests nodes horizon (λ n t m v h. omega (arith, hearer w F n t m v h, c.nodes-nodes.ensures.value, s.nodes_agree))
+    let least = done_all rests nodes horizon (λ n t m v h. omega (arith, hearer w F n t m v h, c.nodes-nodes.ensures.value, s.nodes_agree))
     (heard-later w F c.arrivals_are_later.ensures)
-    c.args.start c.loop-back.reach (subst (λ x. IsSweptTo rests nodes horizon c.args.start x c.loop-back.reach) done c.loop-back.invariant) in
+    c.args.start c.loop-back.reach (speaks_from w F) (subst (λ x. IsSweptFrom rests nodes horizon c.args.start x c.loop-back.reach) done c.loop-back.invariant) in
     subst (λ x. IsLeastFrom rests x s.spec.horizon c.args.start c.loop-back.reach) c.nodes-nodes.ensures.value
     (subst (λ x. IsLeastFrom rests nodes x c.args.start c.loop-back.reach) c.horizon-horizon.ensures.value least)
