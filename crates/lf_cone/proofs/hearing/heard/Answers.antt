@@ -5,7 +5,8 @@ use Rattle.lf_cone.specs.Cones.{CanHear}
 use Rattle.lf_cone.specs.Sweeps.{IsRaised, IsDone}
 use Rattle.lf_cone.proofs.Sweeping.{raised-more, raised-pass, raised-enough, raised-same, raised-one}
 use Rattle.lf_cone.proofs.hearing.heard.Goals as goal
-use Rattle.lf_cone.proofs.hearing.heard.Goals.{then-at-step+then-is_done, else-at-step, else-at-step-via-then-at-step+else-is_done, else-at-step-via-else-at-step}
+use Rattle.lf_cone.proofs.hearing.heard.Goals.{then-at-step+then-is_done, else-at-step}
+use Rattle.lf_cone.proofs.hearing.heard.Goals.{else-at-step-via-then-at-step+else-is_done, else-at-step-via-else-at-step}
 
 pub loop-from-preserved : goal.loop-from-preserved
 loop-from-preserved g c =

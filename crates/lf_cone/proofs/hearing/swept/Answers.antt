@@ -34,6 +34,7 @@ returns g c =
     let done : horizon - c.loop-back.back ≡ 0 = omega (arith, c.loop-back-test.false) in
     let least = done_all rests nodes horizon (λ n t m v h. omega (arith, hearer w F n t m v h, c.nodes-nodes.ensures.value, s.nodes_agree))
     (heard-later w F c.arrivals_are_later.ensures)
-    c.args.start c.loop-back.reach (speaks_from w F) (subst (λ x. IsSweptFrom rests nodes horizon c.args.start x c.loop-back.reach) done c.loop-back.invariant) in
+    c.args.start c.loop-back.reach (speaks_from w F)
+    (subst (λ x. IsSweptFrom rests nodes horizon c.args.start x c.loop-back.reach) done c.loop-back.invariant) in
     subst (λ x. IsLeastFrom rests x s.spec.horizon c.args.start c.loop-back.reach) c.nodes-nodes.ensures.value
     (subst (λ x. IsLeastFrom rests nodes x c.args.start c.loop-back.reach) c.horizon-horizon.ensures.value least)

@@ -9,10 +9,10 @@ use Rattle.lf_cone.proofs.required.tries_omission.Goals as goal
 pub returns-then-from-to : goal.returns-then-from-to
 returns-then-from-to g c =
     let s = c.args.setting.now in
-    let v = c.args.view.now in (
+    let v = c.args.view.now in
+    let f = Omit c.args.from c.args.to c.args.step in (
       λ h. absurd (false≢true h),
-      λ p. absurd ((is-admitted (world_of s) v.effects.set s.spec v.reach v.marks.faults.now c.nodes-nodes.ensures.limits (Omit c.args.from c.args.to c.args.step)
-          p).2 c.if-from-to.true),
+      λ p. absurd ((is-admitted (world_of s) v.effects.set s.spec v.reach v.marks.faults.now c.nodes-nodes.ensures.limits f p).2 c.if-from-to.true),
     )
 
 pub returns-then-at : goal.returns-then-at

@@ -35,7 +35,8 @@ returns g c =
     let f = Pause c.args.node c.args.step in
     let limits = c.nodes-nodes.ensures.limits in (
       λ h. record {
-        supports = subst (λ k. LivesBetween w v.effects.set v.reach c.args.node c.args.step (c.args.step + k)) c.pause_length.ensures.value (c.lives.ensures.0 h);
+        supports = subst (λ k. LivesBetween w v.effects.set v.reach c.args.node c.args.step (c.args.step + k)) c.pause_length.ensures.value
+            (c.lives.ensures.0 h);
         allowed = any_pause s.spec v.effects.set c.args.node 1 c.args.step c.requires.allowed
             ((c.requires.room.pause c.args.node c.requires.node).0 c.if-not-view-node.false) c.requires.first c.requires.last;
         included = λ k. both_ways c.at.result c.if-at.false (c.at.ensures ∙ (c.requires.marks f (admitted-fault s.spec f limits
