@@ -1,0 +1,11 @@
+//! What makes a certificate right: accepted trees, the first fault of a tree, the tree of a search, and why an accepted
+//! tree's answer is the answer.
+//!
+//! Nothing here says how a tree is found. What is said holds of every machine, every network and all bounds.
+#![tactic(auto)]
+
+mod promises;
+mod reason;
+
+pub use promises::accepted_answers;
+pub use reason::Reason;
