@@ -1,0 +1,4 @@
+mod AnswerLemmas
+mod Covering
+pub mod Laws
+mod PlacesLemmas

@@ -16,6 +16,7 @@ use Rattle.lf_faults.proofs.Members as members
 use Rattle.lf_faults.proofs.Nexts as nexts
 use Rattle.lf_faults.proofs.Orders as orders
 use Rattle.lf_faults.proofs.Sameness as sameness
+use Rattle.lf_faults.proofs.Sizes as sizes
 use Rattle.lf_faults.proofs.Stepping as stepping
 use Rattle.lf_faults.proofs.TextsBytes as texts
 use Rattle.lf_faults.proofs.Walks as walks
@@ -35,6 +36,14 @@ first-before = orders.first-before
 -- ascending lists that have the same members are one
 pub same_members : (fs gs : List Parts) → IsAscending fs → IsAscending gs → IsSubset fs gs → IsSubset gs fs → fs ≡ gs
 same_members = sameness.same_members
+
+-- and so are a set and a subset of it that isn't smaller
+pub large_subset : (fs gs : List Parts) → IsAscending fs → IsAscending gs → IsSubset fs gs → length gs ≤ length fs → fs ≡ gs
+large_subset = sizes.large_subset
+
+-- A fault is in a list, or it isn't
+pub in_or_not : (fs : List Parts) (f : Parts) → Contains fs f ⊎ (Contains fs f → ⊥)
+in_or_not = counts.member
 
 -- A list with one fault more has that fault,
 pub in-inserted : (f : Parts) (fs : List Parts) → Contains (inserted f fs) f

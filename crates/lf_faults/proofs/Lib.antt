@@ -9,6 +9,7 @@ mod Nexts
 mod Orders
 mod PlacesLemmas
 mod Sameness
+mod Sizes
 mod Stepping
 mod Texts
 mod TextsBytes

@@ -1,17 +1,22 @@
 -- What crates above need of formulas, of their truth and of reaches.
-use Rattle.std.proofs.Common.{◌≡◌, ◌⊎◌, ℕ, ◌+◌, ◌≤◌, Bool, true, false, not, ◌&&◌, List, refl, ap, ◌∙◌, map, max, sum}
-use Rattle.std.specs.Prelude.{nat_le, Some}
+use Rattle.std.proofs.Common.{◌≡◌, ◌⊎◌, ℕ, ◌+◌, ◌≤◌, Bool, true, false, not, ◌&&◌, List, refl, ap, subst, ◌∙◌, map, max, sum}
+use Rattle.std.specs.Prelude.{nat_le, Some, IfSome, All}
+use Rattle.std.specs.Option.{is_some}
 use Rattle.std.specs.List.{fold, list_all, list_any}
 use Rattle.std.proofs.lemmas.Bool.{and_parts, and_from, leb-true, false≢true}
 use Rattle.lf_faults.specs.declared.fault.Parts.{Parts}
 use Rattle.lf_sim.specs.Runs.{World, is_up, view}
 use Rattle.lf_outcome.specs.declared.formula.Formula.{Formula}
 use Rattle.lf_outcome.specs.declared.formula.Formula.TheVariants as kind
+use Rattle.lf_outcome.specs.declared.point.Point.{Point}
+use Rattle.lf_outcome.specs.Evidence.{evidence_of, AreUp, ArePoints, Covers}
 use Rattle.lf_outcome.specs.Measures.{depth_of, atoms_of}
 use Rattle.lf_outcome.specs.Reaches.{reach_at}
-use Rattle.lf_outcome.specs.Truth.{truth, is_down, is_shown, is_shown_where, reaches, reaches_within}
+use Rattle.lf_outcome.specs.Truth.{truth, is_down, is_shown, is_shown_where, reaches, reaches_within, counts}
 use Rattle.lf_outcome.proofs.EvidenceLemmas.{truth-more}
+use Rattle.lf_outcome.proofs.EvidenceLemmas as evidence
 use Rattle.lf_outcome.proofs.MeasuresLemmas as measures
+use Rattle.lf_outcome.proofs.PointsLemmas as pages
 use Rattle.lf_outcome.proofs.TruthLemmas.{truth-All, truth-Any, truth-Down, truth-Shows}
 
 module _ {Fact : Type 0} where
@@ -93,3 +98,26 @@ within-carries {Fact = Fact} w faults wider reach none_more same =
     and_from (nat_le t (reach_at reach n)) (is_shown w wider n t fact) within.0
     (and_from (is_up w wider n t) (w.rules.shows n (view w wider n t) fact) there.0
     (ap (λ v. w.rules.shows n v fact) there.1 ∙ up.1)))
+
+-- What a formula rests on: there is something where it is true,
+module _ {State Note Fact : Type 0} (w : World State Note Fact) (faults : List Parts) (f : Formula Fact) where
+  pub evidence-truth : is_some (evidence_of w faults f) ≡ reaches w faults f
+  evidence-truth = evidence.support-truth (is_down w faults) (is_shown w faults) f
+
+  rests : (points : List Point) → evidence_of w faults f ≡ Some points → (P : List Point → Type 0) → IfSome (evidence_of w faults f) P → P points
+  rests points is P h = subst (λ o. IfSome o P) is h
+
+  -- its points are points of the run at which their nodes are up,
+  pub evidence-points : (points : List Point) → evidence_of w faults f ≡ Some points → ArePoints w points
+  evidence-points points is =
+      pages.points-each w faults points (rests points is (All (pages.Up w faults)) (pages.evidence-up w faults f))
+
+  pub evidence-up : (points : List Point) → evidence_of w faults f ≡ Some points → AreUp w faults points
+  evidence-up points is = pages.up-each w faults points (rests points is (All (pages.Up w faults)) (pages.evidence-up w faults f))
+
+  -- and within each reach that covers them it is true
+  pub evidence-suffices : (points : List Point) → evidence_of w faults f ≡ Some points → (reach : List ℕ) → Covers reach points
+      → reaches_within w faults reach f ≡ true
+  evidence-suffices points is reach covers =
+      rests points is (λ ps. All (λ p. counts (Some reach) p.node p.step ≡ true) ps → reaches_within w faults reach f ≡ true)
+      (pages.covers-suffices w faults f reach) (pages.covers-each reach points covers)

@@ -1,0 +1,25 @@
+-- Places of a tree, one level at a time.
+use Rattle.std.proofs.Common.{◌≡◌, ℕ, ◌+◌, ◌<◌, List, [], ◌∷◌, ◌++◌, length, take, refl, sym, ap, ◌∙◌, subst, arith}
+use Rattle.std.specs.Prelude.{slice_get, slice_index_or, Option, None, Some}
+use Rattle.std.specs.Option.{option_map, option_and_then}
+use Rattle.lf_faults.specs.declared.fault.Parts.{Parts}
+use Rattle.lf_faults.specs.Faults.{inserted}
+use Rattle.lf_tree.specs.declared.tree.Node.{Node, out-Node}
+use Rattle.lf_tree.specs.declared.tree.Node.TheOpen.{Node-F}
+use Rattle.lf_certificate.specs.Places.{Place, kid_in, kid_at, place_from}
+
+-- the kid behind an edge, by its edge and its node
+abbrev pub kid_of : Place → List Parts → ℕ → Parts → Node → Place
+kid_of p edges i edge kid = record { node = kid; faults = inserted edge p.faults; excluded = p.excluded ++ take i edges }
+
+pub kid-some : (p : Place) (reach : List ℕ) (edges : List Parts) (kids : List Node) (i : ℕ) (edge : Parts) (kid : Node)
+    → out-Node p.node ≡ Node-F.Branch reach edges kids → slice_get edges i ≡ Some edge → slice_get kids i ≡ Some kid
+    → kid_at p i ≡ Some (kid_of p edges i edge kid)
+kid-some p reach edges kids i edge kid open_p edge_is kid_is =
+    ap (λ y. kid_in y p.faults p.excluded i) open_p
+    ∙ ap (λ o. option_and_then (λ e. option_map (λ k. kid_of p edges i e k) (slice_get kids i)) o) edge_is
+    ∙ ap (λ o. option_map (λ k. kid_of p edges i edge k) o) kid_is
+
+-- what is beneath the kid is beneath the place
+pub from-kid : (p kid : Place) (i : ℕ) (path : List ℕ) → kid_at p i ≡ Some kid → place_from p (i ∷ path) ≡ place_from kid path
+from-kid p kid i path is = ap (λ o. option_and_then (λ k. place_from k path) o) is
