@@ -1,6 +1,6 @@
 -- Whether a reach is closed and whether a fault is required is decided, and sharp reaches and lists of required edges are there.
-use Rattle.std.proofs.Common.{◌≡◌, ℕ, zero, suc, ◌+◌, ◌<◌, ◌≤◌, true, false, List, [], ◌∷◌, ◌++◌, length, get_or, refl, sym, ◌∙◌, inl, inr, arith, subst}
-use Rattle.std.specs.Prelude.{◌⊎◌, ◌↔◌, slice_index, IsSome}
+use Rattle.std.proofs.Common.{◌≡◌, ℕ, zero, suc, ◌+◌, ◌<◌, ◌≤◌, true, false, List, [], ◌∷◌, ◌++◌, length, get_or, refl, sym, inl, inr, arith, subst}
+use Rattle.std.specs.Prelude.{◌⊎◌, ◌↔◌, slice_index}
 use Rattle.std.specs.Option.{is_some}
 use Rattle.std.specs.List.{Contains}
 use Rattle.std.proofs.lemmas.Bool.{cases_lt, cases_eq}
@@ -12,7 +12,7 @@ use Rattle.lf_faults.specs.declared.fault.Parts.{Parts}
 use Rattle.lf_faults.specs.declared.fault.Parts.TheVariants.{Omit, Crash, Pause}
 use Rattle.lf_faults.specs.Faults.{IsAscending, inserted, set_omits}
 use Rattle.lf_faults.specs.declared.spec.Bounds.{Bounds}
-use Rattle.lf_faults.specs.Allowed.{IsAdmitted, CanAdd}
+use Rattle.lf_faults.specs.Allowed.{IsAdmitted}
 use Rattle.lf_faults.proofs.Laws.{in_or_not, allowed_or_not, in_allowed-admitted, in-inserted, still-in, cases_inserted, inserted-ascending}
 use Rattle.lf_sim.specs.Runs.{World, each_below, is_up, sent}
 use Rattle.lf_sim.proofs.Laws.{IsRunning-up}
@@ -20,7 +20,7 @@ use Rattle.lf_outcome.specs.declared.point.Point.{Point}
 use Rattle.lf_cone.specs.Cones.{IsReachOf, CanHear, IsHeard, IsClosed, IsSharp, IsLive, Supports, IsRequired, AreRequired}
 use Rattle.lf_cone.specs.Sweeps.{AreInside, KeepsTo}
 use Rattle.lf_cone.proofs.Covering.{start-form}
-use Rattle.lf_cone.proofs.HearingLemmas.{hearer, speaker, closed-keeps, keeps-closed, sharp-least}
+use Rattle.lf_cone.proofs.HearingLemmas.{hearer, speaker, closed-keeps, sharp-least}
 use Rattle.lf_cone.proofs.Growing.{Lacks, least_exists, covering_exists}
 
 -- the form of a reach
@@ -88,11 +88,15 @@ module _ {State Note Fact : Type 0} (w : World State Note Fact) (faults : List P
         })
     | inr none ↦ inl (λ n t m v can near. elim (cases_lt (slice_index reach n) t) [
       | inr enough ↦ enough
-      | inl past ↦ absurd (none (n, speaker w faults n t m v can, (
-        t,
-        omega (arith, (IsRunning-up w faults n t can.sends).last),
-        (m, hearer w faults n t m v can, (past, (v, near, can))),
-      )))
+      | inl past ↦ absurd (none (
+        n,
+        speaker w faults n t m v can,
+        (
+          t,
+          omega (arith, (IsRunning-up w faults n t can.sends).last),
+          (m, hearer w faults n t m v can, (past, (v, near, can))),
+        ),
+      ))
     ])
   ]
 
@@ -155,28 +159,37 @@ AreKept P fs xs = IsAscending xs × ((f : Parts) → Contains xs f ↔ (Contains
 
 module _ (P : Parts → Type 0) (decide : (f : Parts) → Decided (P f)) where
   kept-not : (g : Parts) (fs xs : List Parts) → (P g → ⊥) → AreKept P fs xs → AreKept P (g ∷ fs) xs
-  kept-not g fs xs never h = (h.0, λ f. (
-    λ c. let was = (h.1 f).0 c in (Contains-more g fs f was.0, was.1),
-    λ c. elim (cases_in g fs f c.0) [ inl same ↦ absurd (never (subst P (sym same) c.1)) | inr later ↦ (h.1 f).1 (later, c.1) ],
-  ))
+  kept-not g fs xs never h = (
+    h.0,
+    λ f. (
+      λ c. let was = (h.1 f).0 c in (Contains-more g fs f was.0, was.1),
+      λ c. elim (cases_in g fs f c.0) [ inl same ↦ absurd (never (subst P (sym same) c.1)) | inr later ↦ (h.1 f).1 (later, c.1) ],
+    ),
+  )
 
   kept-already : (g : Parts) (fs xs : List Parts) → Contains xs g → AreKept P fs xs → AreKept P (g ∷ fs) xs
-  kept-already g fs xs there h = (h.0, λ f. (
-    λ c. let was = (h.1 f).0 c in (Contains-more g fs f was.0, was.1),
-    λ c. elim (cases_in g fs f c.0) [ inl same ↦ subst (Contains xs) same there | inr later ↦ (h.1 f).1 (later, c.1) ],
-  ))
+  kept-already g fs xs there h = (
+    h.0,
+    λ f. (
+      λ c. let was = (h.1 f).0 c in (Contains-more g fs f was.0, was.1),
+      λ c. elim (cases_in g fs f c.0) [ inl same ↦ subst (Contains xs) same there | inr later ↦ (h.1 f).1 (later, c.1) ],
+    ),
+  )
 
   kept-new : (g : Parts) (fs xs : List Parts) → P g → (Contains xs g → ⊥) → AreKept P fs xs → AreKept P (g ∷ fs) (inserted g xs)
-  kept-new g fs xs is none h = (inserted-ascending g xs none h.0, λ f. (
-    λ c. elim (cases_inserted g xs f c) [
-      | inl same ↦ (subst (Contains (g ∷ fs)) same (Contains-first g fs), subst P same is)
-      | inr old ↦ let was = (h.1 f).0 old in (Contains-more g fs f was.0, was.1)
-    ],
-    λ c. elim (cases_in g fs f c.0) [
-      | inl same ↦ subst (Contains (inserted g xs)) same (in-inserted g xs)
-      | inr later ↦ still-in g xs f ((h.1 f).1 (later, c.1))
-    ],
-  ))
+  kept-new g fs xs is none h = (
+    inserted-ascending g xs none h.0,
+    λ f. (
+      λ c. elim (cases_inserted g xs f c) [
+        | inl same ↦ (subst (Contains (g ∷ fs)) same (Contains-first g fs), subst P same is)
+        | inr old ↦ let was = (h.1 f).0 old in (Contains-more g fs f was.0, was.1)
+      ],
+      λ c. elim (cases_in g fs f c.0) [
+        | inl same ↦ subst (Contains (inserted g xs)) same (in-inserted g xs)
+        | inr later ↦ still-in g xs f ((h.1 f).1 (later, c.1))
+      ],
+    ),
+  )
 
   kept : (fs : List Parts) → (xs : List Parts) × AreKept P fs xs
   kept [] = ([], (tt, λ f. (λ c. absurd (none-in f c), λ c. c.0)))
@@ -244,11 +257,13 @@ module _ (b : Bounds) where
 pub required_exist : {State Note Fact : Type 0} (w : World State Note Fact) (faults : List Parts) (b : Bounds) (reach : List ℕ) (excluded : List Parts)
     → (edges : List Parts) × AreRequired w faults b reach excluded edges
 required_exist w faults b reach excluded =
-    let found = kept (IsRequired w faults b reach excluded) (required_or_not w faults b reach excluded) (omissions b ++ (crashes b ++ pauses b)) in
-    (found.0, record {
-      ascending = found.1.0;
-      each = λ f. (
-        λ c. ((found.1.1 f).0 c).1,
-        λ is. (found.1.1 f).1 (in-faults b f (in_allowed-admitted b (inserted f faults) f is.allowed.1 (in-inserted f faults)), is),
-      );
-    })
+    let found = kept (IsRequired w faults b reach excluded) (required_or_not w faults b reach excluded) (omissions b ++ (crashes b ++ pauses b)) in (
+      found.0,
+      record {
+        ascending = found.1.0;
+        each = λ f. (
+          λ c. ((found.1.1 f).0 c).1,
+          λ is. (found.1.1 f).1 (in-faults b f (in_allowed-admitted b (inserted f faults) f is.allowed.1 (in-inserted f faults)), is),
+        );
+      },
+    )

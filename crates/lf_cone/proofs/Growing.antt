@@ -1,11 +1,11 @@
 -- Reaches grow, as long as something within them rests on what is past them, to the least one that keeps to itself.
-use Rattle.std.proofs.Common.{◌≡◌, ℕ, zero, suc, ◌+◌, ◌-◌, ◌<◌, ◌≤◌, List, [], ◌∷◌, length, get_or, replicate, refl, sym, ◌∙◌, inl, inr, arith, subst}
+use Rattle.std.proofs.Common.{◌≡◌, ℕ, zero, suc, ◌+◌, ◌-◌, ◌<◌, ◌≤◌, List, [], ◌∷◌, length, get_or, replicate, refl, ◌∙◌, inl, inr, arith, subst}
 use Rattle.std.proofs.Common.{max, add-one}
 use Rattle.std.specs.Prelude.{◌⊎◌, slice_set, slice_index}
 use Rattle.std.proofs.lemmas.Bool.{cases_lt, cases_eq}
 use Rattle.std.proofs.lemmas.List.{get_or-set_other, get_or-set_same, length-replicate}
 use Rattle.std.proofs.Math.ListN.{length-set}
-use Rattle.lf_list.proofs.Laws.{Decided, decide_both, decide_iff, decide_le, decide_apart, decide_some_below}
+use Rattle.lf_list.proofs.Laws.{Decided, decide_both, decide_le, decide_apart, decide_some_below}
 use Rattle.lf_outcome.specs.declared.point.Point.{Point}
 use Rattle.lf_cone.specs.Cones.{IsReachOf, IsAtMost, IsCone}
 use Rattle.lf_cone.specs.Sweeps.{IsRaised, SomeBelow, PointAt, AreInside, KeepsTo, IsLeastFrom, RestsByLeast}
