@@ -1,5 +1,6 @@
 -- What crates above may build on, in the words of specs/.
-use Rattle.std.proofs.Common.{◌≡◌, ℕ, ◌≤◌, true, List, get_or, sym, ◌∙◌, arith}
+use Rattle.std.proofs.Common.{◌≡◌, ℕ, ◌<◌, ◌≤◌, true, List, get_or, sym, ◌∙◌, arith}
+use Rattle.std.specs.Prelude.{◌⊎◌, slice_index}
 use Rattle.lf_faults.specs.declared.fault.Parts.{Parts}
 use Rattle.lf_faults.specs.declared.fault.Parts.TheVariants.{Omit, Crash, Pause}
 use Rattle.lf_faults.specs.Faults.{step_of}
@@ -11,7 +12,10 @@ use Rattle.lf_outcome.specs.declared.formula.Formula.{Formula}
 use Rattle.lf_outcome.specs.declared.point.Point.{Point}
 use Rattle.lf_outcome.specs.Truth.{reaches, reaches_within}
 use Rattle.lf_outcome.proofs.Laws.{within-carries, reaches-from_within}
-use Rattle.lf_cone.specs.Cones.{IsClosed, IsOutside, AgreesWithin, IsCone, IsSharp, AreRequired}
+use Rattle.lf_cone.specs.Cones.{IsReachOf, IsHeard, IsClosed, IsOutside, AgreesWithin, IsCone, IsSharp, IsRequired, AreRequired}
+use Rattle.lf_cone.specs.Sweeps.{AreInside}
+use Rattle.lf_cone.proofs.Existence as existence
+use Rattle.lf_cone.proofs.Growing as growing
 use Rattle.lf_cone.proofs.HearingLemmas.{same-steps}
 use Rattle.lf_cone.proofs.Light as light
 
@@ -57,3 +61,28 @@ module _ {State Note Fact : Type 0} (w : World State Note Fact) (faults : List P
       → AreRequired w faults b reach excluded ys → xs ≡ ys
   required_one b reach excluded xs ys h k =
       same_members xs ys h.ascending k.ascending (λ f c. (k.each f).1 ((h.each f).0 c)) (λ f c. (h.each f).1 ((k.each f).0 c))
+
+-- and points have a cone and a sharp reach, wherever notes arrive; a reach has a list of required edges
+pub cone_exists : (nodes horizon : ℕ) (least : ℕ → ℕ → ℕ) (points : List Point) → AreInside nodes horizon points
+    → (reach : List ℕ) × IsCone nodes horizon least points reach
+cone_exists = growing.cone_exists
+
+module _ {State Note Fact : Type 0} (w : World State Note Fact) (faults : List Parts) where
+  pub sharp_exists : (points : List Point) → AreInside w.rules.nodes w.horizon points → (reach : List ℕ) × IsSharp w faults points reach
+  sharp_exists = existence.sharp_exists w faults
+
+  pub required_exist : (b : Bounds) (reach : List ℕ) (excluded : List Parts) → (edges : List Parts) × AreRequired w faults b reach excluded edges
+  required_exist = existence.required_exist w faults
+
+  -- Whether a reach is closed is decided: it is, or something is heard within it that was done past it;
+  pub closed_or_past : (reach : List ℕ) → IsReachOf w.rules.nodes w.horizon reach
+      → IsClosed w faults reach ⊎ ((n : ℕ) × (t : ℕ) × (m : ℕ) × (slice_index reach n < t) × IsHeard w faults reach n t m)
+  closed_or_past = existence.closed_or_past w faults
+
+  pub closed_or_not : (reach : List ℕ) → IsClosed w faults reach ⊎ (IsClosed w faults reach → ⊥)
+  closed_or_not = existence.closed_or_not w faults
+
+  -- and so is whether a fault is required
+  pub required_or_not : (b : Bounds) (reach : List ℕ) (excluded : List Parts) (f : Parts)
+      → IsRequired w faults b reach excluded f ⊎ (IsRequired w faults b reach excluded f → ⊥)
+  required_or_not = existence.required_or_not w faults

@@ -1,6 +1,8 @@
 mod Coning
 mod Covering
+mod Existence
 mod Gathering
+mod Growing
 mod HearingLemmas
 pub mod Laws
 mod Light

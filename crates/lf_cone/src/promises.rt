@@ -1,6 +1,6 @@
 //! What the definitions of this crate promise: calls that compute nothing, whose contracts are the laws.
 
-ghost use Rattle.std.specs.Prelude.{◌≡◌, ◌≤◌, ℕ, true, List};
+ghost use Rattle.std.specs.Prelude.{◌≡◌, ◌⊎◌, ◌<◌, ◌≤◌, ℕ, true, List, slice_index};
 ghost use Rattle.lf_faults.specs.declared.fault.Parts.{Parts};
 ghost use Rattle.lf_faults.specs.declared.spec.Bounds.{Bounds};
 ghost use Rattle.lf_faults.specs.Allowed.{IsAllowed};
@@ -9,7 +9,9 @@ ghost use Rattle.lf_sim.specs.Settings.{world_of, set_of, IsRun};
 ghost use Rattle.lf_outcome.specs.declared.formula.Formula.{Formula};
 ghost use Rattle.lf_outcome.specs.declared.point.Point.{Point};
 ghost use Rattle.lf_outcome.specs.Truth.{reaches, reaches_within};
-ghost use Rattle.lf_cone.specs.Cones.{IsClosed, IsOutside, AgreesWithin, IsCone, IsSharp, AreRequired};
+ghost use Rattle.lf_cone.specs.Cones.{IsReachOf, IsHeard, IsClosed, IsOutside, AgreesWithin, IsCone, IsSharp};
+ghost use Rattle.lf_cone.specs.Cones.{IsRequired, AreRequired};
+ghost use Rattle.lf_cone.specs.Sweeps.{AreInside};
 
 use lf_faults::FaultSet;
 use lf_outcome::{Formula, Reach};
@@ -56,4 +58,27 @@ pub fn reaches_are_one<State, Note, Fact>()
     ensures edges { (w : World State Note Fact) (faults : List Parts) (b : Bounds) (reach : List ℕ)
         (excluded xs ys : List Parts) →
         AreRequired w faults b reach excluded xs → AreRequired w faults b reach excluded ys → xs ≡ ys }
+{}
+
+/// Points of a run have a cone and a sharp reach, wherever notes arrive, and a reach has a list of required edges.
+pub fn reaches_exist<State, Note, Fact>()
+    ensures cones { (nodes horizon : ℕ) (least : ℕ → ℕ → ℕ) (points : List Point) → AreInside nodes horizon points →
+        (reach : List ℕ) × IsCone nodes horizon least points reach }
+    ensures sharp { (w : World State Note Fact) (faults : List Parts) (points : List Point) →
+        AreInside w.rules.nodes w.horizon points → (reach : List ℕ) × IsSharp w faults points reach }
+    ensures edges { (w : World State Note Fact) (faults : List Parts) (b : Bounds) (reach : List ℕ) (excluded : List Parts) →
+        (edges : List Parts) × AreRequired w faults b reach excluded edges }
+{}
+
+/// Whether a reach is closed is decided, and where it isn't, something is heard within it that was done past it. Whether
+/// a fault is required is decided too.
+pub fn reaches_are_decided<State, Note, Fact>()
+    ensures past { (w : World State Note Fact) (faults : List Parts) (reach : List ℕ) → IsReachOf w.rules.nodes w.horizon reach →
+        IsClosed w faults reach ⊎
+        ((n : ℕ) × (t : ℕ) × (m : ℕ) × (slice_index reach n < t) × IsHeard w faults reach n t m) }
+    ensures closed { (w : World State Note Fact) (faults : List Parts) (reach : List ℕ) →
+        IsClosed w faults reach ⊎ (IsClosed w faults reach → ⊥) }
+    ensures required { (w : World State Note Fact) (faults : List Parts) (b : Bounds) (reach : List ℕ)
+        (excluded : List Parts) (f : Parts) →
+        IsRequired w faults b reach excluded f ⊎ (IsRequired w faults b reach excluded f → ⊥) }
 {}

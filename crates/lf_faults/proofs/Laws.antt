@@ -11,6 +11,7 @@ use Rattle.lf_faults.specs.Allowed.{is_crash_of, is_pause_of}
 use Rattle.lf_faults.specs.Texts.{spelling}
 use Rattle.lf_faults.proofs.Allowing as allowing
 use Rattle.lf_faults.proofs.Counts as counts
+use Rattle.lf_faults.proofs.Deciding as deciding
 use Rattle.lf_faults.proofs.Ending as ending
 use Rattle.lf_faults.proofs.Members as members
 use Rattle.lf_faults.proofs.Nexts as nexts
@@ -69,6 +70,10 @@ length-inserted = counts.length-inserted
 pub inserted-ascending : (f : Parts) (fs : List Parts) → (Contains fs f → ⊥) → IsAscending fs → IsAscending (inserted f fs)
 inserted-ascending = orders.inserted-ascending
 
+-- Whether a list has a fault is decided
+pub in_or_not : (fs : List Parts) (f : Parts) → Contains fs f ⊎ (Contains fs f → ⊥)
+in_or_not = counts.member
+
 -- The order of sets: one of two comes first, or they are one;
 pub cases_sets : (fs gs : List Parts) → (set_is_before fs gs ≡ true) ⊎ ((fs ≡ gs) ⊎ (set_is_before gs fs ≡ true))
 cases_sets = orders.cases_sets
@@ -89,9 +94,13 @@ before-fewer = nexts.before-fewer
 pub empty_allowed : (b : Bounds) → IsAllowed b []
 empty_allowed = nexts.empty_allowed
 
--- and every subset of one;
+-- and every subset of one,
 pub subset_allowed : (b : Bounds) (large small : List Parts) → IsAllowed b large → IsAscending small → IsSubset small large → IsAllowed b small
 subset_allowed = allowing.subset_allowed
+
+-- and whether a list is one is decided;
+pub allowed_or_not : (b : Bounds) (fs : List Parts) → IsAllowed b fs ⊎ (IsAllowed b fs → ⊥)
+allowed_or_not = deciding.is_allowed
 
 -- a fault in one is of the bounds,
 pub in_allowed-admitted : (b : Bounds) (fs : List Parts) (f : Parts) → IsAllowed b fs → Contains fs f → IsAdmitted b f
