@@ -42,10 +42,6 @@ same_members = sameness.same_members
 pub large_subset : (fs gs : List Parts) → IsAscending fs → IsAscending gs → IsSubset fs gs → length gs ≤ length fs → fs ≡ gs
 large_subset = sizes.large_subset
 
--- A fault is in a list, or it isn't
-pub in_or_not : (fs : List Parts) (f : Parts) → Contains fs f ⊎ (Contains fs f → ⊥)
-in_or_not = counts.member
-
 -- A list with one fault more has that fault,
 pub in-inserted : (f : Parts) (fs : List Parts) → Contains (inserted f fs) f
 in-inserted = counts.in-inserted
