@@ -1,6 +1,6 @@
 //! How long a tree's text is.
 
-ghost use Rattle.std.specs.Prelude.{◌≡◌, ◌+◌, ◌<◌, length, map, min, max};
+ghost use Rattle.std.specs.Prelude.{◌≡◌, ◌+◌, ◌<◌, ◌≤◌, length, map, min, max};
 ghost use Rattle.std.specs.Fmt.{decimal};
 ghost use Rattle.lf_tree.specs.Texts.{answer_text, faults_text, in_brackets, most_bytes, node_text, quoted, tree_text};
 
@@ -92,7 +92,9 @@ fn fault_length(fault: &Fault) -> u32
         // `"omit 0>1 @` and `"`
         Parts::Omit { step, .. } => 12 + digits(step),
         // `"crash 0 @` and `"`
-        Parts::Crash { step, .. } | Parts::Pause { step, .. } => 11 + digits(step),
+        Parts::Crash { step, .. } => 11 + digits(step),
+        // `"pause 0 @` and `"`
+        Parts::Pause { step, .. } => 11 + digits(step),
     }
 }
 

@@ -1,6 +1,6 @@
 //! The text of a tree.
 
-ghost use Rattle.std.specs.Prelude.{◌≡◌, ◌≢◌, ◌+◌, ◌<◌, ◌≤◌, ◌↔◌, ◌++◌, Err, IfErr, IfOk, OnOk, length, map};
+ghost use Rattle.std.specs.Prelude.{◌≡◌, ◌≢◌, ◌+◌, ◌<◌, ◌≤◌, ◌↔◌, ◌++◌, ◌==◌, [], Err, IfErr, IfOk, OnOk, codes, if◌then◌else◌, length, map};
 ghost use Rattle.std.specs.Fmt.{decimal};
 ghost use Rattle.lf_faults.specs.Texts.{node_at_step};
 ghost use Rattle.lf_tree.specs.Texts.{answer_text, faults_text, in_brackets, most_bytes, node_text, quoted, tree_text};
@@ -84,9 +84,7 @@ fn put_kids(text: &mut Vec<u8>, kids: &[Node]) -> Result<(), AllocError>
 {
     text.push(b'[')?;
     'kids: for (i, kid) in kids.iter().enumerate() {
-        if i > 0 {
-            text.push(b',')?;
-        }
+        put_comma(text, i)?;
         put_node(text, kid)?;
     }
     text.push(b']')?;
@@ -99,9 +97,7 @@ fn put_faults(text: &mut Vec<u8>, faults: &[Fault]) -> Result<(), AllocError>
 {
     text.push(b'[')?;
     'faults: for (i, fault) in faults.iter().enumerate() {
-        if i > 0 {
-            text.push(b',')?;
-        }
+        put_comma(text, i)?;
         put_fault(text, fault)?;
     }
     text.push(b']')?;
@@ -114,12 +110,20 @@ fn put_reach(text: &mut Vec<u8>, reach: &Reach) -> Result<(), AllocError>
 {
     text.push(b'[')?;
     'steps: for (i, step) in reach.items().iter().enumerate() {
-        if i > 0 {
-            text.push(b',')?;
-        }
+        put_comma(text, i)?;
         put_number(text, u32::from(*step))?;
     }
     text.push(b']')?;
+    Ok(())
+}
+
+/// Writes what stands before the item at a place of a list: a comma, but before the first nothing.
+fn put_comma(text: &mut Vec<u8>, place: usize) -> Result<(), AllocError>
+    ensures { OnOk result (text.new.items ≡ text.old.items ++ (if place == 0 then [] else codes ",")) }
+{
+    if place > 0 {
+        text.push(b',')?;
+    }
     Ok(())
 }
 
@@ -163,9 +167,18 @@ fn put_number(text: &mut Vec<u8>, number: u32) -> Result<(), AllocError>
     requires { number < 100 }
     ensures { OnOk result (text.new.items ≡ text.old.items ++ decimal number) }
 {
-    if number >= 10 {
-        text.push(b'0' + (number / 10) as u8)?;
+    if number < 10 {
+        return put_digit(text, number);
     }
-    text.push(b'0' + (number % 10) as u8)?;
+    put_digit(text, number / 10)?;
+    put_digit(text, number % 10)
+}
+
+/// Writes a number below 10.
+fn put_digit(text: &mut Vec<u8>, digit: u32) -> Result<(), AllocError>
+    requires { digit < 10 }
+    ensures { OnOk result (text.new.items ≡ text.old.items ++ decimal digit) }
+{
+    text.push(b'0' + digit as u8)?;
     Ok(())
 }
