@@ -153,3 +153,8 @@ length-tree tree =
       length-three (codes "{\"answer\":") (codes ",\"format\":") (codes ",\"root\":") (answer_text tree.answer) (decimal (format_of tree))
         (node_text tree.root) (codes "}"),
     )
+
+-- a number of two digits
+pub tens_and_units : (n : ℕ) → 10 ≤ n → n < 100 → decimal n ≡ decimal (n / 10) ++ decimal (n % 10)
+tens_and_units n low high =
+    decimal_step n low (omega arith) ∙ ap (λ ds. decimal (n / 10) ++ ds) (sym (decimal_digit (n % 10) (omega arith)))

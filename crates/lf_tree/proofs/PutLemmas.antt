@@ -1,5 +1,5 @@
 -- What is written of a node.
-use Rattle.std.proofs.Common.{◌≡◌, ℕ, List, [], ◌++◌, sym, ap, ◌∙◌, map}
+use Rattle.std.proofs.Common.{◌≡◌, ℕ, List, [], ◌++◌, append_assoc, sym, ap, ◌∙◌, map}
 use Rattle.std.specs.Prelude.{Result, Ok, Err, OnOk, codes, if◌then◌else◌}
 use Rattle.std.specs.Result.{is_ok}
 use Rattle.std.specs.Fmt.{decimal}
@@ -35,3 +35,10 @@ put-Branch n reach edges es kids ks before t u v w x y now is edges_read kids_re
     (codes ",\"reach\":") (in_brackets (map decimal reach)) (codes "}") one (two ∙ ap (λ fs. t ++ faults_text fs) edges_read) three
     (four ∙ ap (λ (ns : List Node). v ++ in_brackets (map node_text ns)) kids_read) five six last
     ∙ ap (λ text. before ++ text) (sym (ap node_text is ∙ node_text-Branch reach edges kids))
+
+-- two pieces, one after another
+pub put-two : {T E : Type 0} (r : Result T E) (before mid now a b whole : List ℕ) → whole ≡ a ++ b → mid ≡ before ++ a
+    → OnOk r (now ≡ mid ++ b) → OnOk r (now ≡ before ++ whole)
+put-two (Ok x) before mid now a b whole parts first second =
+    second ∙ ap (λ t. t ++ b) first ∙ append_assoc before a b ∙ ap (λ t. before ++ t) (sym parts)
+put-two (Err e) before mid now a b whole parts first second = tt
