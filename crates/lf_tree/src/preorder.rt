@@ -44,17 +44,21 @@ fn put_beneath<'a>(
     requires { depth < vec_len rows.old }
     ensures { OnOk result (map seen rows.new.items ≡ map seen rows.old.items ++ beneath node.now place depth (vec_len rows.old)) }
 {
-    if let Node::Branch { kids, .. } = node {
-        'kids: for (i, kid) in kids.as_slice().iter().enumerate() {
-            let next = rows.len();
-            rows.push(Row {
-                parent: Some(place),
-                kid: i,
-                depth: depth + 1,
-                node: kid,
-            })?;
-            put_beneath(rows, kid, next, depth + 1)?;
+    match node {
+        Node::Misses => Ok(()),
+        Node::Reaches => Ok(()),
+        Node::Branch { kids, .. } => {
+            'kids: for (i, kid) in kids.as_slice().iter().enumerate() {
+                let next = rows.len();
+                rows.push(Row {
+                    parent: Some(place),
+                    kid: i,
+                    depth: depth + 1,
+                    node: kid,
+                })?;
+                put_beneath(rows, kid, next, depth + 1)?;
+            }
+            Ok(())
         }
     }
-    Ok(())
 }
