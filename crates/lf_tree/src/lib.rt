@@ -15,3 +15,6 @@ pub use preorder::{Row, rows};
 pub use size::text_length;
 pub use tree::{Edges, Kids, Node, Tree};
 pub use write::to_text;
+
+#[cfg(test)]
+mod tests;
