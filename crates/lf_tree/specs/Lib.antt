@@ -1,1 +1,4 @@
+pub mod Counts
+pub mod Faults
+pub mod Rows
 pub mod Texts

@@ -1,6 +1,20 @@
 //! The certificate of a search, as a tree and as a text.
 #![tactic(auto)]
 
+mod counting;
+mod fault;
+mod pauses;
+mod preorder;
+mod size;
 mod tree;
+mod write;
 
+pub use counting::count;
+pub use fault::TreeFault;
+pub use preorder::{Row, rows};
+pub use size::text_length;
 pub use tree::{Edges, Kids, Node, Tree};
+pub use write::to_text;
+
+#[cfg(test)]
+mod tests;

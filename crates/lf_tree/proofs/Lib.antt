@@ -1,0 +1,5 @@
+mod KindLemmas
+mod LengthLemmas
+mod ListLemmas
+mod PutLemmas
+mod RowLemmas
