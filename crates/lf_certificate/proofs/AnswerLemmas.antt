@@ -44,16 +44,19 @@ module _ {State Note Fact : Type 0} (w : World State Note Fact) (b : Bounds) (fo
           avoids = λ f c there. none-in f c;
           few = few;
         })) [
-      | inl reaching ↦ inl reaching
-      | inr stands ↦ inr (missing, record {
-          path = stands.path;
-          place = stands.place;
-          leads = stands.leads;
-          last = omega (arith, stands.here);
-          same = stands.same;
-          misses = missing;
-        })
-    ]
+          | inl reaching ↦ inl reaching
+          | inr stands ↦ inr (
+            missing,
+            record {
+              path = stands.path;
+              place = stands.place;
+              leads = stands.leads;
+              last = omega (arith, stands.here);
+              same = stands.same;
+              misses = missing;
+            },
+          )
+        ]
   ]
 
   never : (other : List Parts) → reaches w other formula ≡ true → not (reaches w other formula) ≡ true → ⊥
@@ -74,17 +77,21 @@ module _ {State Note Fact : Type 0} (w : World State Note Fact) (b : Bounds) (fo
   an_answer : (answer : List Parts) → tree.answer ≡ Some answer → IsAllowed b answer → MissesIn w b formula tree answer
       → ((faults : List Parts) → MissesIn w b formula tree faults → set_is_before faults answer ≡ false)
       → IsFirst b (λ faults. not (reaches w faults formula)) (Some answer)
-  an_answer answer is allowed misses least = (allowed, ap not misses.misses, λ other other_allowed missing.
-      elim (cases_Bool (set_is_before other answer)) [
-        | inr after ↦ after
-        | inl before ↦
-            let few : length other ≤ last_depth b tree.answer =
-            subst (λ o. length other ≤ last_depth b o) (sym is) (before-fewer other answer before) in
-            elim (each_set other other_allowed few) [
-              | inl reaching ↦ absurd (never other reaching missing)
-              | inr there ↦ least other there.1
-            ]
-      ])
+  an_answer answer is allowed misses least = (
+    allowed,
+    ap not misses.misses,
+    λ other other_allowed missing.
+        elim (cases_Bool (set_is_before other answer)) [
+          | inr after ↦ after
+          | inl before ↦
+              let few : length other ≤ last_depth b tree.answer =
+              subst (λ o. length other ≤ last_depth b o) (sym is) (before-fewer other answer before) in
+              elim (each_set other other_allowed few) [
+                | inl reaching ↦ absurd (never other reaching missing)
+                | inr there ↦ least other there.1
+              ]
+        ],
+  )
 
   by_answer : (answer : Option (List Parts)) → tree.answer ≡ answer → IsAllowedAnswer w b formula answer → IsFirstIn w b formula tree answer
       → IsAnswer w b formula answer

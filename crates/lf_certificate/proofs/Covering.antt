@@ -177,9 +177,9 @@ module _ {State Note Fact : Type 0} (w : World State Note Fact) (b : Bounds) (fo
       decided : Outcome d p wider
       decided = elim (ih (d + 1) kid (omega (arith, sum)) (length-inserted shared.edge p.faults ∙ ap (λ k. k + 1) size) required.allowed.1
           (right_beneath d shared.at p kid kid_is areright) wider kid_beneath) [
-        | inl reaching ↦ inl reaching
-        | inr stands ↦ inr (through d shared.at p kid wider kid_is stands)
-      ]
+            | inl reaching ↦ inl reaching
+            | inr stands ↦ inr (through d shared.at p kid wider kid_is stands)
+          ]
 
     branch : (n : ℕ) → Claim n → d + suc n ≡ last → Outcome d p wider
     branch n ih sum = elim (first_shared edges wider) [

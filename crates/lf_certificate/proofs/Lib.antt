@@ -1,3 +1,4 @@
+mod AllowedLemmas
 mod AnswerLemmas
 mod Covering
 pub mod Laws

@@ -1,5 +1,5 @@
 -- Accepted trees: what a checker tests of a certificate, whoever made it.
-use Rattle.std.specs.Prelude.{◌≡◌, ℕ, ◌<◌, ◌≤◌, Bool, true, false, not, List, length, Option, None, Some, MatchOption}
+use Rattle.std.specs.Prelude.{◌≡◌, ℕ, ◌+◌, ◌<◌, ◌≤◌, Bool, true, false, not, List, length, Option, None, Some, MatchOption}
 use Rattle.std.specs.List.{Contains}
 use Rattle.lf_faults.specs.declared.fault.Parts.{Parts}
 use Rattle.lf_faults.specs.declared.spec.Bounds.{Bounds}
@@ -26,16 +26,21 @@ abbrev pub last_depth : Bounds → Option (List Parts) → ℕ
 last_depth b None = b.budget
 last_depth b (Some answer) = length answer
 
+-- what a tree covers has fewer faults than its answer, or no more than the budget
+abbrev pub covered_below : Bounds → Option (List Parts) → ℕ
+covered_below b None = b.budget + 1
+covered_below b (Some answer) = length answer
+
 module _ {State Note Fact : Type 0} (w : World State Note Fact) (b : Bounds) (formula : Formula Fact) where
   -- the answer: the first, in the order of sets, of the allowed sets that miss, or none where no allowed set misses
   abbrev pub IsAnswer : Option (List Parts) → Type 0
   IsAnswer answer = IsFirst b (λ faults. not (reaches w faults formula)) answer
 
-  -- every allowed set with these faults and none of the excluded, of at most `most` faults, reaches
+  -- every allowed set with these faults and none of the excluded, of fewer than so many faults, reaches
   abbrev pub Covers : List Parts → List Parts → ℕ → Type 0
-  Covers faults excluded most =
+  Covers faults excluded few =
       (wider : List Parts) → IsAllowed b wider → IsSubset faults wider → ((f : Parts) → Contains excluded f → ¬ Contains wider f)
-      → length wider ≤ most → reaches w wider formula ≡ true
+      → length wider < few → reaches w wider formula ≡ true
 
   -- a leaf is right at the last depth, where the set misses or reaches as it says
   pub record IsRightLeaf (last depth : ℕ) (faults : List Parts) (says : Bool) : Type 0 where
