@@ -1,7 +1,8 @@
 -- Places of a tree, one level at a time.
 use Rattle.std.proofs.Common.{◌≡◌, ℕ, ◌+◌, ◌<◌, List, [], ◌∷◌, ◌++◌, length, take, refl, sym, ap, ◌∙◌, subst, arith}
 use Rattle.std.specs.Prelude.{slice_get, slice_index_or, Option, None, Some}
-use Rattle.std.specs.Option.{option_map, option_and_then}
+use Rattle.std.specs.Option.{is_some, option_map, option_and_then}
+use Rattle.std.proofs.lemmas.Bool.{false≢true}
 use Rattle.lf_faults.specs.declared.fault.Parts.{Parts}
 use Rattle.lf_faults.specs.Faults.{inserted}
 use Rattle.lf_tree.specs.declared.tree.Node.{Node, out-Node}
@@ -23,3 +24,16 @@ kid-some p reach edges kids i edge kid open_p edge_is kid_is =
 -- what is beneath the kid is beneath the place
 pub from-kid : (p kid : Place) (i : ℕ) (path : List ℕ) → kid_at p i ≡ Some kid → place_from p (i ∷ path) ≡ place_from kid path
 from-kid p kid i path is = ap (λ o. option_and_then (λ k. place_from k path) o) is
+
+append_kid : (p q : Place) (i : ℕ) (path rest : List ℕ) (o : Option Place) → kid_at p i ≡ o
+    → option_and_then (λ kid. place_from kid path) o ≡ Some q
+    → ((kid : Place) → place_from kid path ≡ Some q → place_from kid (path ++ rest) ≡ place_from q rest)
+    → place_from p ((i ∷ path) ++ rest) ≡ place_from q rest
+append_kid p q i path rest None is leads later = absurd (false≢true (ap is_some leads))
+append_kid p q i path rest (Some kid) is leads later = from-kid p kid i (path ++ rest) is ∙ later kid leads
+
+-- a path that goes on from where another leads
+pub place-append : (p q : Place) (path rest : List ℕ) → place_from p path ≡ Some q → place_from p (path ++ rest) ≡ place_from q rest
+place-append p q [] rest leads = ap (λ o. option_and_then (λ r. place_from r rest) o) leads
+place-append p q (i ∷ path) rest leads =
+    append_kid p q i path rest (kid_at p i) refl leads (λ kid go. place-append kid q path rest go)
