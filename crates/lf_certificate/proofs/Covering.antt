@@ -69,10 +69,10 @@ item (x ∷ xs) (suc i) below = item xs i (omega (arith, below))
 pub item-in : {X : Type 0} (xs : List X) (i : ℕ) (x : X) → slice_get xs i ≡ Some x → Contains xs x
 item-in xs i x is = (i, slice_get_within xs i x is, get_or_from_slice_get xs i x x is)
 
-zero-suc : (m : ℕ) → 0 ≡ suc m → ⊥
+pub zero-suc : (m : ℕ) → 0 ≡ suc m → ⊥
 zero-suc m e = omega (arith, e)
 
-suc-one : (n m : ℕ) → suc n ≡ suc m → n ≡ m
+pub suc-one : (n m : ℕ) → suc n ≡ suc m → n ≡ m
 suc-one n m e = omega (arith, e)
 
 module _ {State Note Fact : Type 0} (w : World State Note Fact) (b : Bounds) (formula : Formula Fact) (last : ℕ) (lasts : 1 ≤ w.pause_length) where
