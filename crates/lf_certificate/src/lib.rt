@@ -7,5 +7,5 @@
 mod promises;
 mod reason;
 
-pub use promises::accepted_answers;
+pub use promises::{accepted_answers, one_tree, settings_are_bounded};
 pub use reason::Reason;
