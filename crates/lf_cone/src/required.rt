@@ -12,7 +12,7 @@ ghost use Rattle.lf_cone.specs.Places.{IsGathered, AreMarks, AreEnds, AreSent, I
 use crate::hearing::{goes, hears};
 use crate::marks::Marks;
 use crate::room::{Room, room_in};
-use lf_faults::{Fault, admits};
+use lf_faults::{Fault, Parts, admits};
 use lf_outcome::Reach;
 use lf_sim::{Effects, Machine, Run, Setting};
 use std::alloc::{AllocError, Global};
@@ -94,7 +94,7 @@ fn put_omissions<M: Machine>(
 ) -> Result<(), AllocError>
     requires run { IsRun (world_of setting.now) run.now }
     requires set { view.now.effects.set ≡ set_of run.now }
-    requires marks { AreMarks view.now.marks.faults.now view.now.marks.places }
+    requires marks { AreMarks view.now.marks.faults.now view.now.marks.rows }
     requires allowed { IsAllowed setting.now.spec view.now.effects.set }
     requires few { length view.now.effects.set < setting.now.spec.budget }
     requires ends { AreEnds view.now.reach setting.now.spec.horizon view.now.ends }
@@ -127,7 +127,7 @@ fn put_omissions_of<M: Machine>(
 ) -> Result<(), AllocError>
     requires run { IsRun (world_of setting.now) run.now }
     requires set { view.now.effects.set ≡ set_of run.now }
-    requires marks { AreMarks view.now.marks.faults.now view.now.marks.places }
+    requires marks { AreMarks view.now.marks.faults.now view.now.marks.rows }
     requires allowed { IsAllowed setting.now.spec view.now.effects.set }
     requires few { length view.now.effects.set < setting.now.spec.budget }
     requires ends { AreEnds view.now.reach setting.now.spec.horizon view.now.ends }
@@ -157,7 +157,7 @@ fn put_crashes<M: Machine>(
     step: u32,
     found: &mut Vec<Fault>,
 ) -> Result<(), AllocError>
-    requires marks { AreMarks view.now.marks.faults.now view.now.marks.places }
+    requires marks { AreMarks view.now.marks.faults.now view.now.marks.rows }
     requires allowed { IsAllowed setting.now.spec view.now.effects.set }
     requires room { IsRoom setting.now.spec view.now.effects.set view.now.room.crashes view.now.room.pauses }
     requires ends { AreEnds view.now.reach setting.now.spec.horizon view.now.ends }
@@ -183,7 +183,7 @@ fn put_pauses<M: Machine>(
     step: u32,
     found: &mut Vec<Fault>,
 ) -> Result<(), AllocError>
-    requires marks { AreMarks view.now.marks.faults.now view.now.marks.places }
+    requires marks { AreMarks view.now.marks.faults.now view.now.marks.rows }
     requires allowed { IsAllowed setting.now.spec view.now.effects.set }
     requires room { IsRoom setting.now.spec view.now.effects.set view.now.room.crashes view.now.room.pauses }
     requires ends { AreEnds view.now.reach setting.now.spec.horizon view.now.ends }
@@ -207,7 +207,7 @@ fn omission(from: u32, to: u32, step: u32) -> Fault
     requires { IsFault (Omit from to step) }
     ensures { result ≡ Omit from to step }
 {
-    Fault::omit(from, to, step).unwrap()
+    Fault::from_parts(Parts::Omit { from, to, step })
 }
 
 /// The crash of a node at a step.
@@ -215,7 +215,7 @@ pub(crate) fn crash(node: u32, step: u32) -> Fault
     requires { IsFault (Crash node step) }
     ensures { result ≡ Crash node step }
 {
-    Fault::crash(node, step).unwrap()
+    Fault::from_parts(Parts::Crash { node, step })
 }
 
 /// The pause of a node from a step on.
@@ -223,7 +223,7 @@ pub(crate) fn pause(node: u32, step: u32) -> Fault
     requires { IsFault (Pause node step) }
     ensures { result ≡ Pause node step }
 {
-    Fault::pause(node, step).unwrap()
+    Fault::from_parts(Parts::Pause { node, step })
 }
 
 /// Whether the omission in a slot is to be tried: a note in it is heard within the reach, and the omission isn't excluded.
@@ -237,7 +237,7 @@ fn tries_omission<M: Machine>(
     step: u32,
 ) -> bool
     requires sent { AreSent (world_of setting.now) view.now.effects.set from step sent.now }
-    requires marks { AreMarks view.now.marks.faults.now view.now.marks.places }
+    requires marks { AreMarks view.now.marks.faults.now view.now.marks.rows }
     requires allowed { IsAllowed setting.now.spec view.now.effects.set }
     requires few { length view.now.effects.set < setting.now.spec.budget }
     requires ends { AreEnds view.now.reach setting.now.spec.horizon view.now.ends }
@@ -253,7 +253,7 @@ fn tries_omission<M: Machine>(
     if from == to {
         return false;
     }
-    if view.marks.at((step - 1) * 80 + (from * 8 + to)) {
+    if view.marks.at((step - 1) * 10 + from, to) {
         return false;
     }
     is_heard(setting, view, sent, from, to, step)
@@ -261,7 +261,7 @@ fn tries_omission<M: Machine>(
 
 /// Whether the crash of a node at a step is to be tried.
 fn tries_crash<M: Machine>(setting: &Setting<M>, view: &View, node: u32, step: u32) -> bool
-    requires marks { AreMarks view.now.marks.faults.now view.now.marks.places }
+    requires marks { AreMarks view.now.marks.faults.now view.now.marks.rows }
     requires allowed { IsAllowed setting.now.spec view.now.effects.set }
     requires room { IsRoom setting.now.spec view.now.effects.set view.now.room.crashes view.now.room.pauses }
     requires ends { AreEnds view.now.reach setting.now.spec.horizon view.now.ends }
@@ -275,7 +275,7 @@ fn tries_crash<M: Machine>(setting: &Setting<M>, view: &View, node: u32, step: u
     if !view.room.crashes[node as usize] {
         return false;
     }
-    if view.marks.at((step - 1) * 80 + (64 + node)) {
+    if view.marks.at((step - 1) * 10 + 8, node) {
         return false;
     }
     lives(setting, view, node, step, setting.spec.horizon() + 1)
@@ -283,7 +283,7 @@ fn tries_crash<M: Machine>(setting: &Setting<M>, view: &View, node: u32, step: u
 
 /// Whether the pause of a node from a step on is to be tried.
 fn tries_pause<M: Machine>(setting: &Setting<M>, view: &View, node: u32, step: u32) -> bool
-    requires marks { AreMarks view.now.marks.faults.now view.now.marks.places }
+    requires marks { AreMarks view.now.marks.faults.now view.now.marks.rows }
     requires allowed { IsAllowed setting.now.spec view.now.effects.set }
     requires room { IsRoom setting.now.spec view.now.effects.set view.now.room.crashes view.now.room.pauses }
     requires ends { AreEnds view.now.reach setting.now.spec.horizon view.now.ends }
@@ -297,7 +297,7 @@ fn tries_pause<M: Machine>(setting: &Setting<M>, view: &View, node: u32, step: u
     if !view.room.pauses[node as usize] {
         return false;
     }
-    if view.marks.at((step - 1) * 80 + (72 + node)) {
+    if view.marks.at((step - 1) * 10 + 9, node) {
         return false;
     }
     lives(

@@ -1,8 +1,9 @@
-use Rattle.std.proofs.Common.{sym, ◌∙◌}
+use Rattle.std.proofs.Common.{◌+◌, ◌-◌, ◌*◌, arith}
 use Rattle.std.proofs.lemmas.Bool.{both_ways, false≢true}
 use Rattle.lf_faults.specs.declared.fault.Parts.TheVariants.{Omit}
 use Rattle.lf_faults.proofs.Laws.{admitted-fault}
 use Rattle.lf_sim.specs.Settings.{world_of}
+use Rattle.lf_cone.proofs.Gathering.{marked-in, in-marked}
 use Rattle.lf_cone.proofs.RequiredLemmas.{is-admitted, is-fault, omission-added}
 use Rattle.lf_cone.proofs.required.tries_omission.Goals as goal
 
@@ -21,8 +22,9 @@ returns-then-at g c =
     let v = c.args.view.now in
     let f = Omit c.args.from c.args.to c.args.step in (
       λ h. absurd (false≢true h),
-      λ p. absurd (p.included ((c.requires.marks f (is-fault (world_of s) v.effects.set s.spec v.reach v.marks.faults.now c.nodes-nodes.ensures.limits f p)).0
-          (sym c.at.ensures ∙ c.if-at.true))),
+      λ p. absurd (p.included (marked-in v.marks.faults.now v.marks.rows c.requires.marks f
+          (is-fault (world_of s) v.effects.set s.spec v.reach v.marks.faults.now c.nodes-nodes.ensures.limits f p) (((c.args.step - 1) * 10 + c.args.from) * 8 + c.args.to) (omega arith)
+          (c.at.ensures.0 c.if-at.true))),
     )
 
 pub returns : goal.returns
@@ -39,8 +41,8 @@ returns g c =
           record {
             supports = supports;
             allowed = can;
-            included = λ k. both_ways c.at.result c.if-at.false (c.at.ensures ∙ (c.requires.marks f (admitted-fault s.spec f limits
-                (c.requires.from, c.requires.to, c.if-from-to.false, c.requires.first, c.requires.last))).1 k);
+            included = λ k. both_ways c.at.result c.if-at.false (c.at.ensures.1 (in-marked v.marks.faults.now v.marks.rows c.requires.marks f
+            (admitted-fault s.spec f limits (c.requires.from, c.requires.to, c.if-from-to.false, c.requires.first, c.requires.last)) (((c.args.step - 1) * 10 + c.args.from) * 8 + c.args.to) (omega arith) k));
           },
       λ p. c.is_heard.ensures.1 p.supports,
     )
