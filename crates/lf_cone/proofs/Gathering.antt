@@ -1,9 +1,9 @@
 -- Faults are gathered place by place, and stand in order.
 use Rattle.std.proofs.Common.{◌≡◌, ◌≢◌, ℕ, suc, length, get_or, take, replicate, ◌+◌, ◌*◌, ◌/◌, ◌%◌, ◌^◌, ◌<◌, ◌≤◌, true, List, [], ◌∷◌, ◌++◌, refl, sym}
 use Rattle.std.proofs.Common.{ap, ◌∙◌, inl, inr, arith, subst}
-use Rattle.std.specs.Prelude.{slice_set}
-use Rattle.std.specs.Int.{bit_at, w8}
-use Rattle.std.specs.Int.RustNames.{bit_or}
+use Rattle.std.specs.Prelude.{◌↔◌, slice_set}
+use Rattle.std.specs.Int.{bit_at, bit_not, w8}
+use Rattle.std.specs.Int.RustNames.{bit_or, bit_and}
 use Rattle.std.specs.List.{Contains, AllByRecursion}
 use Rattle.std.specs.Cmp.{nat_cmp_is}
 use Rattle.std.specs.declared.cmp.Ordering.{Ordering}
@@ -11,7 +11,7 @@ use Rattle.std.specs.declared.cmp.Ordering.TheVariants.{Less, Equal}
 use Rattle.std.specs.Ordering.{nat_cmp, ordering_then, is_lt}
 use Rattle.std.proofs.lemmas.Bool.{cases_lt, cases_eq}
 use Rattle.std.proofs.lemmas.List.{take_more, get_or-set_same, get_or-set_other, get_or-replicate, length-replicate}
-use Rattle.std.proofs.lemmas.Nat.Bits.{bit_at-zero, bit_at_set_same, bit_at_set_other}
+use Rattle.std.proofs.lemmas.Nat.Bits.{bit_at-zero, bit_at-lt, bit_at_and, bit_at_not, bit_at_set_same, bit_at_set_other}
 use Rattle.std.proofs.Math.ListN.{get_or-eq_default}
 use Rattle.std.proofs.lemmas.List.Elements.{Contains-push, Contains-push_cases, Contains-append_left}
 use Rattle.lf_faults.specs.declared.fault.Parts.{Parts}
@@ -211,3 +211,27 @@ marked-in faults rows marks f is k e h = (marks f is).0 (subst (IsMarked rows) e
 pub in-marked : (faults : List Parts) (rows : List ℕ) → AreMarks faults rows → (f : Parts) → IsFault f → (k : ℕ) → k ≡ place_of f → Contains faults f
     → IsMarked rows k
 in-marked faults rows marks f is k e c = subst (IsMarked rows) (sym e) ((marks f is).1 c)
+
+-- a bit of a row is a place's
+pub bit-place : (rows : List ℕ) (r c : ℕ) → c < 8
+    → bit_at (get_or rows ((r * 8 + c) / 8) 0) ((r * 8 + c) % 8) ≡ bit_at (get_or rows r 0) c
+bit-place rows r c column =
+    let row : (r * 8 + c) / 8 ≡ r = omega arith in
+    let at : (r * 8 + c) % 8 ≡ c = omega arith in
+    rw (row, at) refl
+
+-- what is sent and not marked
+pub open-bit : (rows : List ℕ) (sent r c : ℕ) → c < 8 → get_or rows r 0 < 256
+    → (bit_at (bit_and sent (bit_not w8 (get_or rows r 0))) c ≡ 1) ↔ ((bit_at sent c ≡ 1) × ¬ IsMarked rows (r * 8 + c))
+open-bit rows sent r c column byte =
+    let both = bit_at_and sent (bit_not w8 (get_or rows r 0)) c in
+    let other = bit_at_not w8 (get_or rows r 0) c byte column in
+    let place = bit-place rows r c column in
+    let low = bit_at-lt sent c in
+    let low' = bit_at-lt (get_or rows r 0) c in (
+      λ h. (omega (arith, h, both, other, low, low'), λ m. omega (arith, h, both, other, low, low', place, m)),
+      λ h. elim (cases_eq (bit_at (get_or rows r 0) c) 1) [
+        | inl is ↦ absurd (h.1 (place ∙ is))
+        | inr not ↦ omega (arith, h.0, both, other, low', not)
+      ],
+    )

@@ -38,8 +38,13 @@ abbrev pub AreEnds : List ℕ → ℕ → List ℕ → Type 0
 AreEnds reach horizon ends = (n : ℕ) → n < 8 → slice_index ends n ≡ min (slice_index reach n) horizon
 
 -- by receiver, whether a note to it was sent by `from` at t
-abbrev pub AreSent : {State Note Fact : Type 0} → World State Note Fact → List Parts → ℕ → ℕ → List Bool → Type 0
-AreSent w faults from t table = (to : ℕ) → to < 8 → ((slice_index_or table to false ≡ true) ↔ IsSome (sent w faults from to t))
+abbrev pub AreSent : {State Note Fact : Type 0} → World State Note Fact → List Parts → ℕ → ℕ → ℕ → Type 0
+AreSent w faults from t bits = (to : ℕ) → to < 8 → ((bit_at bits to ≡ 1) ↔ IsSome (sent w faults from to t))
+
+-- the same, where the loss of the note isn't marked
+abbrev pub AreOpen : {State Note Fact : Type 0} → World State Note Fact → List Parts → List ℕ → ℕ → ℕ → ℕ → Type 0
+AreOpen w faults rows from t bits =
+    (to : ℕ) → to < 8 → ((bit_at bits to ≡ 1) ↔ (IsSome (sent w faults from to t) × ¬ IsMarked rows (((t - 1) * 10 + from) * 8 + to)))
 
 -- by node, whether a crash of it may be added, and whether a pause may
 pub record IsRoom (b : Bounds) (faults : List Parts) (crashes pauses : List Bool) : Type 0 where

@@ -1,6 +1,6 @@
 //! Which faults are in a list, as a table of bits.
 
-ghost use Rattle.std.specs.Prelude.{◌≡◌, ◌+◌, ◌*◌, ◌<◌, ◌↔◌, IsTrue};
+ghost use Rattle.std.specs.Prelude.{◌≡◌, ◌+◌, ◌*◌, ◌<◌, ◌↔◌, IsTrue, slice_index};
 ghost use Rattle.lf_faults.specs.Faults.{IsFault};
 ghost use Rattle.lf_cone.specs.Places.{place_of, IsMarked, AreMarks};
 
@@ -26,13 +26,22 @@ impl<'a> Marks<'a> {
         Marks { faults, rows }
     }
 
+    /// The bits of a row.
+    pub(crate) fn row(&self, row: u32) -> u8
+        requires row { row < 480 }
+        ensures value { result ≡ slice_index self.now.rows row }
+        ensures byte { result < 256 }
+    {
+        self.rows[row as usize]
+    }
+
     /// Whether the fault at a place of a row is one of them.
     pub(crate) fn at(&self, row: u32, column: u32) -> bool
         requires row { row < 480 }
         requires column { column < 8 }
         ensures { IsTrue result ↔ IsMarked self.now.rows (row * 8 + column) }
     {
-        self.rows[row as usize] >> column & 1 == 1
+        self.row(row) >> column & 1 == 1
     }
 }
 
