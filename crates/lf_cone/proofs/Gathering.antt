@@ -1,20 +1,23 @@
 -- Faults are gathered place by place, and stand in order.
-use Rattle.std.proofs.Common.{◌≡◌, ℕ, suc, Bool, length, get_or, take, replicate, ◌+◌, ◌<◌, ◌≤◌, true, false, List, [], ◌∷◌, ◌++◌, refl, sym}
+use Rattle.std.proofs.Common.{◌≡◌, ◌≢◌, ℕ, suc, length, get_or, take, replicate, ◌+◌, ◌*◌, ◌/◌, ◌%◌, ◌^◌, ◌<◌, ◌≤◌, true, List, [], ◌∷◌, ◌++◌, refl, sym}
 use Rattle.std.proofs.Common.{ap, ◌∙◌, inl, inr, arith, subst}
-use Rattle.std.specs.Prelude.{slice_set}
+use Rattle.std.specs.Prelude.{◌↔◌, slice_set}
+use Rattle.std.specs.Int.{bit_at, bit_not, w8}
+use Rattle.std.specs.Int.RustNames.{bit_or, bit_and}
 use Rattle.std.specs.List.{Contains, AllByRecursion}
 use Rattle.std.specs.Cmp.{nat_cmp_is}
 use Rattle.std.specs.declared.cmp.Ordering.{Ordering}
 use Rattle.std.specs.declared.cmp.Ordering.TheVariants.{Less, Equal}
 use Rattle.std.specs.Ordering.{nat_cmp, ordering_then, is_lt}
-use Rattle.std.proofs.lemmas.Bool.{cases_lt, cases_eq, both_ways}
+use Rattle.std.proofs.lemmas.Bool.{cases_lt, cases_eq}
 use Rattle.std.proofs.lemmas.List.{take_more, get_or-set_same, get_or-set_other, get_or-replicate, length-replicate}
+use Rattle.std.proofs.lemmas.Nat.Bits.{bit_at-zero, bit_at-lt, bit_at_and, bit_at_not, bit_at_set_same, bit_at_set_other}
 use Rattle.std.proofs.Math.ListN.{get_or-eq_default}
 use Rattle.std.proofs.lemmas.List.Elements.{Contains-push, Contains-push_cases, Contains-append_left}
 use Rattle.lf_faults.specs.declared.fault.Parts.{Parts}
 use Rattle.lf_faults.specs.declared.fault.Parts.TheVariants.{Omit, Crash, Pause}
 use Rattle.lf_faults.specs.Faults.{IsFault, IsAscending, is_before, step_of, rank_of, node_of, receiver_of}
-use Rattle.lf_cone.specs.Places.{place_in_step, place_of, IsGathered, AreMarks}
+use Rattle.lf_cone.specs.Places.{place_in_step, place_of, IsGathered, IsMarked, AreMarks}
 
 -- a comparison by its first difference
 first-less : (a b : ℕ) (rest : Ordering) → a < b → is_lt (ordering_then (nat_cmp a b) rest) ≡ true
@@ -136,34 +139,99 @@ module _ (P : Parts → Type 0) (faults : (f : Parts) → P f → IsFault f) whe
     );
   }
 
--- the marks of faults, one after another
-pub marks-none : (places : List Bool) → ((k : ℕ) → get_or places k false ≡ false) → AreMarks [] places
-marks-none places none f is = (λ h. absurd (both_ways (get_or places (place_of f) false) (none (place_of f)) h), λ c. absurd (omega (arith, c.1)))
+-- a table of bits with one bit set
+abbrev pub with_mark : List ℕ → ℕ → List ℕ
+with_mark rows k = slice_set rows (k / 8) (bit_or (get_or rows (k / 8) 0) (1 * 2 ^ (k % 8) % 2 ^ 8))
 
-pub marks-more : (xs : List Parts) (i : ℕ) (places : List Bool) (g : Parts) → i < length xs → g ≡ get_or xs i g → IsFault g → place_of g < length places
-    → AreMarks (take i xs) places → AreMarks (take (i + 1) xs) (slice_set places (place_of g) true)
-marks-more xs i places g inside at in_range below h f is =
+mark-same : (rows : List ℕ) (k : ℕ) → k / 8 < length rows → IsMarked (with_mark rows k) k
+mark-same rows k inside =
+    let column : k % 8 < 8 = omega arith in
+    let row = get_or rows (k / 8) 0 in
+    ap (λ x. bit_at x (k % 8)) (get_or-set_same rows (k / 8) (bit_or row (1 * 2 ^ (k % 8) % 2 ^ 8)) 0 inside)
+    ∙ bit_at_set_same w8 row (k % 8) column
+
+mark-other : (rows : List ℕ) (k j : ℕ) → k / 8 < length rows → j ≢ k
+    → bit_at (get_or (with_mark rows k) (j / 8) 0) (j % 8) ≡ bit_at (get_or rows (j / 8) 0) (j % 8)
+mark-other rows k j inside apart =
+    let column : k % 8 < 8 = omega arith in
+    let row = get_or rows (k / 8) 0 in
+    let set = bit_or row (1 * 2 ^ (k % 8) % 2 ^ 8) in
+    elim (cases_eq (j / 8) (k / 8)) [
+      | inl same ↦
+          ap (λ x. bit_at (get_or (with_mark rows k) x 0) (j % 8)) same
+          ∙ ap (λ x. bit_at x (j % 8)) (get_or-set_same rows (k / 8) set 0 inside)
+          ∙ bit_at_set_other w8 row (k % 8) column (j % 8) (λ e. apart (omega (arith, same, e)))
+          ∙ ap (λ x. bit_at (get_or rows x 0) (j % 8)) (sym same)
+      | inr other ↦ ap (λ x. bit_at x (j % 8)) (get_or-set_other rows (k / 8) (j / 8) set 0 other)
+    ]
+
+-- the marks of faults, one after another
+pub marks-none : (n : ℕ) → AreMarks [] (replicate n 0)
+marks-none n f is = (
+  λ h.
+      let row : ◌≡◌ {A = ℕ} (get_or (replicate n 0) (place_of f / 8) 0) 0 = unset n (place_of f / 8) in
+      let bit : bit_at (get_or (replicate n 0) (place_of f / 8) 0) (place_of f % 8) ≡ 0 =
+      ap (λ x. bit_at x (place_of f % 8)) row ∙ bit_at-zero (place_of f % 8) in
+      let wrong : ◌≡◌ {A = ℕ} 1 0 = sym h ∙ bit in
+      absurd (omega (arith, wrong)),
+  λ c. absurd (omega (arith, c.1)),
+)
+  where
+    unset : (n k : ℕ) → ◌≡◌ {A = ℕ} (get_or (replicate n 0) k 0) 0
+    unset n k = elim (cases_lt k n) [
+      | inl there ↦ get_or-replicate n k 0 0 there
+      | inr past ↦ get_or-eq_default (replicate n 0) 0 {n = k} (omega (arith, past, length-replicate {A = ℕ} n 0))
+    ]
+
+pub marks-more : (xs : List Parts) (i : ℕ) (rows : List ℕ) (g : Parts) → i < length xs → g ≡ get_or xs i g → IsFault g → place_of g / 8 < length rows
+    → AreMarks (take i xs) rows → AreMarks (take (i + 1) xs) (with_mark rows (place_of g))
+marks-more xs i rows g inside at in_range below h f is =
     let whole : take (i + 1) xs ≡ take i xs ++ g ∷ [] = take_more xs i g inside ∙ ap (λ x. take i xs ++ x ∷ []) (sym at) in
     elim (cases_eq (place_of f) (place_of g)) [
       | inl same ↦
           let one : g ≡ f = place-one g f in_range is (sym same) in (
             λ _. rw whole (subst (Contains (take i xs ++ g ∷ [])) one (Contains-push (take i xs) g)),
-            λ _. rw same (get_or-set_same places (place_of g) true false below),
+            λ _. subst (IsMarked (with_mark rows (place_of g))) (sym same) (mark-same rows (place_of g) below),
           )
       | inr other ↦
-          let kept : get_or (slice_set places (place_of g) true) (place_of f) false ≡ get_or places (place_of f) false = get_or-set_other places
-          (place_of g) (place_of f) true false other in (
+          let kept = mark-other rows (place_of g) (place_of f) below other in (
             λ e. rw whole (Contains-append_left (take i xs) (g ∷ []) f ((h f is).0 (sym kept ∙ e))),
             λ c. kept ∙ (h f is).1 (elim (Contains-push_cases (take i xs) g f (rw whole at c)) [
               | inl old ↦ old
-              | inr new ↦ absurd (other (ap place_of
-                  (sym new)))
+              | inr new ↦ absurd (other (ap place_of (sym new)))
             ]),
           )
     ]
 
-pub unmarked : (n k : ℕ) → get_or (replicate n false) k false ≡ false
-unmarked n k = elim (cases_lt k n) [
-  | inl there ↦ get_or-replicate n k false false there
-  | inr past ↦ get_or-eq_default (replicate n false) false {n = k} (omega (arith, past, length-replicate n false))
-]
+-- what the mark at a fault's place says
+pub marked-in : (faults : List Parts) (rows : List ℕ) → AreMarks faults rows → (f : Parts) → IsFault f → (k : ℕ) → k ≡ place_of f → IsMarked rows k
+    → Contains faults f
+marked-in faults rows marks f is k e h = (marks f is).0 (subst (IsMarked rows) e h)
+
+pub in-marked : (faults : List Parts) (rows : List ℕ) → AreMarks faults rows → (f : Parts) → IsFault f → (k : ℕ) → k ≡ place_of f → Contains faults f
+    → IsMarked rows k
+in-marked faults rows marks f is k e c = subst (IsMarked rows) (sym e) ((marks f is).1 c)
+
+-- a bit of a row is a place's
+pub bit-place : (rows : List ℕ) (r c : ℕ) → c < 8
+    → bit_at (get_or rows ((r * 8 + c) / 8) 0) ((r * 8 + c) % 8) ≡ bit_at (get_or rows r 0) c
+bit-place rows r c column =
+    let row : (r * 8 + c) / 8 ≡ r = omega arith in
+    let at : (r * 8 + c) % 8 ≡ c = omega arith in
+    rw (row, at) refl
+
+-- what is sent and not marked
+pub open-bit : (rows : List ℕ) (sent r c : ℕ) → c < 8 → get_or rows r 0 < 256
+    → (bit_at (bit_and sent (bit_not w8 (get_or rows r 0))) c ≡ 1) ↔ ((bit_at sent c ≡ 1) × ¬ IsMarked rows (r * 8 + c))
+open-bit rows sent r c column byte =
+    let both = bit_at_and sent (bit_not w8 (get_or rows r 0)) c in
+    let other = bit_at_not w8 (get_or rows r 0) c byte column in
+    let place = bit-place rows r c column in
+    let low = bit_at-lt sent c in
+    let low' = bit_at-lt (get_or rows r 0) c in (
+      λ h. (omega (arith, h, both, other, low, low'), λ m. omega (arith, h, both, other, low, low', place, m)),
+      λ h. elim (cases_eq (bit_at (get_or rows r 0) c) 1) [
+        | inl is ↦ absurd (h.1 (place ∙ is))
+        | inr not ↦ omega (arith, h.0, both, other, low', not)
+      ],
+    )

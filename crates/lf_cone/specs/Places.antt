@@ -1,5 +1,6 @@
 -- The places of faults in their order, and how a list of them is gathered place by place. This page is about inner functions.
-use Rattle.std.specs.Prelude.{◌≡◌, ◌↔◌, ℕ, ◌+◌, ◌-◌, ◌*◌, ◌<◌, ◌≤◌, Bool, true, false, List, slice_index_or, slice_index, min, IsSome}
+use Rattle.std.specs.Prelude.{◌≡◌, ◌↔◌, ℕ, ◌+◌, ◌-◌, ◌*◌, ◌/◌, ◌%◌, ◌<◌, ◌≤◌, Bool, true, false, List, slice_index_or, slice_index, min, IsSome}
+use Rattle.std.specs.Int.{bit_at}
 use Rattle.std.specs.List.{Contains}
 use Rattle.lf_faults.specs.declared.fault.Parts.{Parts}
 use Rattle.lf_faults.specs.declared.fault.Parts.TheVariants.{Omit, Crash, Pause}
@@ -24,17 +25,26 @@ pub record IsGathered (P : Parts → Type 0) (place : ℕ) (faults : List Parts)
   pub ascending : IsAscending faults
   pub members : (f : Parts) → Contains faults f ↔ (P f × (place_of f < place))
 
--- by place, whether the fault is in the list
-abbrev pub AreMarks : List Parts → List Bool → Type 0
-AreMarks faults places = (f : Parts) → IsFault f → ((slice_index_or places (place_of f) false ≡ true) ↔ Contains faults f)
+-- the bit at a place is set, of a table of rows of eight bits
+abbrev pub IsMarked : List ℕ → ℕ → Type 0
+IsMarked rows place = bit_at (slice_index rows (place / 8)) (place % 8) ≡ 1
+
+-- the bits that are set are those at the places of the list's faults
+abbrev pub AreMarks : List Parts → List ℕ → Type 0
+AreMarks faults rows = (f : Parts) → IsFault f → (IsMarked rows (place_of f) ↔ Contains faults f)
 
 -- by node, the last step within a reach that is at most the horizon
 abbrev pub AreEnds : List ℕ → ℕ → List ℕ → Type 0
 AreEnds reach horizon ends = (n : ℕ) → n < 8 → slice_index ends n ≡ min (slice_index reach n) horizon
 
 -- by receiver, whether a note to it was sent by `from` at t
-abbrev pub AreSent : {State Note Fact : Type 0} → World State Note Fact → List Parts → ℕ → ℕ → List Bool → Type 0
-AreSent w faults from t table = (to : ℕ) → to < 8 → ((slice_index_or table to false ≡ true) ↔ IsSome (sent w faults from to t))
+abbrev pub AreSent : {State Note Fact : Type 0} → World State Note Fact → List Parts → ℕ → ℕ → ℕ → Type 0
+AreSent w faults from t bits = (to : ℕ) → to < 8 → ((bit_at bits to ≡ 1) ↔ IsSome (sent w faults from to t))
+
+-- the same, where the loss of the note isn't marked
+abbrev pub AreOpen : {State Note Fact : Type 0} → World State Note Fact → List Parts → List ℕ → ℕ → ℕ → ℕ → Type 0
+AreOpen w faults rows from t bits =
+    (to : ℕ) → to < 8 → ((bit_at bits to ≡ 1) ↔ (IsSome (sent w faults from to t) × ¬ IsMarked rows (((t - 1) * 10 + from) * 8 + to)))
 
 -- by node, whether a crash of it may be added, and whether a pause may
 pub record IsRoom (b : Bounds) (faults : List Parts) (crashes pauses : List Bool) : Type 0 where

@@ -1,49 +1,60 @@
-//! Which faults are in a list, as a table.
+//! Which faults are in a list, as a table of bits.
 
-ghost use Rattle.std.specs.Prelude.{◌≡◌, ◌<◌, length, false, replicate, slice_index_or};
+ghost use Rattle.std.specs.Prelude.{◌≡◌, ◌+◌, ◌*◌, ◌<◌, ◌↔◌, IsTrue, slice_index};
 ghost use Rattle.lf_faults.specs.Faults.{IsFault};
-ghost use Rattle.lf_cone.specs.Places.{place_of, AreMarks};
+ghost use Rattle.lf_cone.specs.Places.{place_of, IsMarked, AreMarks};
 
 use lf_faults::{Fault, Parts};
 
-/// The places of faults: at each of 48 steps 64 of omissions, 8 of crashes and 8 of pauses.
-const PLACES: usize = 3840;
+/// The rows of places of faults: at each of 48 steps one for each of 8 senders, one of crashes and one of pauses.
+const ROWS: usize = 480;
 
-/// The faults of a list, by their places.
+/// The faults of a list, by their places. A row has a bit for each of 8 receivers, or of 8 nodes.
 #[derive(Drop)]
 pub(crate) struct Marks<'a> {
     pub(crate) faults: &'a [Fault],
-    pub(crate) places: [bool; PLACES],
+    pub(crate) rows: [u8; ROWS],
 }
 
 impl<'a> Marks<'a> {
     /// The marks of these faults.
     pub(crate) fn new(faults: &'a [Fault]) -> Marks<'a>
         ensures faults { result.faults.now ≡ faults.entry.now }
-        ensures marks { AreMarks result.faults.now result.places }
+        ensures marks { AreMarks result.faults.now result.rows }
     {
-        let places = marked(faults);
-        Marks { faults, places }
+        let rows = marked(faults);
+        Marks { faults, rows }
     }
 
-    /// Whether the fault at a place is one of them.
-    pub(crate) fn at(&self, place: u32) -> bool
-        requires { place < 3840 }
-        ensures { result ≡ slice_index_or self.now.places place false }
+    /// The bits of a row.
+    pub(crate) fn row(&self, row: u32) -> u8
+        requires row { row < 480 }
+        ensures value { result ≡ slice_index self.now.rows row }
+        ensures byte { result < 256 }
     {
-        self.places[place as usize]
+        self.rows[row as usize]
+    }
+
+    /// Whether the fault at a place of a row is one of them.
+    pub(crate) fn at(&self, row: u32, column: u32) -> bool
+        requires row { row < 480 }
+        requires column { column < 8 }
+        ensures { IsTrue result ↔ IsMarked self.now.rows (row * 8 + column) }
+    {
+        self.row(row) >> column & 1 == 1
     }
 }
 
 /// The table of these faults.
-fn marked(faults: &[Fault]) -> [bool; PLACES]
+fn marked(faults: &[Fault]) -> [u8; ROWS]
     ensures { AreMarks faults.now result }
 {
-    let mut places = [false; PLACES];
+    let mut rows = [0; ROWS];
     for fault in faults {
-        places[place(fault)] = true;
+        let place = place(fault);
+        rows[place / 8] |= 1 << (place % 8);
     }
-    places
+    rows
 }
 
 /// The place of a fault among all faults, in their order.

@@ -6,13 +6,13 @@ ghost use Rattle.lf_faults.specs.Faults.{IsFault};
 ghost use Rattle.lf_faults.specs.Allowed.{IsAllowed};
 ghost use Rattle.lf_sim.specs.Runs.{is_up, sent};
 ghost use Rattle.lf_sim.specs.Settings.{world_of, set_of, IsRun};
-ghost use Rattle.lf_cone.specs.Cones.{IsRequired, AreRequired, Supports};
-ghost use Rattle.lf_cone.specs.Places.{IsGathered, AreMarks, AreEnds, AreSent, IsRoom, LivesBetween};
+ghost use Rattle.lf_cone.specs.Cones.{IsHeard, IsRequired, AreRequired};
+ghost use Rattle.lf_cone.specs.Places.{IsGathered, AreMarks, AreEnds, AreSent, AreOpen, IsRoom, LivesBetween};
 
 use crate::hearing::{goes, hears};
 use crate::marks::Marks;
 use crate::room::{Room, room_in};
-use lf_faults::{Fault, admits};
+use lf_faults::{Fault, Parts, admits};
 use lf_outcome::Reach;
 use lf_sim::{Effects, Machine, Run, Setting};
 use std::alloc::{AllocError, Global};
@@ -94,7 +94,7 @@ fn put_omissions<M: Machine>(
 ) -> Result<(), AllocError>
     requires run { IsRun (world_of setting.now) run.now }
     requires set { view.now.effects.set ≡ set_of run.now }
-    requires marks { AreMarks view.now.marks.faults.now view.now.marks.places }
+    requires marks { AreMarks view.now.marks.faults.now view.now.marks.rows }
     requires allowed { IsAllowed setting.now.spec view.now.effects.set }
     requires few { length view.now.effects.set < setting.now.spec.budget }
     requires ends { AreEnds view.now.reach setting.now.spec.horizon view.now.ends }
@@ -127,7 +127,7 @@ fn put_omissions_of<M: Machine>(
 ) -> Result<(), AllocError>
     requires run { IsRun (world_of setting.now) run.now }
     requires set { view.now.effects.set ≡ set_of run.now }
-    requires marks { AreMarks view.now.marks.faults.now view.now.marks.places }
+    requires marks { AreMarks view.now.marks.faults.now view.now.marks.rows }
     requires allowed { IsAllowed setting.now.spec view.now.effects.set }
     requires few { length view.now.effects.set < setting.now.spec.budget }
     requires ends { AreEnds view.now.reach setting.now.spec.horizon view.now.ends }
@@ -141,9 +141,9 @@ fn put_omissions_of<M: Machine>(
         view.now.reach view.now.marks.faults.now) ((step - 1) * 80 + (from + 1) * 8) found.new.items) }
 {
     let nodes = setting.spec.nodes();
-    let sent = sent_by(setting, run, from, step);
+    let slots = open_slots(setting, run, &view.marks, from, step);
     for to in 0..nodes {
-        if tries_omission(setting, view, &sent, from, to, step) {
+        if tries_omission(setting, view, slots, from, to, step) {
             found.push(omission(from, to, step))?;
         }
     }
@@ -157,7 +157,7 @@ fn put_crashes<M: Machine>(
     step: u32,
     found: &mut Vec<Fault>,
 ) -> Result<(), AllocError>
-    requires marks { AreMarks view.now.marks.faults.now view.now.marks.places }
+    requires marks { AreMarks view.now.marks.faults.now view.now.marks.rows }
     requires allowed { IsAllowed setting.now.spec view.now.effects.set }
     requires room { IsRoom setting.now.spec view.now.effects.set view.now.room.crashes view.now.room.pauses }
     requires ends { AreEnds view.now.reach setting.now.spec.horizon view.now.ends }
@@ -183,7 +183,7 @@ fn put_pauses<M: Machine>(
     step: u32,
     found: &mut Vec<Fault>,
 ) -> Result<(), AllocError>
-    requires marks { AreMarks view.now.marks.faults.now view.now.marks.places }
+    requires marks { AreMarks view.now.marks.faults.now view.now.marks.rows }
     requires allowed { IsAllowed setting.now.spec view.now.effects.set }
     requires room { IsRoom setting.now.spec view.now.effects.set view.now.room.crashes view.now.room.pauses }
     requires ends { AreEnds view.now.reach setting.now.spec.horizon view.now.ends }
@@ -207,7 +207,7 @@ fn omission(from: u32, to: u32, step: u32) -> Fault
     requires { IsFault (Omit from to step) }
     ensures { result ≡ Omit from to step }
 {
-    Fault::omit(from, to, step).unwrap()
+    Fault::from_parts(Parts::Omit { from, to, step })
 }
 
 /// The crash of a node at a step.
@@ -215,7 +215,7 @@ pub(crate) fn crash(node: u32, step: u32) -> Fault
     requires { IsFault (Crash node step) }
     ensures { result ≡ Crash node step }
 {
-    Fault::crash(node, step).unwrap()
+    Fault::from_parts(Parts::Crash { node, step })
 }
 
 /// The pause of a node from a step on.
@@ -223,21 +223,21 @@ pub(crate) fn pause(node: u32, step: u32) -> Fault
     requires { IsFault (Pause node step) }
     ensures { result ≡ Pause node step }
 {
-    Fault::pause(node, step).unwrap()
+    Fault::from_parts(Parts::Pause { node, step })
 }
 
-/// Whether the omission in a slot is to be tried: a note in it is heard within the reach, and the omission isn't excluded.
-/// The set doesn't have it, and there is room for one.
+/// Whether the omission in a slot is to be tried: a note was sent in it that is heard within the reach, and the omission
+/// isn't excluded. The set doesn't have it, and there is room for one.
 fn tries_omission<M: Machine>(
     setting: &Setting<M>,
     view: &View,
-    sent: &[bool; 8],
+    slots: u8,
     from: u32,
     to: u32,
     step: u32,
 ) -> bool
-    requires sent { AreSent (world_of setting.now) view.now.effects.set from step sent.now }
-    requires marks { AreMarks view.now.marks.faults.now view.now.marks.places }
+    requires slots { AreOpen (world_of setting.now) view.now.effects.set view.now.marks.rows from step slots }
+    requires marks { AreMarks view.now.marks.faults.now view.now.marks.rows }
     requires allowed { IsAllowed setting.now.spec view.now.effects.set }
     requires few { length view.now.effects.set < setting.now.spec.budget }
     requires ends { AreEnds view.now.reach setting.now.spec.horizon view.now.ends }
@@ -253,15 +253,15 @@ fn tries_omission<M: Machine>(
     if from == to {
         return false;
     }
-    if view.marks.at((step - 1) * 80 + (from * 8 + to)) {
+    if slots >> to & 1 == 0 {
         return false;
     }
-    is_heard(setting, view, sent, from, to, step)
+    is_heard(setting, view, from, to, step)
 }
 
 /// Whether the crash of a node at a step is to be tried.
 fn tries_crash<M: Machine>(setting: &Setting<M>, view: &View, node: u32, step: u32) -> bool
-    requires marks { AreMarks view.now.marks.faults.now view.now.marks.places }
+    requires marks { AreMarks view.now.marks.faults.now view.now.marks.rows }
     requires allowed { IsAllowed setting.now.spec view.now.effects.set }
     requires room { IsRoom setting.now.spec view.now.effects.set view.now.room.crashes view.now.room.pauses }
     requires ends { AreEnds view.now.reach setting.now.spec.horizon view.now.ends }
@@ -275,7 +275,7 @@ fn tries_crash<M: Machine>(setting: &Setting<M>, view: &View, node: u32, step: u
     if !view.room.crashes[node as usize] {
         return false;
     }
-    if view.marks.at((step - 1) * 80 + (64 + node)) {
+    if view.marks.at((step - 1) * 10 + 8, node) {
         return false;
     }
     lives(setting, view, node, step, setting.spec.horizon() + 1)
@@ -283,7 +283,7 @@ fn tries_crash<M: Machine>(setting: &Setting<M>, view: &View, node: u32, step: u
 
 /// Whether the pause of a node from a step on is to be tried.
 fn tries_pause<M: Machine>(setting: &Setting<M>, view: &View, node: u32, step: u32) -> bool
-    requires marks { AreMarks view.now.marks.faults.now view.now.marks.places }
+    requires marks { AreMarks view.now.marks.faults.now view.now.marks.rows }
     requires allowed { IsAllowed setting.now.spec view.now.effects.set }
     requires room { IsRoom setting.now.spec view.now.effects.set view.now.room.crashes view.now.room.pauses }
     requires ends { AreEnds view.now.reach setting.now.spec.horizon view.now.ends }
@@ -297,7 +297,7 @@ fn tries_pause<M: Machine>(setting: &Setting<M>, view: &View, node: u32, step: u
     if !view.room.pauses[node as usize] {
         return false;
     }
-    if view.marks.at((step - 1) * 80 + (72 + node)) {
+    if view.marks.at((step - 1) * 10 + 9, node) {
         return false;
     }
     lives(
@@ -309,16 +309,8 @@ fn tries_pause<M: Machine>(setting: &Setting<M>, view: &View, node: u32, step: u
     )
 }
 
-/// Whether a note is sent in a slot, and is heard within the reach.
-fn is_heard<M: Machine>(
-    setting: &Setting<M>,
-    view: &View,
-    sent: &[bool; 8],
-    from: u32,
-    to: u32,
-    step: u32,
-) -> bool
-    requires sent { AreSent (world_of setting.now) view.now.effects.set from step sent.now }
+/// Whether what a node does at a step is heard by another within the reach.
+fn is_heard<M: Machine>(setting: &Setting<M>, view: &View, from: u32, to: u32, step: u32) -> bool
     requires ends { AreEnds view.now.reach setting.now.spec.horizon view.now.ends }
     requires from { from < setting.now.spec.nodes }
     requires to { to < setting.now.spec.nodes }
@@ -326,26 +318,43 @@ fn is_heard<M: Machine>(
     requires first { 1 ≤ step }
     requires last { step ≤ setting.now.spec.horizon }
     requires up { is_up (world_of setting.now) view.now.effects.set from step ≡ true }
-    ensures { IsTrue result ↔ Supports (world_of setting.now) view.now.effects.set view.now.reach (Omit from to step) }
+    ensures { IsTrue result ↔ IsHeard (world_of setting.now) view.now.effects.set view.now.reach from step to }
 {
     let _nodes = setting.spec.nodes();
-    if !sent[to as usize] {
-        return false;
-    }
     let last = view.ends[to as usize];
     hears(setting, &view.effects, last, from, to, step)
 }
 
-/// By receiver, whether a note to it was sent by a node at a step.
-fn sent_by<M: Machine>(setting: &Setting<M>, run: &Run<M>, from: u32, step: u32) -> [bool; 8]
+/// By receiver, a bit where a note to it was sent by a node at a step and its loss isn't excluded.
+fn open_slots<M: Machine>(
+    setting: &Setting<M>,
+    run: &Run<M>,
+    marks: &Marks,
+    from: u32,
+    step: u32,
+) -> u8
+    requires run { IsRun (world_of setting.now) run.now }
+    requires from { from < setting.now.spec.nodes }
+    requires first { 1 ≤ step }
+    requires last { step ≤ setting.now.spec.horizon }
+    ensures { AreOpen (world_of setting.now) (set_of run.now) marks.now.rows from step result }
+{
+    let _nodes = setting.spec.nodes();
+    sent_by(setting, run, from, step) & !marks.row((step - 1) * 10 + from)
+}
+
+/// By receiver, a bit where a note to it was sent by a node at a step.
+fn sent_by<M: Machine>(setting: &Setting<M>, run: &Run<M>, from: u32, step: u32) -> u8
     requires run { IsRun (world_of setting.now) run.now }
     requires from { from < setting.now.spec.nodes }
     requires last { step ≤ setting.now.spec.horizon }
     ensures { AreSent (world_of setting.now) (set_of run.now) from step result }
 {
-    let mut sent = [false; 8];
+    let mut sent = 0;
     for to in 0..8 {
-        sent[to as usize] = was_sent(setting, run, from, to, step);
+        if was_sent(setting, run, from, to, step) {
+            sent |= 1 << to;
+        }
     }
     sent
 }

@@ -118,8 +118,8 @@ impl Fault {
         }
     }
 
-    /// The fault with these parts.
-    pub(crate) fn from_parts(parts: Parts) -> Fault
+    /// The fault with these parts: nodes in 0..=7, two different ones for an omission, and a step in 1..=48.
+    pub fn from_parts(parts: Parts) -> Fault
         requires { IsFault parts }
         ensures { result ≡ parts }
     {

@@ -13,43 +13,43 @@ use Rattle.lf_outcome.specs.declared.formula.Formula.TheVariants as kind
 use Rattle.lf_outcome.specs.declared.formula.Formula.TheOpen.{Formula-F}
 use Rattle.lf_outcome.specs.declared.point.Point.{Point}
 use Rattle.lf_outcome.specs.Truth.{truth}
-use Rattle.lf_outcome.specs.Evidence.{all_of, first_of, support, support_step}
+use Rattle.lf_outcome.specs.Evidence.{all_of, first_of, rests_on, rests_step}
 use Rattle.lf_outcome.proofs.Inductions.{by_induction}
 use Rattle.lf_outcome.proofs.TruthLemmas.{truth-All, truth-Any, truth-Down, truth-Shows}
 
--- `support`, by the kind of the formula
+-- `rests_on`, by the kind of the formula
 module _ {Fact : Type 0} (down : ℕ → ℕ → Bool) (shown : ℕ → ℕ → Fact → Bool) where
-  pub support-All : (parts : List (Formula Fact)) → support down shown (kind.All parts) ≡ all_of (map (support down shown) parts)
-  support-All parts =
-      ap (support down shown) (sym (rolls-All parts))
-      ∙ fold-roll-Formula Fact (Option (List Point)) (support_step down shown) (Formula-F.All parts)
+  pub rests_on-All : (parts : List (Formula Fact)) → rests_on down shown (kind.All parts) ≡ all_of (map (rests_on down shown) parts)
+  rests_on-All parts =
+      ap (rests_on down shown) (sym (rolls-All parts))
+      ∙ fold-roll-Formula Fact (Option (List Point)) (rests_step down shown) (Formula-F.All parts)
 
-  pub support-Any : (parts : List (Formula Fact)) → support down shown (kind.Any parts) ≡ first_of (map (support down shown) parts)
-  support-Any parts =
-      ap (support down shown) (sym (rolls-Any parts))
-      ∙ fold-roll-Formula Fact (Option (List Point)) (support_step down shown) (Formula-F.Any parts)
+  pub rests_on-Any : (parts : List (Formula Fact)) → rests_on down shown (kind.Any parts) ≡ first_of (map (rests_on down shown) parts)
+  rests_on-Any parts =
+      ap (rests_on down shown) (sym (rolls-Any parts))
+      ∙ fold-roll-Formula Fact (Option (List Point)) (rests_step down shown) (Formula-F.Any parts)
 
-  pub support-Down : (n t : ℕ) → support down shown (kind.Down n t) ≡ (if down n t then Some [] else None)
-  support-Down n t =
-      ap (support down shown) (sym (rolls-Down n t))
-      ∙ fold-roll-Formula Fact (Option (List Point)) (support_step down shown) (Formula-F.Down n t)
+  pub rests_on-Down : (n t : ℕ) → rests_on down shown (kind.Down n t) ≡ (if down n t then Some [] else None)
+  rests_on-Down n t =
+      ap (rests_on down shown) (sym (rolls-Down n t))
+      ∙ fold-roll-Formula Fact (Option (List Point)) (rests_step down shown) (Formula-F.Down n t)
 
-  pub support-Shows : (n t : ℕ) (fact : Fact)
-      → support down shown (kind.Shows n t fact) ≡ (if shown n t fact then Some (record { node = n; step = t } ∷ []) else None)
-  support-Shows n t fact =
-      ap (support down shown) (sym (rolls-Shows n t fact))
-      ∙ fold-roll-Formula Fact (Option (List Point)) (support_step down shown) (Formula-F.Shows n t fact)
+  pub rests_on-Shows : (n t : ℕ) (fact : Fact)
+      → rests_on down shown (kind.Shows n t fact) ≡ (if shown n t fact then Some (record { node = n; step = t } ∷ []) else None)
+  rests_on-Shows n t fact =
+      ap (rests_on down shown) (sym (rolls-Shows n t fact))
+      ∙ fold-roll-Formula Fact (Option (List Point)) (rests_step down shown) (Formula-F.Shows n t fact)
 
   -- from what the parts rest on, as read
-  pub support-from_all : (f : Formula Fact) (parts xs : List (Formula Fact)) → f ≡ kind.All parts → xs ≡ parts
-      → all_of (map (support down shown) xs) ≡ support down shown f
-  support-from_all f parts xs is read =
-      ap (λ fs. all_of (map (support down shown) fs)) read ∙ sym (support-All parts) ∙ ap (support down shown) (sym is)
+  pub rests_on-from_all : (f : Formula Fact) (parts xs : List (Formula Fact)) → f ≡ kind.All parts → xs ≡ parts
+      → all_of (map (rests_on down shown) xs) ≡ rests_on down shown f
+  rests_on-from_all f parts xs is read =
+      ap (λ fs. all_of (map (rests_on down shown) fs)) read ∙ sym (rests_on-All parts) ∙ ap (rests_on down shown) (sym is)
 
-  pub support-from_any : (f : Formula Fact) (parts xs : List (Formula Fact)) → f ≡ kind.Any parts → xs ≡ parts
-      → first_of (map (support down shown) xs) ≡ support down shown f
-  support-from_any f parts xs is read =
-      ap (λ fs. first_of (map (support down shown) fs)) read ∙ sym (support-Any parts) ∙ ap (support down shown) (sym is)
+  pub rests_on-from_any : (f : Formula Fact) (parts xs : List (Formula Fact)) → f ≡ kind.Any parts → xs ≡ parts
+      → first_of (map (rests_on down shown) xs) ≡ rests_on down shown f
+  rests_on-from_any f parts xs is read =
+      ap (λ fs. first_of (map (rests_on down shown) fs)) read ∙ sym (rests_on-Any parts) ∙ ap (rests_on down shown) (sym is)
 
 -- one list more, which may be missing
 abbrev joined : {A : Type 0} → Option (List A) → Option (List A) → Option (List A)
@@ -71,31 +71,31 @@ is_some-if false x = refl
 -- a formula rests on something where it is true, and only there
 module _ {Fact : Type 0} (down : ℕ → ℕ → Bool) (shown : ℕ → ℕ → Fact → Bool) where
   abbrev Agrees : Formula Fact → Type 0
-  Agrees f = is_some (support down shown f) ≡ truth down shown f
+  Agrees f = is_some (rests_on down shown f) ≡ truth down shown f
 
   some-all : (parts : List (Formula Fact)) → AllByRecursion Agrees parts
-      → is_some (all_of (map (support down shown) parts)) ≡ list_all (truth down shown) parts
+      → is_some (all_of (map (rests_on down shown) parts)) ≡ list_all (truth down shown) parts
   some-all [] h = refl
   some-all (f ∷ fs) h =
-      let rest = all_of (map (support down shown) fs) in
-      is_some-joined (support down shown f) rest
+      let rest = all_of (map (rests_on down shown) fs) in
+      is_some-joined (rests_on down shown f) rest
       ∙ ap (λ b. b && is_some rest) h.0 ∙ ap (λ b. truth down shown f && b) (some-all fs h.1)
 
   some-any : (parts : List (Formula Fact)) → AllByRecursion Agrees parts
-      → is_some (first_of (map (support down shown) parts)) ≡ list_any (truth down shown) parts
+      → is_some (first_of (map (rests_on down shown) parts)) ≡ list_any (truth down shown) parts
   some-any [] h = refl
   some-any (f ∷ fs) h =
-      let rest = map (support down shown) fs in
-      is_some-first (support down shown f) rest
+      let rest = map (rests_on down shown) fs in
+      is_some-first (rests_on down shown f) rest
       ∙ ap (λ b. b || is_some (first_of rest)) h.0 ∙ ap (λ b. truth down shown f || b) (some-any fs h.1)
 
-  pub support-truth : (f : Formula Fact) → is_some (support down shown f) ≡ truth down shown f
-  support-truth = by_induction Agrees (record {
-    all = λ parts h. ap is_some (support-All down shown parts) ∙ some-all parts h ∙ sym (truth-All down shown parts);
-    any = λ parts h. ap is_some (support-Any down shown parts) ∙ some-any parts h ∙ sym (truth-Any down shown parts);
-    down = λ n t. ap is_some (support-Down down shown n t) ∙ is_some-if (down n t) [] ∙ sym (truth-Down down shown n t);
+  pub rests_on-truth : (f : Formula Fact) → is_some (rests_on down shown f) ≡ truth down shown f
+  rests_on-truth = by_induction Agrees (record {
+    all = λ parts h. ap is_some (rests_on-All down shown parts) ∙ some-all parts h ∙ sym (truth-All down shown parts);
+    any = λ parts h. ap is_some (rests_on-Any down shown parts) ∙ some-any parts h ∙ sym (truth-Any down shown parts);
+    down = λ n t. ap is_some (rests_on-Down down shown n t) ∙ is_some-if (down n t) [] ∙ sym (truth-Down down shown n t);
     shows = λ n t fact.
-        ap is_some (support-Shows down shown n t fact) ∙ is_some-if (shown n t fact) (record { node = n; step = t } ∷ [])
+        ap is_some (rests_on-Shows down shown n t fact) ∙ is_some-if (shown n t fact) (record { node = n; step = t } ∷ [])
         ∙ sym (truth-Shows down shown n t fact);
   })
 
@@ -150,24 +150,24 @@ IfSome-if P false x h = tt
 module _ {Fact : Type 0} (down : ℕ → ℕ → Bool) (shown : ℕ → ℕ → Fact → Bool) (P : Point → Type 0)
     (here : (n t : ℕ) (fact : Fact) → shown n t fact ≡ true → P (record { node = n; step = t })) where
   abbrev Rests : Formula Fact → Type 0
-  Rests f = IfSome (support down shown f) (All P)
+  Rests f = IfSome (rests_on down shown f) (All P)
 
-  rests-all : (parts : List (Formula Fact)) → AllByRecursion Rests parts → IfSome (all_of (map (support down shown) parts)) (All P)
+  rests-all : (parts : List (Formula Fact)) → AllByRecursion Rests parts → IfSome (all_of (map (rests_on down shown) parts)) (All P)
   rests-all [] h = All-nil P
   rests-all (f ∷ fs) h =
-      IfSome-joined P (support down shown f) (all_of (map (support down shown) fs)) h.0 (rests-all fs h.1)
+      IfSome-joined P (rests_on down shown f) (all_of (map (rests_on down shown) fs)) h.0 (rests-all fs h.1)
 
-  rests-any : (parts : List (Formula Fact)) → AllByRecursion Rests parts → IfSome (first_of (map (support down shown) parts)) (All P)
+  rests-any : (parts : List (Formula Fact)) → AllByRecursion Rests parts → IfSome (first_of (map (rests_on down shown) parts)) (All P)
   rests-any [] h = tt
   rests-any (f ∷ fs) h =
-      IfSome-first (All P) (support down shown f) (map (support down shown) fs) h.0 (rests-any fs h.1)
+      IfSome-first (All P) (rests_on down shown f) (map (rests_on down shown) fs) h.0 (rests-any fs h.1)
 
-  pub support-points : (f : Formula Fact) → IfSome (support down shown f) (All P)
-  support-points = by_induction Rests (record {
-    all = λ parts h. rw (support-All down shown parts) (rests-all parts h);
-    any = λ parts h. rw (support-Any down shown parts) (rests-any parts h);
-    down = λ n t. rw (support-Down down shown n t) (IfSome-if (All P) (down n t) [] (λ _. All-nil P));
-    shows = λ n t fact. rw (support-Shows down shown n t fact)
+  pub rests_on-points : (f : Formula Fact) → IfSome (rests_on down shown f) (All P)
+  rests_on-points = by_induction Rests (record {
+    all = λ parts h. rw (rests_on-All down shown parts) (rests-all parts h);
+    any = λ parts h. rw (rests_on-Any down shown parts) (rests-any parts h);
+    down = λ n t. rw (rests_on-Down down shown n t) (IfSome-if (All P) (down n t) [] (λ _. All-nil P));
+    shows = λ n t fact. rw (rests_on-Shows down shown n t fact)
         (IfSome-if (All P) (shown n t fact) (record { node = n; step = t } ∷ [])
         (λ e. All-cons P (record { node = n; step = t }) [] (here n t fact e) (All-nil P)));
   })
@@ -189,7 +189,7 @@ module _ {Fact : Type 0} (down : ℕ → ℕ → Bool) (shown : ℕ → ℕ → 
   Counts p = counts p.node p.step ≡ true
 
   abbrev Suffices : Formula Fact → Type 0
-  Suffices f = IfSome (support down shown f) (λ points. All Counts points → T f ≡ true)
+  Suffices f = IfSome (rests_on down shown f) (λ points. All Counts points → T f ≡ true)
 
   joined-true : (o r : Option (List Point)) (a b : Bool) → IfSome o (λ points. All Counts points → a ≡ true)
       → IfSome r (λ points. All Counts points → b ≡ true) → IfSome (joined o r) (λ points. All Counts points → (a && b) ≡ true)
@@ -210,28 +210,28 @@ module _ {Fact : Type 0} (down : ℕ → ℕ → Bool) (shown : ℕ → ℕ → 
   first-true (Some xs) r a b h k = λ every. or_left a b (h every)
 
   suffices-all : (parts : List (Formula Fact)) → AllByRecursion Suffices parts
-      → IfSome (all_of (map (support down shown) parts)) (λ points. All Counts points → list_all T parts ≡ true)
+      → IfSome (all_of (map (rests_on down shown) parts)) (λ points. All Counts points → list_all T parts ≡ true)
   suffices-all [] h = λ every. refl
   suffices-all (f ∷ fs) h =
-      joined-true (support down shown f) (all_of (map (support down shown) fs)) (T f) (list_all T fs) h.0 (suffices-all fs h.1)
+      joined-true (rests_on down shown f) (all_of (map (rests_on down shown) fs)) (T f) (list_all T fs) h.0 (suffices-all fs h.1)
 
   suffices-any : (parts : List (Formula Fact)) → AllByRecursion Suffices parts
-      → IfSome (first_of (map (support down shown) parts)) (λ points. All Counts points → list_any T parts ≡ true)
+      → IfSome (first_of (map (rests_on down shown) parts)) (λ points. All Counts points → list_any T parts ≡ true)
   suffices-any [] h = tt
   suffices-any (f ∷ fs) h =
-      first-true (support down shown f) (map (support down shown) fs) (T f) (list_any T fs) h.0 (suffices-any fs h.1)
+      first-true (rests_on down shown f) (map (rests_on down shown) fs) (T f) (list_any T fs) h.0 (suffices-any fs h.1)
 
   abbrev counted : ℕ → ℕ → Fact → Bool
   counted n t fact = counts n t && shown n t fact
 
-  pub support-suffices : (f : Formula Fact)
-      → IfSome (support down shown f) (λ points. All Counts points → truth down (λ n t fact. counts n t && shown n t fact) f ≡ true)
-  support-suffices = by_induction Suffices (record {
-    all = λ parts h. rw (support-All down shown parts, truth-All down counted parts) (suffices-all parts h);
-    any = λ parts h. rw (support-Any down shown parts, truth-Any down counted parts) (suffices-any parts h);
-    down = λ n t. rw (support-Down down shown n t, truth-Down down counted n t)
+  pub rests_on-suffices : (f : Formula Fact)
+      → IfSome (rests_on down shown f) (λ points. All Counts points → truth down (λ n t fact. counts n t && shown n t fact) f ≡ true)
+  rests_on-suffices = by_induction Suffices (record {
+    all = λ parts h. rw (rests_on-All down shown parts, truth-All down counted parts) (suffices-all parts h);
+    any = λ parts h. rw (rests_on-Any down shown parts, truth-Any down counted parts) (suffices-any parts h);
+    down = λ n t. rw (rests_on-Down down shown n t, truth-Down down counted n t)
         (IfSome-if (λ points. All Counts points → down n t ≡ true) (down n t) [] (λ e every. e));
-    shows = λ n t fact. rw (support-Shows down shown n t fact, truth-Shows down counted n t fact)
+    shows = λ n t fact. rw (rests_on-Shows down shown n t fact, truth-Shows down counted n t fact)
         (IfSome-if (λ points. All Counts points → counted n t fact ≡ true) (shown n t fact) (record { node = n; step = t } ∷ [])
         (λ e every. and_from (counts n t) (shown n t fact) (All-head Counts (record { node = n; step = t }) [] every) e));
   })

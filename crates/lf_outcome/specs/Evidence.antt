@@ -24,21 +24,21 @@ first_of (Some x ∷ rest) = Some x
 -- by a test of which node is down at which step, and one of which node shows which fact at which step
 module _ {Fact : Type 0} (down : ℕ → ℕ → Bool) (shown : ℕ → ℕ → Fact → Bool) where
   -- one level, with what each part rests on in its place, and nothing there for a part that is false
-  abbrev pub support_step : Formula-F Fact (Option (List Point)) → Option (List Point)
-  support_step (Formula-F.All parts) = all_of parts
-  support_step (Formula-F.Any parts) = first_of parts
-  support_step (Formula-F.Down n t) = if down n t then Some [] else None
-  support_step (Formula-F.Shows n t fact) = if shown n t fact then Some (record { node = n; step = t } ∷ []) else None
+  abbrev pub rests_step : Formula-F Fact (Option (List Point)) → Option (List Point)
+  rests_step (Formula-F.All parts) = all_of parts
+  rests_step (Formula-F.Any parts) = first_of parts
+  rests_step (Formula-F.Down n t) = if down n t then Some [] else None
+  rests_step (Formula-F.Shows n t fact) = if shown n t fact then Some (record { node = n; step = t } ∷ []) else None
 
   -- All rests on what all parts rest on, Any on what its first true part rests on, a fact on its point, and Down on
   -- no point; a false formula rests on nothing
-  abbrev pub support : Formula Fact → Option (List Point)
-  support = fold-Formula Fact (Option (List Point)) support_step
+  abbrev pub rests_on : Formula Fact → Option (List Point)
+  rests_on = fold-Formula Fact (Option (List Point)) rests_step
 
 module _ {State Note Fact : Type 0} (w : World State Note Fact) (faults : List Parts) where
   -- the points on which the formula rests in the run of the set, where the set reaches it
   abbrev pub evidence_of : Formula Fact → Option (List Point)
-  evidence_of = support (is_down w faults) (is_shown w faults)
+  evidence_of = rests_on (is_down w faults) (is_shown w faults)
 
   -- each of the points is one at which its node is up
   abbrev pub AreUp : List Point → Type 0

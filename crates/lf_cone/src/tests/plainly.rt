@@ -1,4 +1,4 @@
-//! Reaches and edges beside a plain search over all reaches and all faults.
+//! Reaches and edges beside a plain search over all reaches and all faults, for two and three nodes and up to three steps.
 
 ghost use Rattle.std.specs.Prelude.{◌≤◌};
 ghost use Rattle.lf_sim.specs.Settings.{world_of, IsRun};
@@ -38,10 +38,16 @@ fn is_heard<M: Machine>(
     run.up(to, arrival) && arrival <= reach.at(to)
 }
 
+/// Whether a reach goes no further than the last step.
+fn ends_in_time<M: Machine>(setting: &Setting<M>, reach: &Reach) -> bool {
+    let last = setting.spec.horizon();
+    (0..8).all(|node| reach.at(node) <= last)
+}
+
 /// Whether a reach is closed, by each slot.
 fn plainly_closed<M: Machine>(setting: &Setting<M>, run: &Run<M>, reach: &Reach) -> bool {
-    for from in 0..8 {
-        for to in 0..8 {
+    for from in 0..3 {
+        for to in 0..3 {
             for step in 1..4 {
                 if is_heard(setting, run, reach, from, to, step) && step > reach.at(from) {
                     return false;
@@ -49,7 +55,7 @@ fn plainly_closed<M: Machine>(setting: &Setting<M>, run: &Run<M>, reach: &Reach)
             }
         }
     }
-    true
+    ends_in_time(setting, reach)
 }
 
 /// Whether a reach keeps to the least delays, by each pair.
@@ -62,7 +68,7 @@ fn plainly_keeps<M: Machine>(setting: &Setting<M>, reach: &Reach) -> bool {
             }
         }
     }
-    true
+    ends_in_time(setting, reach)
 }
 
 /// Whether a node is up at a step within the reach, of those from one on, before another.
@@ -89,7 +95,7 @@ fn plainly_supported<M: Machine>(
                 && is_heard(setting, run, reach, from, to, step)
                 && run.sent(from, to, step).is_some()
         }
-        Parts::Crash { node, step } => plainly_lives(run, reach, node, step, 4),
+        Parts::Crash { node, step } => plainly_lives(run, reach, node, step, run.horizon() + 1),
         Parts::Pause { node, step } => {
             plainly_lives(run, reach, node, step, step + setting.spec.pause_length())
         }
@@ -142,9 +148,16 @@ fn plain_edges<M: Machine>(
     Ok(found)
 }
 
-/// The reach of this number, of two or three nodes and three steps.
+/// How many reaches there are of two or three nodes, with steps up to 4.
+fn reaches(nodes: u32) -> u32
+    ensures { result ≤ 125 }
+{
+    if nodes == 2 { 25 } else { 125 }
+}
+
+/// The reach of this number.
 fn reach_numbered(nodes: u32, number: u32) -> Option<Reach> {
-    let steps = [number % 4, number / 4 % 4, number / 16 % 4];
+    let steps = [number % 5, number / 5 % 5, number / 25 % 5];
     if nodes == 2 {
         Reach::new(&steps[..2])
     } else {
@@ -167,7 +180,7 @@ fn check_run<M: Machine>(
     requires { IsRun (world_of setting.now) run.now }
 {
     let nodes = setting.spec.nodes();
-    for number in 0..64 {
+    for number in 0..reaches(nodes) {
         let reach = reach_numbered(nodes, number).ok_or("reach")?;
         assert_eq!(rt;
             is_closed(setting, run, &reach),
@@ -203,8 +216,9 @@ fn check_point<M: Machine>(
     assert!(rt;
         plainly_closed(setting, run, wide) && plainly_keeps(setting, wide) && step <= wide.at(node)
     );
-    for number in 0..64 {
-        let reach = reach_numbered(setting.spec.nodes(), number).ok_or("reach")?;
+    let nodes = setting.spec.nodes();
+    for number in 0..reaches(nodes) {
+        let reach = reach_numbered(nodes, number).ok_or("reach")?;
         if step <= reach.at(node) {
             assert!(rt; !plainly_closed(setting, run, &reach) || is_at_most(narrow, &reach));
             assert!(rt; !plainly_keeps(setting, &reach) || is_at_most(wide, &reach));
@@ -213,54 +227,88 @@ fn check_point<M: Machine>(
     Ok(())
 }
 
-/// Checks runs of a protocol under several sets, where a note takes up to `spread` steps more than one.
+/// Checks the run under a set of these faults.
+fn check_set<M: Machine>(
+    rt: &impl Abort,
+    alloc: Global,
+    setting: &Setting<M>,
+    faults: &[Fault],
+) -> Result<(), Fail> {
+    let mut set = FaultSet::empty();
+    for fault in faults {
+        set = set.insert(*fault).ok_or("set")?;
+    }
+    let held = run(alloc, setting, &set)?;
+    check_run(rt, alloc, setting, &held)
+}
+
+/// Checks runs under several sets, of which the last has a crash too many.
+fn check_sets<M: Machine>(
+    rt: &impl Abort,
+    alloc: Global,
+    setting: &Setting<M>,
+) -> Result<(), Fail> {
+    let lost = Fault::omit(0, 1, 1).ok_or("fault")?;
+    let back = Fault::omit(1, 0, 2).ok_or("fault")?;
+    let crash = Fault::crash(1, 2).ok_or("fault")?;
+    let early = Fault::crash(0, 1).ok_or("fault")?;
+    let pause = Fault::pause(0, 2).ok_or("fault")?;
+    let nap = Fault::pause(1, 1).ok_or("fault")?;
+    check_set(rt, alloc, setting, &[])?;
+    check_set(rt, alloc, setting, &[lost])?;
+    check_set(rt, alloc, setting, &[pause])?;
+    check_set(rt, alloc, setting, &[back, nap])?;
+    check_set(rt, alloc, setting, &[lost, crash, pause])?;
+    check_set(rt, alloc, setting, &[crash, early])
+}
+
+/// Checks a protocol where a note takes up to `spread` steps more than one, and a pause `length` steps.
 fn check_protocol(
     rt: &impl Abort,
     alloc: Global,
-    protocol: Option<Protocol>,
-    nodes: u32,
+    protocol: &Protocol,
+    horizon: u32,
     spread: u32,
+    length: u32,
 ) -> Result<(), Fail>
-    requires two { 2 ≤ nodes }
-    requires few { nodes ≤ 3 }
+    requires first { 1 ≤ horizon }
+    requires last { horizon ≤ 3 }
     requires spread { spread ≤ 15 }
 {
-    let network = Network::new([7; 32], Links::new(nodes, 1, spread), nodes, 3);
-    let bounds = FaultSpec::new(nodes, 3, 2, 1, 3).and_then(|spec| spec.with_pauses(1, 2));
-    let setting = Setting::new(
-        protocol.ok_or("protocol")?,
-        network,
-        bounds.ok_or("bounds")?,
-    );
-    let setting = setting.ok_or("setting")?;
-    let omission = Fault::omit(0, 1, 1).ok_or("fault")?;
-    let crash = Fault::crash(1, 3).ok_or("fault")?;
-    let pause = Fault::pause(0, 2).ok_or("fault")?;
-    let mut set = FaultSet::empty();
-    for fault in [omission, crash, pause] {
-        let held = run(alloc, &setting, &set)?;
-        check_run(rt, alloc, &setting, &held)?;
-        set = set.insert(fault).ok_or("set")?;
+    let nodes = protocol.nodes();
+    let bounds = FaultSpec::new(nodes, horizon, horizon - 1, 1, 4)
+        .and_then(|spec| spec.with_pauses(1, length))
+        .ok_or("bounds")?;
+    let network = Network::new([7; 32], Links::new(nodes, 1, spread), nodes, horizon);
+    let setting = Setting::new(*protocol, network, bounds).ok_or("setting")?;
+    check_sets(rt, alloc, &setting)
+}
+
+/// Checks a protocol with notes that all take a step, and with notes that take up to two steps more.
+fn check_delays(rt: &impl Abort, alloc: Global, protocol: Option<Protocol>) -> Result<(), Fail> {
+    let protocol = protocol.ok_or("protocol")?;
+    check_protocol(rt, alloc, &protocol, 2, 0, 1)?;
+    for spread in 0..3 {
+        check_protocol(rt, alloc, &protocol, 3, spread, 2)?;
     }
-    let held = run(alloc, &setting, &set)?;
-    check_run(rt, alloc, &setting, &held)
+    check_protocol(rt, alloc, &protocol, 3, 1, 1)
 }
 
 #[test]
-fn reaches_and_edges_are_the_plain_ones(rt: HostRuntime) -> Result<(), Fail> {
+fn reaches_and_edges_of_two_nodes_are_the_plain_ones(rt: HostRuntime) -> Result<(), Fail> {
     let votes = [true; 8];
-    for spread in 0..3 {
-        check_protocol(&rt, rt.alloc(), Protocol::retry(2, 2), 2, spread)?;
-        check_protocol(&rt, rt.alloc(), Protocol::redundant(3, 2), 3, spread)?;
-        check_protocol(&rt, rt.alloc(), Protocol::two_phase(3, 2, votes), 3, spread)?;
-        check_protocol(
-            &rt,
-            rt.alloc(),
-            Protocol::three_phase(2, 2, votes),
-            2,
-            spread,
-        )?;
-        check_protocol(&rt, rt.alloc(), Protocol::primary_backup(3, 2), 3, spread)?;
-    }
-    Ok(())
+    check_delays(&rt, rt.alloc(), Protocol::retry(2, 2))?;
+    check_delays(&rt, rt.alloc(), Protocol::redundant(2, 2))?;
+    check_delays(&rt, rt.alloc(), Protocol::two_phase(2, 2, votes))?;
+    check_delays(&rt, rt.alloc(), Protocol::three_phase(2, 2, votes))
+}
+
+#[test]
+fn reaches_and_edges_of_three_nodes_are_the_plain_ones(rt: HostRuntime) -> Result<(), Fail> {
+    let votes = [true; 8];
+    check_delays(&rt, rt.alloc(), Protocol::retry(3, 2))?;
+    check_delays(&rt, rt.alloc(), Protocol::redundant(3, 2))?;
+    check_delays(&rt, rt.alloc(), Protocol::two_phase(3, 2, votes))?;
+    check_delays(&rt, rt.alloc(), Protocol::three_phase(3, 2, votes))?;
+    check_delays(&rt, rt.alloc(), Protocol::primary_backup(3, 2))
 }

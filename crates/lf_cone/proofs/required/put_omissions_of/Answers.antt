@@ -1,13 +1,19 @@
-use Rattle.std.proofs.Common.{◌<◌, ◌+◌, ◌-◌, ◌*◌, arith}
+use Rattle.std.proofs.Common.{◌<◌, ◌+◌, ◌-◌, ◌*◌, sym, subst, arith}
 use Rattle.std.proofs.lemmas.Bool.{both_ways}
 use Rattle.lf_faults.specs.declared.fault.Parts.TheVariants.{Omit}
 use Rattle.lf_sim.specs.Settings.{world_of}
+use Rattle.lf_cone.specs.Places.{AreOpen}
 use Rattle.lf_cone.proofs.RequiredLemmas.{moved, is-fault, put_one, skip_omission, end_receivers}
 use Rattle.lf_cone.proofs.required.put_omissions_of.Goals as goal
 use Rattle.lf_cone.proofs.required.put_omissions_of.Goals.{then-tries_omission+in_ok-push, else-tries_omission}
 
-pub sent_by-sent-requires-clause-last : goal.sent_by-sent-requires-clause-last
-sent_by-sent-requires-clause-last g c = omega (arith, c.requires.last, c.nodes-nodes.ensures.limits.last_omission)
+pub open_slots-slots-requires-clause-last : goal.open_slots-slots-requires-clause-last
+open_slots-slots-requires-clause-last g c = omega (arith, c.requires.last, c.nodes-nodes.ensures.limits.last_omission)
+
+pub tries_omission-requires-clause-slots : goal.tries_omission-requires-clause-slots
+tries_omission-requires-clause-slots g c =
+    subst (λ F. AreOpen (world_of c.args.setting.now) F c.args.view.now.marks.rows c.args.from c.args.step c.open_slots-slots.result)
+    (sym c.requires.set) c.open_slots-slots.ensures
 
 pub omission-requires : goal.omission-requires
 omission-requires g c =

@@ -1,8 +1,9 @@
-use Rattle.std.proofs.Common.{◌+◌, sym, ◌∙◌, arith}
+use Rattle.std.proofs.Common.{◌+◌, ◌-◌, ◌*◌, arith}
 use Rattle.std.proofs.lemmas.Bool.{both_ways, false≢true}
 use Rattle.lf_faults.specs.declared.fault.Parts.TheVariants.{Crash}
 use Rattle.lf_faults.proofs.Laws.{admitted-fault, any_crash}
 use Rattle.lf_sim.specs.Settings.{world_of}
+use Rattle.lf_cone.proofs.Gathering.{marked-in, in-marked}
 use Rattle.lf_cone.proofs.RequiredLemmas.{is-fault, crash-lives, lives-crash}
 use Rattle.lf_cone.proofs.required.tries_crash.Goals as goal
 
@@ -22,8 +23,9 @@ returns-then-at g c =
     let v = c.args.view.now in
     let f = Crash c.args.node c.args.step in (
       λ h. absurd (false≢true h),
-      λ p. absurd (p.included ((c.requires.marks f (is-fault (world_of s) v.effects.set s.spec v.reach v.marks.faults.now c.nodes-nodes.ensures.limits f p)).0
-          (sym c.at.ensures ∙ c.if-at.true))),
+      λ p. absurd (p.included (marked-in v.marks.faults.now v.marks.rows c.requires.marks f
+          (is-fault (world_of s) v.effects.set s.spec v.reach v.marks.faults.now c.nodes-nodes.ensures.limits f p) (((c.args.step - 1) * 10 + 8) * 8 + c.args.node) (omega arith)
+          (c.at.ensures.0 c.if-at.true))),
     )
 
 pub returns : goal.returns
@@ -37,8 +39,8 @@ returns g c =
         supports = crash-lives w v.effects.set s.spec v.reach v.marks.faults.now limits c.args.node c.args.step (c.horizon.result + 1) (c.lives.ensures.0 h);
         allowed = any_crash s.spec v.effects.set c.args.node 1 c.args.step c.requires.allowed
             ((c.requires.room.crash c.args.node c.requires.node).0 c.if-not-view-node.false) c.requires.first c.requires.last;
-        included = λ k. both_ways c.at.result c.if-at.false (c.at.ensures ∙ (c.requires.marks f (admitted-fault s.spec f limits
-            (c.requires.node, c.requires.first, c.requires.last))).1 k);
+        included = λ k. both_ways c.at.result c.if-at.false (c.at.ensures.1 (in-marked v.marks.faults.now v.marks.rows c.requires.marks f
+            (admitted-fault s.spec f limits (c.requires.node, c.requires.first, c.requires.last)) (((c.args.step - 1) * 10 + 8) * 8 + c.args.node) (omega arith) k));
       },
       λ p. c.lives.ensures.1 (lives-crash w v.effects.set s.spec v.reach v.marks.faults.now limits c.args.node c.args.step (c.horizon.result + 1) (omega
           (arith, c.horizon.ensures.value)) p.supports),

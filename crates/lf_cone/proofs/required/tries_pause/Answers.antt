@@ -1,9 +1,10 @@
-use Rattle.std.proofs.Common.{◌+◌, sym, ◌∙◌, subst, arith}
+use Rattle.std.proofs.Common.{◌+◌, ◌-◌, ◌*◌, sym, subst, arith}
 use Rattle.std.proofs.lemmas.Bool.{both_ways, false≢true}
 use Rattle.lf_faults.specs.declared.fault.Parts.TheVariants.{Pause}
 use Rattle.lf_faults.proofs.Laws.{admitted-fault, any_pause}
 use Rattle.lf_sim.specs.Settings.{world_of}
 use Rattle.lf_cone.specs.Places.{LivesBetween}
+use Rattle.lf_cone.proofs.Gathering.{marked-in, in-marked}
 use Rattle.lf_cone.proofs.RequiredLemmas.{is-fault}
 use Rattle.lf_cone.proofs.required.tries_pause.Goals as goal
 
@@ -23,8 +24,9 @@ returns-then-at g c =
     let v = c.args.view.now in
     let f = Pause c.args.node c.args.step in (
       λ h. absurd (false≢true h),
-      λ p. absurd (p.included ((c.requires.marks f (is-fault (world_of s) v.effects.set s.spec v.reach v.marks.faults.now c.nodes-nodes.ensures.limits f p)).0
-          (sym c.at.ensures ∙ c.if-at.true))),
+      λ p. absurd (p.included (marked-in v.marks.faults.now v.marks.rows c.requires.marks f
+          (is-fault (world_of s) v.effects.set s.spec v.reach v.marks.faults.now c.nodes-nodes.ensures.limits f p) (((c.args.step - 1) * 10 + 9) * 8 + c.args.node) (omega arith)
+          (c.at.ensures.0 c.if-at.true))),
     )
 
 pub returns : goal.returns
@@ -39,8 +41,8 @@ returns g c =
             (c.lives.ensures.0 h);
         allowed = any_pause s.spec v.effects.set c.args.node 1 c.args.step c.requires.allowed
             ((c.requires.room.pause c.args.node c.requires.node).0 c.if-not-view-node.false) c.requires.first c.requires.last;
-        included = λ k. both_ways c.at.result c.if-at.false (c.at.ensures ∙ (c.requires.marks f (admitted-fault s.spec f limits
-            (c.requires.node, c.requires.first, c.requires.last))).1 k);
+        included = λ k. both_ways c.at.result c.if-at.false (c.at.ensures.1 (in-marked v.marks.faults.now v.marks.rows c.requires.marks f
+            (admitted-fault s.spec f limits (c.requires.node, c.requires.first, c.requires.last)) (((c.args.step - 1) * 10 + 9) * 8 + c.args.node) (omega arith) k));
       },
       λ p. c.lives.ensures.1 (subst (λ k. LivesBetween w v.effects.set v.reach c.args.node c.args.step (c.args.step + k)) (sym c.pause_length.ensures.value)
           p.supports),

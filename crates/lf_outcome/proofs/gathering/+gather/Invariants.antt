@@ -2,7 +2,7 @@ use Rattle.std.proofs.Common.{◌≡◌, drop, map}
 use Rattle.lf_sim.specs.Settings.{world_of, set_of}
 use Rattle.lf_outcome.specs.Evidence.{evidence_of, first_of}
 use Rattle.lf_outcome.proofs.EvidenceLemmas.{IsGathered}
-use Rattle.lf_outcome.proofs.support.+gather.Given as goal
+use Rattle.lf_outcome.proofs.gathering.+gather.Given as goal
 
 -- the parts so far are true, and their points are put behind those of the list
 abbrev pub invariant-gather_all-all : goal.invariant-gather_all-all

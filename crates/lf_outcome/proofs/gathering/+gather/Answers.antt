@@ -5,16 +5,16 @@ use Rattle.std.proofs.lemmas.List.{append-nil}
 use Rattle.lf_sim.specs.Settings.{set_of, world_of}
 use Rattle.lf_outcome.specs.Evidence.{evidence_of}
 use Rattle.lf_outcome.specs.Truth.{is_down, is_shown}
-use Rattle.lf_outcome.proofs.EvidenceLemmas.{support-from_all, support-from_any, gathered-none, gathered-more, gathered-missing}
+use Rattle.lf_outcome.proofs.EvidenceLemmas.{rests_on-from_all, rests_on-from_any, gathered-none, gathered-more, gathered-missing}
 use Rattle.lf_outcome.proofs.EvidenceLemmas.{gathered-back, gathered-all, first-found, first-later, first-none, is_missing}
-use Rattle.lf_outcome.proofs.support.+gather.Goals as goal
+use Rattle.lf_outcome.proofs.gathering.+gather.Goals as goal
 
 pub gather-returns-in-All-clause-found : goal.gather-returns-in-All-clause-found
 gather-returns-in-All-clause-found g t c =
     let w = world_of c.args.setting.now in
     let faults = set_of c.args.run.now in
     subst (λ o. IfOk c.gather_all.result (λ b. b ≡ is_some o))
-    (support-from_all (is_down w faults) (is_shown w faults) c.args.formula.now c.in-All.parts c.as_slice.result.now c.in-All.is c.as_slice.ensures)
+    (rests_on-from_all (is_down w faults) (is_shown w faults) c.args.formula.now c.in-All.parts c.as_slice.result.now c.in-All.is c.as_slice.ensures)
     c.gather_all.ensures.found
 
 pub gather-returns-in-Any-clause-found : goal.gather-returns-in-Any-clause-found
@@ -22,7 +22,7 @@ gather-returns-in-Any-clause-found g t c =
     let w = world_of c.args.setting.now in
     let faults = set_of c.args.run.now in
     subst (λ o. IfOk c.gather_first.result (λ b. b ≡ is_some o))
-    (support-from_any (is_down w faults) (is_shown w faults) c.args.formula.now c.in-Any.parts c.as_slice-in-Any.result.now
+    (rests_on-from_any (is_down w faults) (is_shown w faults) c.args.formula.now c.in-Any.parts c.as_slice-in-Any.result.now
     c.in-Any.is c.as_slice-in-Any.ensures)
     c.gather_first.ensures.found
 
