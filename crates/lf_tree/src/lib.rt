@@ -1,6 +1,8 @@
 //! The certificate of a search, as a tree and as a text.
 #![tactic(auto)]
 
+mod fault;
 mod tree;
 
+pub use fault::TreeFault;
 pub use tree::{Edges, Kids, Node, Tree};
