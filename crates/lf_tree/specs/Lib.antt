@@ -1,2 +1,4 @@
 pub mod Faults
+pub mod Reading
 pub mod Texts
+pub mod Trees

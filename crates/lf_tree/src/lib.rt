@@ -2,6 +2,8 @@
 #![tactic(auto)]
 
 mod fault;
+mod lists;
+mod nodes;
 mod tree;
 
 pub use fault::TreeFault;

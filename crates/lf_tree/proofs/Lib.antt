@@ -1,0 +1,3 @@
+mod Ascending
+mod Items
+mod Named
