@@ -1,3 +1,4 @@
 mod Ascending
 mod Items
 mod Named
+mod NodeSteps

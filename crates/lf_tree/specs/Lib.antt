@@ -2,3 +2,4 @@ pub mod Faults
 pub mod Reading
 pub mod Texts
 pub mod Trees
+pub mod Views

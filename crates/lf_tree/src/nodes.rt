@@ -3,6 +3,7 @@
 ghost use Rattle.std.specs.Prelude.{◌≡◌, ◌≢◌, ◌-◌, MatchOption, Some, None, Ok, Err, IfOk, IfErr};
 ghost use Rattle.serde_json.specs.View.{view, items_view, members_view};
 ghost use Rattle.serde_json.specs.Events.{members_len};
+ghost use Rattle.lf_tree.specs.Views.{three_view};
 ghost use Rattle.lf_tree.specs.Reading.{one_in, three_in, leaf_in, branch_in, kids_in, node_in, all_in};
 
 use crate::lists::{edges_in, reach_in};
@@ -12,6 +13,7 @@ use serde_json::{Map, Value};
 use std::alloc::Global;
 
 /// The values of an object with three keys.
+#[derive(Clone, Copy)]
 pub(crate) struct Three<'a> {
     pub(crate) first: &'a Value,
     pub(crate) second: &'a Value,
@@ -38,7 +40,7 @@ pub(crate) fn one_in<'a>(value: &'a Value, key: &str) -> Option<&'a Value>
 /// The values of an object whose three keys these are.
 pub(crate) fn three_in<'a>(value: &'a Value, a: &str, b: &str, c: &str) -> Option<Three<'a>>
     ensures { MatchOption result (three_in a.now b.now c.now (view value.entry.now) ≡ None)
-        (λ r. three_in a.now b.now c.now (view value.entry.now) ≡ Some (view r.first.now, (view r.second.now, view r.third.now))) }
+        (λ r. three_in a.now b.now c.now (view value.entry.now) ≡ Some (three_view r)) }
 {
     match value {
         Value::Object(map) if count_of(map) == 3 => Some(Three {
@@ -76,9 +78,18 @@ pub(crate) fn node_in(alloc: Global, value: &Value, room: u32) -> Result<Node, T
     if room == 0 {
         return Err(TreeFault::TooDeep);
     }
+    branch_in(alloc, parts, room - 1)
+}
+
+/// The branch of its edges, its kids and its reach, with at most so many branches in each kid one in the other.
+#[cycle(node)]
+fn branch_in(alloc: Global, parts: Three<'_>, room: u32) -> Result<Node, TreeFault>
+    ensures ok { IfOk result (λ node. branch_in (node_in room) (three_view parts.entry) ≡ Ok node) }
+    ensures err { IfErr result (λ e. e ≢ TreeFault.Memory → branch_in (node_in room) (three_view parts.entry) ≡ Err e) }
+{
     let edges = edges_in(alloc, parts.first)?;
     let reach = reach_in(parts.third)?;
-    let kids = kids_in(alloc, parts.second, room - 1)?;
+    let kids = kids_in(alloc, parts.second, room)?;
     Ok(Node::Branch { reach, edges, kids })
 }
 

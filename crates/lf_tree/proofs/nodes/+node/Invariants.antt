@@ -4,13 +4,16 @@ use Rattle.lf_tree.specs.Reading.{◌>>=◌, all_in, node_in}
 use Rattle.lf_tree.proofs.nodes.+node.Given as goal
 
 abbrev pub decreases-node_in : goal.decreases-node_in
-decreases-node_in l = 3 * l.room
+decreases-node_in l = 4 * l.room
 
 abbrev pub decreases-nodes_in : goal.decreases-nodes_in
-decreases-nodes_in l = 3 * l.room + 1
+decreases-nodes_in l = 4 * l.room + 1
 
 abbrev pub decreases-kids_in : goal.decreases-kids_in
-decreases-kids_in l = 3 * l.room + 2
+decreases-kids_in l = 4 * l.room + 2
+
+abbrev pub decreases-branch_in : goal.decreases-branch_in
+decreases-branch_in l = 4 * l.room + 3
 
 abbrev pub invariant-nodes_in-items : goal.invariant-nodes_in-items
 invariant-nodes_in-items l =
