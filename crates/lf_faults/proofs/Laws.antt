@@ -17,6 +17,7 @@ use Rattle.lf_faults.proofs.Nexts as nexts
 use Rattle.lf_faults.proofs.Orders as orders
 use Rattle.lf_faults.proofs.Sameness as sameness
 use Rattle.lf_faults.proofs.Stepping as stepping
+use Rattle.lf_faults.proofs.Texts as spellings
 use Rattle.lf_faults.proofs.TextsBytes as texts
 use Rattle.lf_faults.proofs.Walks as walks
 
@@ -147,3 +148,7 @@ first_is_one = walks.first_is_one
 -- A fault's text has no comma and no line feed
 pub spelling_bytes : (f : Parts) → IsFault f → All (λ b. (b ≢ 44) × (b ≢ 10)) (spelling f)
 spelling_bytes = texts.spelling_bytes
+
+-- and no other fault has it
+pub spelling_injective : (f g : Parts) → IsFault f → IsFault g → spelling f ≡ spelling g → f ≡ g
+spelling_injective = spellings.spelling_injective
