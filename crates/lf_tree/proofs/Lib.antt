@@ -1,4 +1,6 @@
 mod Ascending
+mod Bytes
 mod Items
 mod Named
+mod NodeCases
 mod NodeSteps
