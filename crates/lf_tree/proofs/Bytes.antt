@@ -32,8 +32,11 @@ ascii-append (x ∷ xs) ys h k = let p = and_parts _ _ h in and_from _ _ p.0 (as
 pub ascii-plain : (xs : List ℕ) → are_plain xs ≡ true → are_ascii xs ≡ true
 ascii-plain [] h = refl
 ascii-plain (x ∷ xs) h =
-    let p = and_parts _ _ h in
-    and_from _ _ (and_parts _ _ (and_parts _ _ (and_parts _ _ p.0).1).1).1 (ascii-plain xs p.1)
+    let p = and_parts (is_plain x) (are_plain xs) h in
+    let low = and_parts (nat_le 32 x) (not (x == 34) && (not (x == 92) && nat_lt x 128)) p.0 in
+    let quote = and_parts (not (x == 34)) (not (x == 92) && nat_lt x 128) low.1 in
+    let slash = and_parts (not (x == 92)) (nat_lt x 128) quote.1 in
+    and_from _ _ slash.1 (ascii-plain xs p.1)
 
 differs : (x n : ℕ) → not (x == n) ≡ true → x ≡ n → ⊥
 differs x n h same = true≢false (sym h ∙ ap not (eq-eqb x n same))

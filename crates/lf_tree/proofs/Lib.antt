@@ -4,3 +4,5 @@ mod Items
 mod Named
 mod NodeCases
 mod NodeSteps
+mod ReadBack
+mod Written

@@ -7,6 +7,7 @@ use Rattle.lf_faults.specs.declared.fault.Parts.{Parts}
 use Rattle.lf_faults.specs.declared.fault.Parts.TheVariants.{Omit, Crash, Pause}
 use Rattle.lf_faults.specs.Faults.{IsFault}
 use Rattle.lf_faults.specs.Texts.{spelling}
+use Rattle.lf_faults.proofs.Laws.{spelling_injective}
 use Rattle.lf_tree.specs.Trees.{is_point, is_fault}
 use Rattle.lf_tree.specs.Reading.{or_else, first_below, if_spelled, spelled_at, fault_named}
 
@@ -127,3 +128,12 @@ same_when text (Some f) None is range some none = absurd (none refl f (range, (i
 -- what reads the fault of each text finds it
 pub named-is : (text : List ℕ) (read : Option Parts) → ((f : Parts) → IsFault f → ((read ≡ Some f) ↔ (text ≡ spelling f))) → IfSome read IsFault → read ≡ fault_named text
 named-is text read is range = same_when text read (fault_named text) is range (named-some text) (named-none text)
+
+found_own : (f : Parts) (found : Option Parts) → IsFault f → IfSome found (Spells (spelling f)) → (found ≡ None → (g : Parts) → Spells (spelling f) g → ⊥)
+    → found ≡ Some f
+found_own f None is some none = absurd (none refl f (is, refl))
+found_own f (Some g) is some none = ap Some (sym (spelling_injective f g is some.0 some.1))
+
+-- the text of a fault is of that fault
+pub named-spelling : (f : Parts) → IsFault f → fault_named (spelling f) ≡ Some f
+named-spelling f is = found_own f (fault_named (spelling f)) is (named-some (spelling f)) (named-none (spelling f))

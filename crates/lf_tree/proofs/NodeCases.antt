@@ -6,7 +6,7 @@ use Rattle.std.specs.List.{list_all, AllByRecursion, fold}
 use Rattle.std.proofs.lemmas.Bool.{and_parts}
 use Rattle.serde_json.specs.Data.{Data}
 use Rattle.lf_faults.specs.declared.fault.Parts.{Parts}
-use Rattle.lf_tree.specs.declared.tree.Node.{Node, fold-roll-Node}
+use Rattle.lf_tree.specs.declared.tree.Node.{Node, fold-Node, fold-roll-Node}
 use Rattle.lf_tree.specs.declared.tree.Node.TheVariants.{rolls-Misses, rolls-Reaches, rolls-Branch}
 use Rattle.lf_tree.specs.declared.tree.Node.TheVariants as kind
 use Rattle.lf_tree.specs.declared.tree.Node.TheOpen.{Node-F}
@@ -39,8 +39,6 @@ module _ (Q : Node → Type 0) where
 
 -- the three kinds under a fold
 module _ (A : Type 0) where
-  use Rattle.lf_tree.specs.declared.tree.Node.{fold-Node}
-
   pub fold-Misses : (step : Node-F A → A) → fold-Node A step kind.Misses ≡ step Node-F.Misses
   fold-Misses step = ap (fold-Node A step) (sym rolls-Misses) ∙ fold-roll-Node A step Node-F.Misses
 
