@@ -1,8 +1,15 @@
 mod Ascending
 mod Bytes
+mod FirstFaults
 mod Items
+mod KindLemmas
+mod LengthLemmas
+mod ListLemmas
 mod Named
 mod NodeCases
 mod NodeSteps
+mod PutLemmas
 mod ReadBack
+mod ReadFacts
+mod RowLemmas
 mod Written

@@ -1,5 +1,8 @@
+pub mod Counts
 pub mod Faults
+pub mod FirstFaults
 pub mod Reading
+pub mod Rows
 pub mod Texts
 pub mod Trees
 pub mod Values

@@ -1,10 +1,24 @@
 //! The certificate of a search, as a tree and as a text.
 #![tactic(auto)]
 
+mod counting;
 mod fault;
 mod lists;
 mod nodes;
+mod pauses;
+mod preorder;
+mod read;
+mod size;
 mod tree;
+mod write;
 
+pub use counting::count;
 pub use fault::TreeFault;
+pub use preorder::{Row, rows};
+pub use read::read_tree;
+pub use size::text_length;
 pub use tree::{Edges, Kids, Node, Tree};
+pub use write::to_text;
+
+#[cfg(test)]
+mod tests;

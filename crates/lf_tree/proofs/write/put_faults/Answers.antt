@@ -1,0 +1,10 @@
+use Rattle.std.proofs.Common.{arith, ◌++◌}
+use Rattle.lf_tree.specs.Texts.{faults_text, quoted}
+use Rattle.lf_tree.proofs.ListLemmas.{list-more}
+use Rattle.lf_tree.proofs.write.put_faults.Goals as goal
+
+pub faults-preserved : goal.faults-preserved
+faults-preserved c =
+    list-more quoted c.args.faults.now c.faults.i c.index-faults-i.result c.index-faults-i.result c.faults.text.items
+    c.put_comma.new.text.items c.put_fault.new.text.items (c.args.text.now.items ++ faults_text c.args.faults.now) (omega arith)
+    c.index-faults-i.is c.faults.invariant c.in_ok-put_comma.ensures c.in_ok-put_fault.ensures
