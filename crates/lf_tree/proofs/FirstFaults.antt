@@ -29,14 +29,14 @@ of_value bytes Memory h w = absurd (true≢false (sym h))
 -- a value that gives no tree
 pub value-refused : (bytes : List ℕ) (d : Data) (e : TreeFault) → length bytes ≤ most_bytes → IsJson bytes d → tree_in d ≡ Err e → IsFirstFault bytes e
 value-refused bytes d e fits json is =
-    of_value bytes e (subst IsSound is (tree-sound d)) (fits, (d, (json, ap (λ r. r >>= if_own bytes) is)))
+    of_value bytes e (subst IsSound is (tree-sound d)) (fits, (d, json, ap (λ r. r >>= if_own bytes) is))
 
 -- a value that gives a tree of which the bytes aren't the text
 pub text-refused : (bytes : List ℕ) (d : Data) (t : Tree) → length bytes ≤ most_bytes → IsJson bytes d → tree_in d ≡ Ok t → (tree_text t ≡ bytes → ⊥)
     → IsFirstFault bytes Form
 text-refused bytes d t fits json is other =
     let differ : bytes_eq (tree_text t) bytes ≡ false = false_from_ne_true _ (λ same. other ((bytes_eq-Decides (tree_text t) bytes).0 same)) in
-    (fits, (d, (json, ap (λ r. r >>= if_own bytes) is ∙ ap (λ b. checked Form b t) differ)))
+    (fits, (d, json, ap (λ r. r >>= if_own bytes) is ∙ ap (λ b. checked Form b t) differ))
 
 -- the text of a tree is JSON of its value, which reads as the tree
 pub own-json : (t : Tree) → IsTree t → IsInRange t → IsJson (tree_text t) (tree_value t)
@@ -73,7 +73,7 @@ own-value bytes d r json ok err = own-given bytes d r json.1 ok err is_memory
 
 -- the two clauses on what is read
 pub value-said : (bytes : List ℕ) (d : Data) (r : Reading Tree) → IsJson bytes d → IfOk r (λ t. tree_in d ≡ Ok t) → IfOk r (λ t. (v : Data) × IsJson bytes v × (tree_in v ≡ Ok t))
-value-said bytes d (Ok t) json ok = (d, (json, ok))
+value-said bytes d (Ok t) json ok = (d, json, ok)
 value-said bytes d (Err e) json ok = tt
 
 pub value-wrong : (bytes : List ℕ) (d : Data) (r : Reading Tree) → length bytes ≤ most_bytes → IsJson bytes d → IfErr r (λ e. e ≢ Memory → tree_in d ≡ Err e)
@@ -87,3 +87,6 @@ said-in_range bytes d t fits is same = record {
   shallow = subst (λ r. IfOk r (λ x. depth_of x.root ≤ 6)) is (tree-low d);
   short = omega (arith, ap length same, fits);
 }
+
+pub some_not_none : {A : Type 0} (o : Option A) (x : A) → o ≡ Some x → o ≡ None → ⊥
+some_not_none o x some none = cc
