@@ -21,4 +21,6 @@ pub use tree::{Edges, Kids, Node, Tree};
 pub use write::to_text;
 
 #[cfg(test)]
+mod read_tests;
+#[cfg(test)]
 mod tests;
