@@ -11,5 +11,6 @@ mod NodeSteps
 mod PutLemmas
 mod ReadBack
 mod ReadFacts
+mod RestLemmas
 mod RowLemmas
 mod Written

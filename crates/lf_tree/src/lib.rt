@@ -5,6 +5,7 @@ mod counting;
 mod fault;
 mod lists;
 mod nodes;
+mod own;
 mod pauses;
 mod preorder;
 mod read;
@@ -20,7 +21,5 @@ pub use size::text_length;
 pub use tree::{Edges, Kids, Node, Tree};
 pub use write::to_text;
 
-#[cfg(test)]
-mod read_tests;
 #[cfg(test)]
 mod tests;

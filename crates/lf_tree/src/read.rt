@@ -1,6 +1,6 @@
 //! The reader of trees.
 
-ghost use Rattle.std.specs.Prelude.{◌≡◌, ◌≢◌, ◌<◌, ◌≤◌, ◌↔◌, length, IsTrue, Ok, Err, IfOk, IfErr, MatchResult};
+ghost use Rattle.std.specs.Prelude.{◌≡◌, ◌≢◌, ◌<◌, ◌≤◌, length, Ok, Err, IfOk, IfErr, MatchResult};
 ghost use Rattle.serde_json.specs.Data.{Data};
 ghost use Rattle.serde_json.specs.View.{view};
 ghost use Rattle.lf_tree.specs.declared.tree.Tree.{Tree};
@@ -12,8 +12,9 @@ ghost use Rattle.lf_tree.specs.Views.{three_view};
 
 use crate::lists::{answer_in, format_in};
 use crate::nodes::{Three, node_in, three_in};
+use crate::own::is_own;
 use crate::size::MOST_BYTES;
-use crate::{Tree, TreeFault, to_text};
+use crate::{Tree, TreeFault};
 use serde_json::Value;
 use std::alloc::Global;
 
@@ -36,7 +37,7 @@ pub fn read_tree(alloc: Global, bytes: &[u8]) -> Result<Tree, TreeFault>
         return Err(TreeFault::TooLong);
     }
     let tree = said(alloc, bytes)?;
-    if is_own(alloc, &tree, bytes)? {
+    if is_own(&tree, bytes) {
         Ok(tree)
     } else {
         Err(TreeFault::Form)
@@ -78,17 +79,4 @@ fn parts_in(alloc: Global, parts: Three<'_>) -> Result<Tree, TreeFault>
     let _format = format_in(parts.second)?;
     let root = node_in(alloc, parts.third, MOST_BRANCHES)?;
     Ok(Tree { answer, root })
-}
-
-/// Whether the bytes are the text of the tree.
-fn is_own(alloc: Global, tree: &Tree, bytes: &[u8]) -> Result<bool, TreeFault>
-    requires { length bytes.now ≤ most_bytes }
-    ensures own { IfOk result (λ own. IsTrue own ↔ (tree_text tree.now ≡ bytes.now)) }
-    ensures memory { IfErr result (λ e. e ≡ TreeFault.Memory) }
-{
-    match to_text(alloc, tree) {
-        Ok(text) => Ok(text.as_slice() == bytes),
-        Err(TreeFault::TooLong) => Ok(false),
-        Err(_) => Err(TreeFault::Memory),
-    }
 }
