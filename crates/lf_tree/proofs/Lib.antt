@@ -1,5 +1,8 @@
+mod Inductions
 mod KindLemmas
+pub mod Laws
 mod LengthLemmas
+mod LinkLemmas
 mod ListLemmas
 mod PutLemmas
 mod RowLemmas

@@ -1,4 +1,5 @@
 pub mod Counts
 pub mod Faults
+pub mod Heirs
 pub mod Rows
 pub mod Texts
