@@ -1,13 +1,15 @@
 -- What crates above need of trees and their rows.
-use Rattle.std.proofs.Common.{◌≡◌, ℕ, ◌+◌, List, map, sum}
+use Rattle.std.proofs.Common.{◌≡◌, ℕ, ◌+◌, ◌<◌, List, length, map, sum}
+use Rattle.std.specs.Prelude.{Some}
+use Rattle.std.specs.List.{slice_get}
 use Rattle.lf_faults.specs.declared.fault.Parts.{Parts}
 use Rattle.lf_tree.specs.declared.tree.Tree.{Tree}
 use Rattle.lf_tree.specs.declared.tree.Node.{Node}
 use Rattle.lf_tree.specs.declared.tree.Node.TheVariants as kind
-use Rattle.lf_tree.specs.Counts.{nodes_in}
-use Rattle.lf_tree.specs.Heirs.{AreLinked, kids_of}
-use Rattle.lf_tree.specs.Rows.{Seen}
-use Rattle.lf_tree.proofs.Inductions as inductions
+use Rattle.lf_tree.specs.Counts.{nodes_in, nodes_of}
+use Rattle.lf_tree.specs.Heirs.{AreLinked, IsHung, kids_of}
+use Rattle.lf_tree.specs.Rows.{Seen, preorder, rows_of}
+use Rattle.lf_tree.proofs.HangLemmas as hangs
 use Rattle.lf_tree.proofs.KindLemmas as kinds
 use Rattle.lf_tree.proofs.LinkLemmas as links
 
@@ -24,3 +26,14 @@ nodes_in-Branch = kinds.nodes_in-Branch
 -- the first is that of a kid of the node whose place it names
 pub linked : {A : Type 0} (handed : A → Node → ℕ → A) (tree : Tree) (value : A) → (rows : List (Seen × A)) × AreLinked handed tree value rows
 linked handed tree value = (links.linked_rows handed tree value, links.linked handed tree value)
+
+-- the same without values
+pub hung : (tree : Tree) (k : ℕ) (r : Seen) → 0 < k → slice_get (rows_of tree) k ≡ Some r → IsHung (rows_of tree) k r
+hung = hangs.hung
+
+-- the rows are those of the nodes in order, and as many as there are nodes
+pub nodes-rows_of : (tree : Tree) → map (λ (r : Seen). r.node) (rows_of tree) ≡ preorder tree.root
+nodes-rows_of = hangs.nodes-rows_of
+
+pub length-rows_of : (tree : Tree) → length (rows_of tree) ≡ nodes_of tree
+length-rows_of = hangs.length-rows_of

@@ -1,3 +1,4 @@
+mod HangLemmas
 mod Inductions
 mod KindLemmas
 pub mod Laws
