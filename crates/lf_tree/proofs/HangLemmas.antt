@@ -39,7 +39,7 @@ hung tree k r later is =
     let are : AreLinked nothing tree 0 rows = linked nothing tree 0 in
     let row_of : Seen × ℕ → Seen = λ e. e.0 in
     let found : (e : Seen × ℕ) × (slice_get rows k ≡ Some e) × (row_of e ≡ r) =
-      from_map row_of rows k r (ap (λ rs. slice_get rs k) are.rows_are ∙ is) in
+    from_map row_of rows k r (ap (λ rs. slice_get rs k) are.rows_are ∙ is) in
     let has : HasBranch nothing rows k found.0 = are.hang k found.0 later found.1 in
     record {
       place = has.place;
@@ -91,8 +91,8 @@ are_nodes = by_induction AreNodes (record {
   misses = λ place depth next. ap (λ b. map node_of (b place depth next)) beneath-Misses ∙ sym under-Misses;
   reaches = λ place depth next. ap (λ b. map node_of (b place depth next)) beneath-Reaches ∙ sym under-Reaches;
   branch = λ reach edges kids all place depth next.
-    ap (map node_of) (beneath-Branch reach edges kids place depth next) ∙ nodes-kids place depth next 0 kids all
-    ∙ sym (under-Branch reach edges kids);
+      ap (map node_of) (beneath-Branch reach edges kids place depth next) ∙ nodes-kids place depth next 0 kids all
+      ∙ sym (under-Branch reach edges kids);
 })
 
 pub nodes-rows_of : (tree : Tree) → map (λ (r : Seen). r.node) (rows_of tree) ≡ preorder tree.root
@@ -127,10 +127,10 @@ is_counted = by_induction IsCounted (record {
   misses = λ place depth next. ap (λ b. length (b place depth next) + 1) beneath-Misses ∙ sym nodes_in-Misses;
   reaches = λ place depth next. ap (λ b. length (b place depth next) + 1) beneath-Reaches ∙ sym nodes_in-Reaches;
   branch = λ reach edges kids all place depth next.
-    let rows : length (beneath (kind.Branch reach edges kids) place depth next) ≡ length (kids_rows place depth next 0 kids) =
+      let rows : length (beneath (kind.Branch reach edges kids) place depth next) ≡ length (kids_rows place depth next 0 kids) =
       ap length (beneath-Branch reach edges kids place depth next) in
-    let beneath_it : length (kids_rows place depth next 0 kids) ≡ sum (map nodes_in kids) = counted-kids place depth next 0 kids all in
-    omega (arith, rows, beneath_it, nodes_in-Branch reach edges kids);
+      let beneath_it : length (kids_rows place depth next 0 kids) ≡ sum (map nodes_in kids) = counted-kids place depth next 0 kids all in
+      omega (arith, rows, beneath_it, nodes_in-Branch reach edges kids);
 })
 
 pub length-rows_of : (tree : Tree) → length (rows_of tree) ≡ nodes_of tree

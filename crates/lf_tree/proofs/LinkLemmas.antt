@@ -1,5 +1,6 @@
 -- How the rows of a tree hang together.
-use Rattle.std.proofs.Common.{◌≡◌, ℕ, zero, suc, ◌+◌, ◌<◌, List, [], ◌∷◌, ◌++◌, length, length-append, get_or, refl, sym, ap, subst, ◌∙◌, map, append_assoc, add-one, arith}
+use Rattle.std.proofs.Common.{◌≡◌, ℕ, zero, suc, ◌+◌, ◌<◌, List, [], ◌∷◌, ◌++◌}
+use Rattle.std.proofs.Common.{length, length-append, refl, sym, ap, subst, ◌∙◌, map, append_assoc, arith}
 use Rattle.std.specs.Prelude.{⊤, None, Some}
 use Rattle.std.specs.List.{AllByRecursion, slice_get}
 use Rattle.std.proofs.Math.Seq.{get_or-append_seam}
@@ -12,7 +13,7 @@ use Rattle.lf_tree.specs.declared.tree.Node.TheVariants.{rolls-Misses, rolls-Rea
 use Rattle.lf_tree.specs.declared.tree.Node.TheVariants as kind
 use Rattle.lf_tree.specs.declared.tree.Node.TheOpen.{Node-F}
 use Rattle.lf_tree.specs.Heirs.{AreLinked, HasBranch, heirs, heirs_of, heirs_step, kids_in, kids_of}
-use Rattle.lf_tree.specs.Rows.{Seen, beneath, rows_of}
+use Rattle.lf_tree.specs.Rows.{Seen, beneath}
 use Rattle.lf_tree.proofs.Inductions.{by_induction}
 use Rattle.lf_tree.proofs.RowLemmas.{beneath-Branch, beneath-Misses, beneath-Reaches, kid_row, kids_rows}
 
@@ -125,9 +126,9 @@ module _ {A : Type 0} (handed : A → Node → ℕ → A) where
     rows : (value : A) (place depth next : ℕ) → map row_of (tell n value place depth next) ≡ beneath n place depth next
     values : (value : A) (place depth next : ℕ) → map value_of (tell n value place depth next) ≡ heirs handed n value
     hang : (value : A) (place depth next : ℕ) (branch : Seen) (whole before after : List (Seen × A))
-      → whole ≡ before ++ (tell n value place depth next ++ after) → next ≡ length before → place < next
-      → slice_get whole place ≡ Some (branch, value) → branch.node ≡ n → branch.depth ≡ depth
-      → Hang whole next (tell n value place depth next)
+        → whole ≡ before ++ (tell n value place depth next ++ after) → next ≡ length before → place < next
+        → slice_get whole place ≡ Some (branch, value) → branch.node ≡ n → branch.depth ≡ depth
+        → Hang whole next (tell n value place depth next)
 
   rows-kids : (branch : Node) (value : A) (place depth next kid : ℕ) (kids : List Node) → AllByRecursion Told kids
       → map row_of (kids_told branch value place depth next kid kids) ≡ kids_rows place depth next kid kids
@@ -137,7 +138,7 @@ module _ {A : Type 0} (handed : A → Node → ℕ → A) where
       let all : List (Seen × A) = (kid_row place depth kid k, given) ∷ tell k given next (depth + 1) (next + 1) in
       let rows : List Seen = kid_row place depth kid k ∷ beneath k next (depth + 1) (next + 1) in
       let all_is : map row_of all ≡ rows =
-        ap (λ rs. kid_row place depth kid k ∷ rs) (told.0.rows given next (depth + 1) (next + 1)) in
+      ap (λ rs. kid_row place depth kid k ∷ rs) (told.0.rows given next (depth + 1) (next + 1)) in
       let size : length all ≡ length rows = sym (length-map all row_of) ∙ ap length all_is in
       map-append row_of all (kids_told branch value place depth (next + length all) (kid + 1) ks)
       ∙ ap (λ rs. rs ++ map row_of (kids_told branch value place depth (next + length all) (kid + 1) ks)) all_is
@@ -171,8 +172,8 @@ module _ {A : Type 0} (handed : A → Node → ℕ → A) where
       let rest : List (Seen × A) = kids_told n value place depth (next + length all) (kid + 1) ks in
       let whole_is : whole ≡ before ++ (all ++ (rest ++ after)) = is ∙ ap (λ es. before ++ es) (append_assoc all rest after) in
       let place_of_kid : slice_get (kids_of branch.node) kid ≡ Some k =
-        ap (λ m. slice_get (kids_of m) kid) node_is ∙ ap (λ ms. slice_get ms kid) all_kids
-        ∙ ap (λ j. slice_get (done ++ (k ∷ ks)) j) kid_is ∙ get-seam done k ks in
+      ap (λ m. slice_get (kids_of m) kid) node_is ∙ ap (λ ms. slice_get ms kid) all_kids
+      ∙ ap (λ j. slice_get (done ++ (k ∷ ks)) j) kid_is ∙ get-seam done k ks in
       let own : HasBranch handed whole next first = record {
         place = place;
         branch = (branch, value);
@@ -186,23 +187,23 @@ module _ {A : Type 0} (handed : A → Node → ℕ → A) where
         };
       } in
       let whole_below : whole ≡ (before ++ (first ∷ [])) ++ (below ++ (rest ++ after)) =
-        whole_is ∙ sym (append_assoc before (first ∷ []) (below ++ (rest ++ after))) in
+      whole_is ∙ sym (append_assoc before (first ∷ []) (below ++ (rest ++ after))) in
       let one : length (first ∷ []) ≡ 1 = refl in
       let below_counted : next + 1 ≡ length (before ++ (first ∷ [])) =
-        omega (arith, counted, one, length-append before (first ∷ [])) in
+      omega (arith, counted, one, length-append before (first ∷ [])) in
       let seen_there : slice_get whole next ≡ Some first =
-        ap (λ es. slice_get es next) whole_is ∙ ap (λ j. slice_get (before ++ (all ++ (rest ++ after))) j) counted
-        ∙ get-seam before first (below ++ (rest ++ after)) in
+      ap (λ es. slice_get es next) whole_is ∙ ap (λ j. slice_get (before ++ (all ++ (rest ++ after))) j) counted
+      ∙ get-seam before first (below ++ (rest ++ after)) in
       let beneath_it : Hang whole (next + 1) below =
-        told.0.hang given next (depth + 1) (next + 1) row whole (before ++ (first ∷ [])) (rest ++ after) whole_below below_counted
-        (omega arith) seen_there refl refl in
+      told.0.hang given next (depth + 1) (next + 1) row whole (before ++ (first ∷ [])) (rest ++ after) whole_below below_counted
+      (omega arith) seen_there refl refl in
       let whole_rest : whole ≡ (before ++ all) ++ (rest ++ after) = whole_is ∙ sym (append_assoc before all (rest ++ after)) in
       let rest_counted : next + length all ≡ length (before ++ all) = omega (arith, counted, length-append before all) in
       let later : Hang whole (next + length all) rest =
-        hang-kids n value place depth (next + length all) (kid + 1) branch (done ++ (k ∷ [])) ks whole (before ++ all) after told.1
-        (all_kids ∙ sym (append_assoc done (k ∷ []) ks))
-        (let last : length (k ∷ []) ≡ 1 = refl in omega (arith, kid_is, last, length-append done (k ∷ [])))
-        whole_rest rest_counted (omega (arith, earlier)) there node_is depth_is in
+      hang-kids n value place depth (next + length all) (kid + 1) branch (done ++ (k ∷ [])) ks whole (before ++ all) after told.1
+      (all_kids ∙ sym (append_assoc done (k ∷ []) ks))
+      (let last : length (k ∷ []) ≡ 1 = refl in omega (arith, kid_is, last, length-append done (k ∷ [])))
+      whole_rest rest_counted (omega (arith, earlier)) there node_is depth_is in
       hang-append whole next (next + length all) all rest refl (own, beneath_it) later
 
   told_all : (n : Node) → Told n
@@ -211,26 +212,26 @@ module _ {A : Type 0} (handed : A → Node → ℕ → A) where
       rows = λ value place depth next. ap (map row_of) (tell-Misses value place depth next) ∙ sym (ap (λ b. b place depth next) beneath-Misses);
       values = λ value place depth next. ap (map value_of) (tell-Misses value place depth next) ∙ sym (heirs-Misses value);
       hang = λ value place depth next branch whole before after is counted earlier there node_is depth_is.
-        subst (Hang whole next) (sym (tell-Misses value place depth next)) tt;
+          subst (Hang whole next) (sym (tell-Misses value place depth next)) tt;
     };
     reaches = record {
       rows = λ value place depth next. ap (map row_of) (tell-Reaches value place depth next) ∙ sym (ap (λ b. b place depth next) beneath-Reaches);
       values = λ value place depth next. ap (map value_of) (tell-Reaches value place depth next) ∙ sym (heirs-Reaches value);
       hang = λ value place depth next branch whole before after is counted earlier there node_is depth_is.
-        subst (Hang whole next) (sym (tell-Reaches value place depth next)) tt;
+          subst (Hang whole next) (sym (tell-Reaches value place depth next)) tt;
     };
     branch = λ reach edges kids told. record {
       rows = λ value place depth next.
-        ap (map row_of) (tell-Branch reach edges kids value place depth next)
-        ∙ rows-kids (kind.Branch reach edges kids) value place depth next 0 kids told
-        ∙ sym (beneath-Branch reach edges kids place depth next);
+          ap (map row_of) (tell-Branch reach edges kids value place depth next)
+          ∙ rows-kids (kind.Branch reach edges kids) value place depth next 0 kids told
+          ∙ sym (beneath-Branch reach edges kids place depth next);
       values = λ value place depth next.
-        ap (map value_of) (tell-Branch reach edges kids value place depth next)
-        ∙ values-kids (kind.Branch reach edges kids) value place depth next 0 kids told
-        ∙ sym (heirs-Branch reach edges kids value);
+          ap (map value_of) (tell-Branch reach edges kids value place depth next)
+          ∙ values-kids (kind.Branch reach edges kids) value place depth next 0 kids told
+          ∙ sym (heirs-Branch reach edges kids value);
       hang = λ value place depth next branch whole before after is counted earlier there node_is depth_is.
-        subst (Hang whole next) (sym (tell-Branch reach edges kids value place depth next))
-        (hang-kids (kind.Branch reach edges kids) value place depth next 0 branch [] kids whole before after told
+          subst (Hang whole next) (sym (tell-Branch reach edges kids value place depth next))
+          (hang-kids (kind.Branch reach edges kids) value place depth next 0 branch [] kids whole before after told
           (kids_of-Branch reach edges kids) refl
           (is ∙ ap (λ es. before ++ (es ++ after)) (tell-Branch reach edges kids value place depth next))
           counted earlier there node_is depth_is);
@@ -254,8 +255,8 @@ module _ {A : Type 0} (handed : A → Node → ℕ → A) where
       let whole : List (Seen × A) = (root, value) ∷ below in
       let told : Told tree.root = told_all tree.root in
       let hangs : Hang whole 1 below =
-        told.hang value 0 0 1 root whole ((root, value) ∷ []) [] (ap (λ es. (root, value) ∷ es) (sym (append-nil below))) refl (omega arith) refl
-        refl refl in
+      told.hang value 0 0 1 root whole ((root, value) ∷ []) [] (ap (λ es. (root, value) ∷ es) (sym (append-nil below))) refl (omega arith) refl
+      refl refl in
       record {
         rows_are = ap (λ rs. root ∷ rs) (told.rows value 0 0 1);
         values_are = ap (λ vs. (value, tree.root) ∷ vs) (told.values value 0 0 1);

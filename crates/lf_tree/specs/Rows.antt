@@ -1,5 +1,5 @@
 -- The nodes of a tree, one after another, and where each stands.
-use Rattle.std.specs.Prelude.{◌≡◌, ℕ, ◌+◌, List, [], ◌∷◌, ◌++◌, length, Option, None, Some}
+use Rattle.std.specs.Prelude.{ℕ, ◌+◌, List, [], ◌∷◌, ◌++◌, length, Option, None, Some}
 use Rattle.std.specs.List.{flat_map}
 use Rattle.lf_tree.specs.declared.tree.Tree.{Tree}
 use Rattle.lf_tree.specs.declared.tree.Node.{Node, para-Node}
@@ -23,7 +23,7 @@ abbrev pub of_kids : ℕ → ℕ → ℕ → ℕ → List (Node × (ℕ → ℕ 
 of_kids place depth next kid [] = []
 of_kids place depth next kid (one ∷ more) =
     let all : List Seen =
-      record { parent = Some place; kid = kid; depth = depth + 1; node = one.0 } ∷ one.1 next (depth + 1) (next + 1) in
+    record { parent = Some place; kid = kid; depth = depth + 1; node = one.0 } ∷ one.1 next (depth + 1) (next + 1) in
     all ++ of_kids place depth (next + length all) (kid + 1) more
 
 -- one level, with for each kid the node and the rows beneath it
