@@ -1,9 +1,13 @@
 mod Ascending
 mod Bytes
 mod FirstFaults
+mod HangLemmas
+mod Inductions
 mod Items
 mod KindLemmas
+pub mod Laws
 mod LengthLemmas
+mod LinkLemmas
 mod ListLemmas
 mod Named
 mod NodeCases

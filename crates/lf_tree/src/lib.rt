@@ -22,4 +22,6 @@ pub use tree::{Edges, Kids, Node, Tree};
 pub use write::to_text;
 
 #[cfg(test)]
+mod read_tests;
+#[cfg(test)]
 mod tests;
