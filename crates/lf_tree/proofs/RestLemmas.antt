@@ -65,17 +65,17 @@ pub own-some : (text bytes rest : List ℕ) (empty : Bool) → Some rest ≡ ski
 own-some text bytes rest empty is test = (
   (λ h. sym (skip-some text bytes rest (sym is) ∙ ap (λ r. text ++ r) (no_items rest (sym test ∙ h)) ∙ append-nil text)),
   (λ same.
-    let whole : skip text (Some bytes) ≡ Some [] = ap (λ bs. skip text (Some bs)) (sym same ∙ sym (append-nil text)) ∙ skip-own text [] in
-    let none : rest ≡ [] = cc in
-    test ∙ ap (λ r. length r == 0) none),
+      let whole : skip text (Some bytes) ≡ Some [] = ap (λ bs. skip text (Some bs)) (sym same ∙ sym (append-nil text)) ∙ skip-own text [] in
+      let none : rest ≡ [] = cc in
+      test ∙ ap (λ r. length r == 0) none),
 )
 
 pub own-none : (text bytes : List ℕ) → None ≡ skip text (Some bytes) → (false ≡ true → text ≡ bytes) × (text ≡ bytes → false ≡ true)
 own-none text bytes is = (
   (λ h. absurd (false≢true h)),
   (λ same.
-    let whole : skip text (Some bytes) ≡ Some [] = ap (λ bs. skip text (Some bs)) (sym same ∙ sym (append-nil text)) ∙ skip-own text [] in
-    cc),
+      let whole : skip text (Some bytes) ≡ Some [] = ap (λ bs. skip text (Some bs)) (sym same ∙ sym (append-nil text)) ∙ skip-own text [] in
+      cc),
 )
 
 -- before the first item nothing comes

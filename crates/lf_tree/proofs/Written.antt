@@ -282,8 +282,8 @@ pub read-written : (d : Data) (deep : ℕ) (text : List ℕ) → IsWritten d dee
 read-written d deep text h low = (
   IsUtf8-are_ascii text h.ascii,
   ap (λ s. option_and_then of_json (option_and_then (λ p. json.if_last p.0 p.1) (json.value max_depth s)))
-  (ap tokens (sym h.spelled ∙ sym (print-outline d)) ∙ tokens-print (json_tokens (outline d)) (ArePrintable-json_tokens (outline d) h.numbers)
-  ∙ sym (append-nil (json_tokens (outline d))))
-  ∙ ap (λ o. option_and_then of_json (option_and_then (λ p. json.if_last p.0 p.1) o)) (value-json_tokens (outline d) max_depth [] (omega (arith, h.shallow)))
-  ∙ h.reads,
+      (ap tokens (sym h.spelled ∙ sym (print-outline d)) ∙ tokens-print (json_tokens (outline d)) (ArePrintable-json_tokens (outline d) h.numbers)
+      ∙ sym (append-nil (json_tokens (outline d))))
+      ∙ ap (λ o. option_and_then of_json (option_and_then (λ p. json.if_last p.0 p.1) o)) (value-json_tokens (outline d) max_depth [] (omega (arith, h.shallow)))
+      ∙ h.reads,
 )

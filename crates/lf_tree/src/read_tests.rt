@@ -19,7 +19,14 @@ fn number(alloc: Global, bytes: &[u8]) -> u32 {
 }
 
 /// What is wrong with the text of an object with these values.
-fn whole(rt: &impl Abort, alloc: Global, answer: &str, format: &str, root: &str, wanted: u32) -> Result<(), Fail> {
+fn whole(
+    rt: &impl Abort,
+    alloc: Global,
+    answer: &str,
+    format: &str,
+    root: &str,
+    wanted: u32,
+) -> Result<(), Fail> {
     let mut text = String::new(alloc);
     text.push_str("{\"answer\":")?;
     text.push_str(answer)?;
@@ -33,7 +40,14 @@ fn whole(rt: &impl Abort, alloc: Global, answer: &str, format: &str, root: &str,
 }
 
 /// What is wrong with the text of a tree of one branch with these values.
-fn branch(rt: &impl Abort, alloc: Global, edges: &str, kids: &str, reach: &str, wanted: u32) -> Result<(), Fail> {
+fn branch(
+    rt: &impl Abort,
+    alloc: Global,
+    edges: &str,
+    kids: &str,
+    reach: &str,
+    wanted: u32,
+) -> Result<(), Fail> {
     let mut text = String::new(alloc);
     text.push_str("{\"edges\":")?;
     text.push_str(edges)?;
@@ -94,7 +108,8 @@ fn reads_each_part_of_a_tree(rt: HostRuntime) -> Result<(), Fail> {
 
 #[test]
 fn reads_kids_in_their_order(rt: HostRuntime) -> Result<(), Fail> {
-    let text = "{\"answer\":null,\"format\":2,\"root\":{\"edges\":[\"pause 1 @2\",\"crash 3 @10\"],\"kids\":[{\"misses\":false},{\"misses\":true}],\"reach\":[0,48]}}";
+    let text =
+        "{\"answer\":null,\"format\":2,\"root\":{\"edges\":[\"pause 1 @2\",\"crash 3 @10\"],\"kids\":[{\"misses\":false},{\"misses\":true}],\"reach\":[0,48]}}";
     let tree = read(rt.alloc(), text)?;
     assert!(rt; tree.answer.is_none());
     match &tree.root {
@@ -217,7 +232,8 @@ fn judges_an_answer_by_length_then_items_then_order(rt: HostRuntime) -> Result<(
 
 #[test]
 fn takes_an_answer_of_six_faults(rt: HostRuntime) -> Result<(), Fail> {
-    let six = "[\"crash 0 @1\",\"crash 0 @2\",\"crash 0 @3\",\"crash 0 @4\",\"crash 0 @5\",\"crash 0 @6\"]";
+    let six =
+        "[\"crash 0 @1\",\"crash 0 @2\",\"crash 0 @3\",\"crash 0 @4\",\"crash 0 @5\",\"crash 0 @6\"]";
     whole(&rt, rt.alloc(), six, "1", "{\"misses\":true}", 0)
 }
 
@@ -238,7 +254,14 @@ fn the_format_is_that_of_the_tree(rt: HostRuntime) -> Result<(), Fail> {
     whole(&rt, rt.alloc(), "[\"pause 0 @1\"]", "1", leaf, 3)?;
     whole(&rt, rt.alloc(), "[\"pause 0 @1\"]", "2", leaf, 0)?;
     branch(&rt, rt.alloc(), "[\"pause 0 @1\"]", "[]", "[0,0]", 3)?;
-    whole(&rt, rt.alloc(), "null", "2", "{\"edges\":[\"pause 0 @1\"],\"kids\":[],\"reach\":[0,0]}", 0)
+    whole(
+        &rt,
+        rt.alloc(),
+        "null",
+        "2",
+        "{\"edges\":[\"pause 0 @1\"],\"kids\":[],\"reach\":[0,0]}",
+        0,
+    )
 }
 
 #[test]
@@ -304,7 +327,13 @@ fn six_branches_may_stand_one_in_the_other(rt: HostRuntime) -> Result<(), Fail> 
 
 #[test]
 fn refuses_bytes_that_are_not_utf_8(rt: HostRuntime) {
-    assert_eq!(rt; number(rt.alloc(), b"{\"answer\":null,\"format\":1,\"root\":{\"misses\":true},\"\xff\":0}"), 2);
+    assert_eq!(rt;
+        number(
+            rt.alloc(),
+            b"{\"answer\":null,\"format\":1,\"root\":{\"misses\":true},\"\xff\":0}"
+        ),
+        2
+    );
     assert_eq!(rt; number(rt.alloc(), b"\xff"), 2);
     assert_eq!(rt; number(rt.alloc(), b""), 2);
 }
