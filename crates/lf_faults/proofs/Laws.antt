@@ -19,6 +19,7 @@ use Rattle.lf_faults.proofs.Orders as orders
 use Rattle.lf_faults.proofs.Sameness as sameness
 use Rattle.lf_faults.proofs.Sizes as sizes
 use Rattle.lf_faults.proofs.Stepping as stepping
+use Rattle.lf_faults.proofs.Texts as spellings
 use Rattle.lf_faults.proofs.TextsBytes as texts
 use Rattle.lf_faults.proofs.Walks as walks
 
@@ -161,3 +162,7 @@ first_is_one = walks.first_is_one
 -- A fault's text has no comma and no line feed
 pub spelling_bytes : (f : Parts) → IsFault f → All (λ b. (b ≢ 44) × (b ≢ 10)) (spelling f)
 spelling_bytes = texts.spelling_bytes
+
+-- and no other fault has it
+pub spelling_injective : (f g : Parts) → IsFault f → IsFault g → spelling f ≡ spelling g → f ≡ g
+spelling_injective = spellings.spelling_injective

@@ -5,7 +5,7 @@ use Rattle.std.specs.Fmt.{decimal}
 use Rattle.std.specs.List.{list_any}
 use Rattle.std.proofs.lemmas.List.{take_all}
 use Rattle.lf_faults.specs.declared.fault.Parts.{Parts}
-use Rattle.lf_tree.specs.declared.tree.Node.{Node, fold-roll-Node, para-roll-Node}
+use Rattle.lf_tree.specs.declared.tree.Node.{Node, fold-roll-Node}
 use Rattle.lf_tree.specs.declared.tree.Node.TheVariants.{rolls-Misses, rolls-Reaches, rolls-Branch}
 use Rattle.lf_tree.specs.declared.tree.Node.TheVariants as kind
 use Rattle.lf_tree.specs.declared.tree.Node.TheOpen.{Node-F}
@@ -45,7 +45,7 @@ pub count-all : (n : Node) (reach : List ℕ) (edges : List Parts) (kids xs : Li
     → count ≡ min (nodes_in n) 18446744073709551615
 count-all n reach edges kids xs i count is same far h =
     let whole : sum (map nodes_in (take i xs)) ≡ sum (map nodes_in kids) =
-      ap (λ (ys : List Node). sum (map nodes_in ys)) (take_all i xs far ∙ same) in
+    ap (λ (ys : List Node). sum (map nodes_in ys)) (take_all i xs far ∙ same) in
     let by_kind : nodes_in n ≡ 1 + sum (map nodes_in kids) = ap nodes_in is ∙ nodes_in-Branch reach edges kids in
     omega (arith, whole, by_kind, h)
 

@@ -1,5 +1,6 @@
 -- How long the text of a list is.
-use Rattle.std.proofs.Common.{◌≡◌, ℕ, ◌+◌, ◌/◌, ◌%◌, ◌<◌, ◌≤◌, List, [], ◌∷◌, ◌++◌, length, length-append, take, ap, sym, subst, ◌∙◌, map, max, min, arith, refl}
+use Rattle.std.proofs.Common.{◌≡◌, ℕ, ◌+◌, ◌/◌, ◌%◌, ◌<◌, ◌≤◌, List, [], ◌∷◌, ◌++◌}
+use Rattle.std.proofs.Common.{length, length-append, take, ap, sym, subst, ◌∙◌, map, max, min, arith, refl}
 use Rattle.std.specs.Fmt.{decimal}
 use Rattle.std.proofs.lemmas.Fmt.{decimal_digit, decimal_step}
 use Rattle.lf_faults.specs.declared.fault.Parts.{Parts}
@@ -32,7 +33,7 @@ module _ {X : Type 0} (f : X → List ℕ) where
       let text : length (with_commas (map f (x ∷ y ∷ ys))) ≡ length (f x ++ (codes "," ++ rest)) = refl in
       let comma : length (codes "," ++ rest) ≡ 1 + length rest = length-append (codes ",") rest in
       let sum : items_length (x ∷ y ∷ ys) ≡ (length (f x) + 1) + items_length (y ∷ ys) =
-        sum_by-cons (λ z. length (f z) + 1) x (y ∷ ys) in
+      sum_by-cons (λ z. length (f z) + 1) x (y ∷ ys) in
       omega (arith, inner, text, comma, sum, length-append (f x) (codes "," ++ rest))
 
   pub length-in_brackets : (xs : List X) → length (in_brackets (map f xs)) ≡ 1 + max 1 (items_length xs)
@@ -40,7 +41,7 @@ module _ {X : Type 0} (f : X → List ℕ) where
   length-in_brackets (x ∷ xs) =
       let inner : length (with_commas (map f (x ∷ xs))) + 1 ≡ items_length (x ∷ xs) = length-with_commas x xs in
       let text : length (in_brackets (map f (x ∷ xs))) ≡ 1 + length (with_commas (map f (x ∷ xs)) ++ codes "]") =
-        length-append (codes "[") (with_commas (map f (x ∷ xs)) ++ codes "]") in
+      length-append (codes "[") (with_commas (map f (x ∷ xs)) ++ codes "]") in
       omega (arith, inner, text, length-append (with_commas (map f (x ∷ xs))) (codes "]"))
 
   -- after the last item
@@ -77,9 +78,9 @@ length-omission f from to step digits is fault number =
     let receiver : List ℕ = node_at_step to step in
     let whole : length (quoted f) ≡ length (quoted (Omit from to step)) = ap (λ g. length (quoted g)) (sym is) in
     let word : length (spelling (Omit from to step)) ≡ 5 + length (decimal from ++ (codes ">" ++ receiver)) =
-      length-append (codes "omit ") (decimal from ++ (codes ">" ++ receiver)) in
+    length-append (codes "omit ") (decimal from ++ (codes ">" ++ receiver)) in
     let sender : length (decimal from ++ (codes ">" ++ receiver)) ≡ length (decimal from) + length (codes ">" ++ receiver) =
-      length-append (decimal from) (codes ">" ++ receiver) in
+    length-append (decimal from) (codes ">" ++ receiver) in
     let arrow : length (codes ">" ++ receiver) ≡ 1 + length receiver = length-append (codes ">") receiver in
     omega (arith, number, whole, length-quoted (Omit from to step), word, sender, arrow, one_digit from (omega arith), length-at_step to step to_low)
 
@@ -123,7 +124,7 @@ length-Branch n reach edges es kids ks is edges_read kids_read =
     let whole : length (node_text n) ≡ length (node_text (kind.Branch reach edges kids)) = ap (λ m. length (node_text m)) is in
     let first : length (faults_text es) ≡ length (faults_text edges) = ap (λ fs. length (faults_text fs)) edges_read in
     let second : length (in_brackets (map node_text ks)) ≡ length (in_brackets (map node_text kids)) =
-      ap (λ (ns : List Node). length (in_brackets (map node_text ns))) kids_read in
+    ap (λ (ns : List Node). length (in_brackets (map node_text ns))) kids_read in
     omega (
       arith,
       whole,
@@ -131,7 +132,7 @@ length-Branch n reach edges es kids ks is edges_read kids_read =
       second,
       ap length (node_text-Branch reach edges kids),
       length-three (codes "{\"edges\":") (codes ",\"kids\":") (codes ",\"reach\":") (faults_text edges) (in_brackets (map node_text kids))
-        (in_brackets (map decimal reach)) (codes "}"),
+          (in_brackets (map decimal reach)) (codes "}"),
     )
 
 pub length-Misses : (n : Node) → n ≡ kind.Misses → length (node_text n) ≡ 15
@@ -151,7 +152,7 @@ length-tree tree =
       arith,
       format_digit (list_any is_pause (answer_faults tree.answer) || has_pause tree.root),
       length-three (codes "{\"answer\":") (codes ",\"format\":") (codes ",\"root\":") (answer_text tree.answer) (decimal (format_of tree))
-        (node_text tree.root) (codes "}"),
+          (node_text tree.root) (codes "}"),
     )
 
 -- a number of two digits

@@ -1,5 +1,20 @@
+mod Ascending
+mod Bytes
+mod FirstFaults
+mod HangLemmas
+mod Inductions
+mod Items
 mod KindLemmas
+pub mod Laws
 mod LengthLemmas
+mod LinkLemmas
 mod ListLemmas
+mod Named
+mod NodeCases
+mod NodeSteps
 mod PutLemmas
+mod ReadBack
+mod ReadFacts
+mod RestLemmas
 mod RowLemmas
+mod Written

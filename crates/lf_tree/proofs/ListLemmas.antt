@@ -1,5 +1,6 @@
 -- The text of a list, item by item.
-use Rattle.std.proofs.Common.{◌≡◌, ℕ, zero, suc, ◌+◌, ◌<◌, ◌≤◌, List, [], ◌∷◌, ◌++◌, length, get_or, take, drop, refl, sym, ap, ◌∙◌, map, append_assoc, add-one, false, eqb, ne_eqb, arith}
+use Rattle.std.proofs.Common.{◌≡◌, ℕ, zero, suc, ◌+◌, ◌<◌, ◌≤◌, List, [], ◌∷◌, ◌++◌, length}
+use Rattle.std.proofs.Common.{get_or, drop, refl, sym, ap, ◌∙◌, map, append_assoc, add-one, false, ne_eqb, arith}
 use Rattle.std.specs.Prelude.{◌==◌, codes, if◌then◌else◌}
 use Rattle.std.proofs.lemmas.List.{append-nil, drop_more, drop_all}
 use Rattle.lf_tree.specs.Texts.{in_brackets, with_commas}
@@ -50,8 +51,8 @@ module _ {X : Type 0} (f : X → List ℕ) where
       let sep : List ℕ = if i == 0 then [] else codes "," in
       let more : List (List ℕ) = map f (drop (i + 1) xs) in
       let one : still_to_come i (map f (drop i xs)) ≡ sep ++ (f x ++ after_commas more) =
-        ap (λ ys. still_to_come i (map f ys)) (drop_more xs i d here) ∙ still-one i (f (get_or xs i d)) more
-        ∙ ap (λ y. sep ++ (f y ++ after_commas more)) (sym same) in
+      ap (λ ys. still_to_come i (map f ys)) (drop_more xs i d here) ∙ still-one i (f (get_or xs i d)) more
+      ∙ ap (λ y. sep ++ (f y ++ after_commas more)) (sym same) in
       let now_is : now ≡ (before ++ sep) ++ f x = item ∙ ap (λ t. t ++ f x) comma in
       ap (λ t. now ++ (t ++ codes "]")) (after-more i more)
       ∙ ap (λ t. t ++ (after_commas more ++ codes "]")) now_is

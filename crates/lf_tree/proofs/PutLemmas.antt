@@ -1,5 +1,5 @@
 -- What is written of a node.
-use Rattle.std.proofs.Common.{◌≡◌, ℕ, List, [], ◌++◌, append_assoc, sym, ap, ◌∙◌, map}
+use Rattle.std.proofs.Common.{◌≡◌, ℕ, List, ◌++◌, append_assoc, sym, ap, ◌∙◌, map}
 use Rattle.std.specs.Prelude.{Result, Ok, Err, OnOk, codes, if◌then◌else◌}
 use Rattle.std.specs.Result.{is_ok}
 use Rattle.std.specs.Fmt.{decimal}

@@ -44,18 +44,18 @@ rows-more place depth next i at start after xs x row before mid now whole here i
     let at_next : at ≡ next = omega arith in
     let start_next : start ≡ next + 1 = omega (arith, ap length pushed, length-append before (row ∷ [])) in
     let mid_is : map seen mid ≡ map seen before ++ (kid_row place depth i x ∷ []) =
-      ap (map seen) pushed ∙ map-append seen before (row ∷ []) ∙ ap (λ r. map seen before ++ (r ∷ [])) shows in
+    ap (map seen) pushed ∙ map-append seen before (row ∷ []) ∙ ap (λ r. map seen before ++ (r ∷ [])) shows in
     let put_is : map seen now ≡ map seen mid ++ below =
-      put ∙ ap (λ k. map seen mid ++ beneath x k (depth + 1) start) at_next ∙ ap (λ k. map seen mid ++ beneath x next (depth + 1) k) start_next in
+    put ∙ ap (λ k. map seen mid ++ beneath x k (depth + 1) start) at_next ∙ ap (λ k. map seen mid ++ beneath x next (depth + 1) k) start_next in
     let now_is : map seen now ≡ map seen before ++ all =
-      put_is ∙ ap (λ rs. rs ++ below) mid_is ∙ append_assoc (map seen before) (kid_row place depth i x ∷ []) below in
+    put_is ∙ ap (λ rs. rs ++ below) mid_is ∙ append_assoc (map seen before) (kid_row place depth i x ∷ []) below in
     let size : length now ≡ length before + length all =
-      sym (length-map now seen) ∙ ap length now_is ∙ length-append (map seen before) all ∙ ap (λ k. k + length all) (length-map before seen) in
+    sym (length-map now seen) ∙ ap length now_is ∙ length-append (map seen before) all ∙ ap (λ k. k + length all) (length-map before seen) in
     let after_is : after ≡ next + length all = omega (arith, size) in
     let one : kids_rows place depth next i (drop i xs) ≡ all ++ more (next + length all) =
-      ap (λ ys. kids_rows place depth next i ys) (drop_more xs i x here)
-      ∙ ap (λ y. (kid_row place depth i y ∷ beneath y next (depth + 1) (next + 1))
-        ++ more (next + length (kid_row place depth i y ∷ beneath y next (depth + 1) (next + 1)))) (sym item) in
+    ap (λ ys. kids_rows place depth next i ys) (drop_more xs i x here)
+    ∙ ap (λ y. (kid_row place depth i y ∷ beneath y next (depth + 1) (next + 1))
+    ++ more (next + length (kid_row place depth i y ∷ beneath y next (depth + 1) (next + 1)))) (sym item) in
     ap (λ k. map seen now ++ more k) after_is
     ∙ ap (λ rs. rs ++ more (next + length all)) now_is
     ∙ append_assoc (map seen before) all (more (next + length all))

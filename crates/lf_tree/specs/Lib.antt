@@ -1,4 +1,11 @@
 pub mod Counts
 pub mod Faults
+pub mod FirstFaults
+pub mod Heirs
+pub mod Reading
+pub mod Rests
 pub mod Rows
 pub mod Texts
+pub mod Trees
+pub mod Values
+pub mod Views

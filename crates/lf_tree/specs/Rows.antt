@@ -1,5 +1,6 @@
 -- The nodes of a tree, one after another, and where each stands.
-use Rattle.std.specs.Prelude.{◌≡◌, ℕ, ◌+◌, List, [], ◌∷◌, ◌++◌, length, Option, None, Some}
+use Rattle.std.specs.Prelude.{ℕ, ◌+◌, List, [], ◌∷◌, ◌++◌, length, Option, None, Some}
+use Rattle.std.specs.List.{flat_map}
 use Rattle.lf_tree.specs.declared.tree.Tree.{Tree}
 use Rattle.lf_tree.specs.declared.tree.Node.{Node, para-Node}
 use Rattle.lf_tree.specs.declared.tree.Node.TheOpen.{Node-F}
@@ -22,7 +23,7 @@ abbrev pub of_kids : ℕ → ℕ → ℕ → ℕ → List (Node × (ℕ → ℕ 
 of_kids place depth next kid [] = []
 of_kids place depth next kid (one ∷ more) =
     let all : List Seen =
-      record { parent = Some place; kid = kid; depth = depth + 1; node = one.0 } ∷ one.1 next (depth + 1) (next + 1) in
+    record { parent = Some place; kid = kid; depth = depth + 1; node = one.0 } ∷ one.1 next (depth + 1) (next + 1) in
     all ++ of_kids place depth (next + length all) (kid + 1) more
 
 -- one level, with for each kid the node and the rows beneath it
@@ -38,3 +39,13 @@ beneath = para-Node (ℕ → ℕ → ℕ → List Seen) beneath_step
 -- the rows of all nodes: the root first, and then each kid in order, with all that is beneath it
 abbrev pub rows_of : Tree → List Seen
 rows_of tree = record { parent = None; kid = 0; depth = 0; node = tree.root } ∷ beneath tree.root 0 0 1
+
+-- one level, with for each kid the node and the nodes beneath it
+abbrev pub preorder_step : Node-F (Node × List Node) → List Node
+preorder_step Node-F.Misses = []
+preorder_step Node-F.Reaches = []
+preorder_step (Node-F.Branch reach edges kids) = flat_map (λ one. one.0 ∷ one.1) kids
+
+-- the node and all beneath it: first the node, and then each kid in order, with all that is beneath it
+abbrev pub preorder : Node → List Node
+preorder n = n ∷ para-Node (List Node) preorder_step n

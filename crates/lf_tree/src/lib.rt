@@ -3,8 +3,12 @@
 
 mod counting;
 mod fault;
+mod lists;
+mod nodes;
+mod own;
 mod pauses;
 mod preorder;
+mod read;
 mod size;
 mod tree;
 mod write;
@@ -12,9 +16,12 @@ mod write;
 pub use counting::count;
 pub use fault::TreeFault;
 pub use preorder::{Row, rows};
+pub use read::read_tree;
 pub use size::text_length;
 pub use tree::{Edges, Kids, Node, Tree};
 pub use write::to_text;
 
+#[cfg(test)]
+mod read_tests;
 #[cfg(test)]
 mod tests;

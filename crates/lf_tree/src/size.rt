@@ -104,11 +104,7 @@ fn digits(number: u32) -> u32
     ensures value { result ≡ length (decimal number) }
     ensures short { result ≤ 2 }
 {
-    if number < 10 {
-        1
-    } else {
-        2
-    }
+    if number < 10 { 1 } else { 2 }
 }
 
 /// The length of the items of a list and one more, each with the comma or the bracket that follows it.

@@ -47,9 +47,17 @@ fn assert_text(rt: &impl Abort, alloc: Global, tree: &Tree, wanted: &str) -> Res
 fn writes_a_branch_with_one_kid(rt: HostRuntime) -> Result<(), Fail> {
     let alloc = rt.alloc();
     let lost = omission(0, 1, 1)?;
-    let root = branch(&[3, 3], vec![in alloc; lost]?, vec![in alloc; Node::Misses]?)?;
-    let tree = Tree { answer: Some(only(lost)?), root };
-    let wanted = "{\"answer\":[\"omit 0>1 @1\"],\"format\":1,\"root\":{\"edges\":[\"omit 0>1 @1\"],\"kids\":[{\"misses\":true}],\"reach\":[3,3]}}";
+    let root = branch(
+        &[3, 3],
+        vec![in alloc; lost]?,
+        vec![in alloc; Node::Misses]?,
+    )?;
+    let tree = Tree {
+        answer: Some(only(lost)?),
+        root,
+    };
+    let wanted =
+        r#"{"answer":["omit 0>1 @1"],"format":1,"root":{"edges":["omit 0>1 @1"],"kids":[{"misses":true}],"reach":[3,3]}}"#;
     assert_text(&rt, alloc, &tree, wanted)
 }
 
@@ -58,38 +66,72 @@ fn writes_a_branch_with_two_kids(rt: HostRuntime) -> Result<(), Fail> {
     let alloc = rt.alloc();
     let lost = omission(0, 1, 1)?;
     let edges = vec![in alloc; lost, omission(0, 2, 1)?]?;
-    let root = branch(&[4, 4, 4], edges, vec![in alloc; Node::Misses, Node::Misses]?)?;
-    let tree = Tree { answer: Some(only(lost)?), root };
-    let wanted = "{\"answer\":[\"omit 0>1 @1\"],\"format\":1,\"root\":{\"edges\":[\"omit 0>1 @1\",\"omit 0>2 @1\"],\"kids\":[{\"misses\":true},{\"misses\":true}],\"reach\":[4,4,4]}}";
+    let root = branch(
+        &[4, 4, 4],
+        edges,
+        vec![in alloc; Node::Misses, Node::Misses]?,
+    )?;
+    let tree = Tree {
+        answer: Some(only(lost)?),
+        root,
+    };
+    let wanted =
+        r#"{"answer":["omit 0>1 @1"],"format":1,"root":{"edges":["omit 0>1 @1","omit 0>2 @1"],"kids":[{"misses":true},{"misses":true}],"reach":[4,4,4]}}"#;
     assert_text(&rt, alloc, &tree, wanted)
 }
 
 #[test]
 fn a_pause_in_an_edge_has_format_2(rt: HostRuntime) -> Result<(), Fail> {
     let alloc = rt.alloc();
-    let inner = branch(&[1, 0], vec![in alloc; pause(1, 9)?]?, vec![in alloc; Node::Reaches]?)?;
-    let root = branch(&[48, 10], vec![in alloc; crash(7, 48)?]?, vec![in alloc; inner]?)?;
+    let inner = branch(&[1, 0], vec![in alloc; pause(1, 9)?]?, Vec::new(alloc))?;
+    let root = branch(
+        &[48, 10],
+        vec![in alloc; crash(7, 48)?]?,
+        vec![in alloc; inner]?,
+    )?;
     let tree = Tree { answer: None, root };
-    let wanted = "{\"answer\":null,\"format\":2,\"root\":{\"edges\":[\"crash 7 @48\"],\"kids\":[{\"edges\":[\"pause 1 @9\"],\"kids\":[{\"misses\":false}],\"reach\":[1,0]}],\"reach\":[48,10]}}";
+    let wanted =
+        r#"{"answer":null,"format":2,"root":{"edges":["crash 7 @48"],"kids":[{"edges":["pause 1 @9"],"kids":[],"reach":[1,0]}],"reach":[48,10]}}"#;
     assert_text(&rt, alloc, &tree, wanted)
 }
 
 #[test]
 fn a_pause_in_the_answer_has_format_2(rt: HostRuntime) -> Result<(), Fail> {
     let alloc = rt.alloc();
-    let answer = only(omission(3, 0, 10)?)?.insert(pause(2, 10)?).ok_or("not added")?;
-    let tree = Tree { answer: Some(answer), root: Node::Reaches };
-    let wanted = "{\"answer\":[\"omit 3>0 @10\",\"pause 2 @10\"],\"format\":2,\"root\":{\"misses\":false}}";
+    let answer = only(omission(3, 0, 10)?)?
+        .insert(pause(2, 10)?)
+        .ok_or("not added")?;
+    let tree = Tree {
+        answer: Some(answer),
+        root: Node::Reaches,
+    };
+    let wanted = r#"{"answer":["omit 3>0 @10","pause 2 @10"],"format":2,"root":{"misses":false}}"#;
     assert_text(&rt, alloc, &tree, wanted)
 }
 
 #[test]
 fn no_answer_is_null_and_the_empty_set_an_empty_list(rt: HostRuntime) -> Result<(), Fail> {
     let alloc = rt.alloc();
-    let none = Tree { answer: None, root: Node::Reaches };
-    assert_text(&rt, alloc, &none, "{\"answer\":null,\"format\":1,\"root\":{\"misses\":false}}")?;
-    let empty = Tree { answer: Some(FaultSet::empty()), root: Node::Misses };
-    assert_text(&rt, alloc, &empty, "{\"answer\":[],\"format\":1,\"root\":{\"misses\":true}}")
+    let none = Tree {
+        answer: None,
+        root: Node::Reaches,
+    };
+    assert_text(
+        &rt,
+        alloc,
+        &none,
+        r#"{"answer":null,"format":1,"root":{"misses":false}}"#,
+    )?;
+    let empty = Tree {
+        answer: Some(FaultSet::empty()),
+        root: Node::Misses,
+    };
+    assert_text(
+        &rt,
+        alloc,
+        &empty,
+        r#"{"answer":[],"format":1,"root":{"misses":true}}"#,
+    )
 }
 
 /// A tree of a branch with 1,118,476 edges and no kid.
@@ -99,7 +141,10 @@ fn wide(alloc: Global, steps: &[u32]) -> Result<Tree, Fail> {
     for _ in 0..1_118_476 {
         edges.push(edge)?;
     }
-    Ok(Tree { answer: None, root: branch(steps, edges, Vec::new(alloc))? })
+    Ok(Tree {
+        answer: None,
+        root: branch(steps, edges, Vec::new(alloc))?,
+    })
 }
 
 #[test]
@@ -109,8 +154,15 @@ fn writes_16_777_216_bytes(rt: HostRuntime) -> Result<(), Fail> {
     match to_text(rt.alloc(), &tree) {
         Ok(text) => {
             assert_eq!(rt; text.len(), 16_777_216);
-            assert!(rt; text.as_slice().starts_with(b"{\"answer\":null,\"format\":1,\"root\":{\"edges\":[\"omit 0>1 @10\","));
-            assert!(rt; text.as_slice().ends_with(b",\"omit 0>1 @10\"],\"kids\":[],\"reach\":[10,0,0,0,0]}}"));
+            assert!(rt;
+                text.as_slice().starts_with(
+                    b"{\"answer\":null,\"format\":1,\"root\":{\"edges\":[\"omit 0>1 @10\","
+                )
+            );
+            assert!(rt;
+                text.as_slice()
+                    .ends_with(b",\"omit 0>1 @10\"],\"kids\":[],\"reach\":[10,0,0,0,0]}}")
+            );
         }
         Err(fault) => assert!(rt; false, "{fault}"),
     }
@@ -145,10 +197,21 @@ fn uneven(alloc: Global) -> Result<Tree, Fail> {
     let edge = crash(0, 1)?;
     let deepest = branch(&[4, 0], Vec::new(alloc), Vec::new(alloc))?;
     let second = branch(&[3, 0], vec![in alloc; edge]?, vec![in alloc; deepest]?)?;
-    let first = branch(&[2, 0], vec![in alloc; edge]?, vec![in alloc; Node::Misses, second]?)?;
-    let last = branch(&[5, 0], vec![in alloc; edge]?, vec![in alloc; Node::Misses]?)?;
+    let first = branch(
+        &[2, 0],
+        vec![in alloc; edge]?,
+        vec![in alloc; Node::Misses, second]?,
+    )?;
+    let last = branch(
+        &[5, 0],
+        vec![in alloc; edge]?,
+        vec![in alloc; Node::Misses]?,
+    )?;
     let kids = vec![in alloc; first, Node::Reaches, last]?;
-    Ok(Tree { answer: None, root: branch(&[1, 0], vec![in alloc; edge]?, kids)? })
+    Ok(Tree {
+        answer: None,
+        root: branch(&[1, 0], vec![in alloc; edge]?, kids)?,
+    })
 }
 
 #[test]
@@ -183,7 +246,10 @@ fn a_million_leaves(rt: HostRuntime) -> Result<(), Fail> {
     for _ in 0..1_000_000 {
         kids.push(Node::Misses)?;
     }
-    let tree = Tree { answer: None, root: branch(&[1, 1], Vec::new(alloc), kids)? };
+    let tree = Tree {
+        answer: None,
+        root: branch(&[1, 1], Vec::new(alloc), kids)?,
+    };
     assert_eq!(rt; count(&tree), 1_000_001);
     assert_eq!(rt; text_length(&tree), 16_000_069);
     let rows = rows(alloc, &tree)?;

@@ -7,6 +7,6 @@ use Rattle.lf_tree.proofs.preorder.+put_beneath.Given as goal
 abbrev pub invariant-kids : goal.invariant-kids
 invariant-kids l = record {
   whole : map seen l.rows.items ++ kids_rows l.place l.depth (length l.rows.items) l.i (drop l.i l.kid-items)
-    ≡ map seen l.fn.rows.items ++ beneath l.node l.place l.depth (length l.fn.rows.items);
+      ≡ map seen l.fn.rows.items ++ beneath l.node l.place l.depth (length l.fn.rows.items);
   deep : l.depth < length l.rows.items;
 }

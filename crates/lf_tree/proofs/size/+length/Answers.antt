@@ -10,5 +10,8 @@ kids_length-returns t c =
 
 pub node_length-returns-in-Branch : goal.node_length-returns-in-Branch
 node_length-returns-in-Branch t c =
-    omega (arith, length-Branch c.args.node.now c.in-Branch.reach c.in-Branch.edges c.as_slice.result.now c.in-Branch.kids
-      c.as_slice-in-Branch.result.now c.in-Branch.is c.as_slice.ensures c.as_slice-in-Branch.ensures)
+    omega (
+      arith,
+      length-Branch c.args.node.now c.in-Branch.reach c.in-Branch.edges c.as_slice.result.now c.in-Branch.kids
+          c.as_slice-in-Branch.result.now c.in-Branch.is c.as_slice.ensures c.as_slice-in-Branch.ensures,
+    )

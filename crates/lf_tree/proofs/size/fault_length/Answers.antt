@@ -1,4 +1,3 @@
-use Rattle.std.proofs.Common.{subst}
 use Rattle.lf_tree.proofs.LengthLemmas.{length-omission, length-crash, length-pause}
 use Rattle.lf_tree.proofs.size.fault_length.Goals as goal
 

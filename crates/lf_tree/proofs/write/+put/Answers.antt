@@ -1,5 +1,4 @@
 use Rattle.std.proofs.Common.{arith, map, ◌++◌}
-use Rattle.std.specs.Prelude.{codes}
 use Rattle.lf_tree.specs.Texts.{in_brackets, node_text}
 use Rattle.lf_tree.proofs.ListLemmas.{list-more}
 use Rattle.lf_tree.proofs.PutLemmas.{put-Branch, put-Misses, put-Reaches}

@@ -1,0 +1,39 @@
+-- What crates above need of trees and their rows.
+use Rattle.std.proofs.Common.{◌≡◌, ℕ, ◌+◌, ◌<◌, List, length, map, sum}
+use Rattle.std.specs.Prelude.{Some}
+use Rattle.std.specs.List.{slice_get}
+use Rattle.lf_faults.specs.declared.fault.Parts.{Parts}
+use Rattle.lf_tree.specs.declared.tree.Tree.{Tree}
+use Rattle.lf_tree.specs.declared.tree.Node.{Node}
+use Rattle.lf_tree.specs.declared.tree.Node.TheVariants as kind
+use Rattle.lf_tree.specs.Counts.{nodes_in, nodes_of}
+use Rattle.lf_tree.specs.Heirs.{AreLinked, IsHung, kids_of}
+use Rattle.lf_tree.specs.Rows.{Seen, preorder, rows_of}
+use Rattle.lf_tree.proofs.HangLemmas as hangs
+use Rattle.lf_tree.proofs.KindLemmas as kinds
+use Rattle.lf_tree.proofs.LinkLemmas as links
+
+-- a branch has its kids
+pub kids_of-Branch : (reach : List ℕ) (edges : List Parts) (kids : List Node) → kids_of (kind.Branch reach edges kids) ≡ kids
+kids_of-Branch = links.kids_of-Branch
+
+-- it is a node, and all beneath its kids
+pub nodes_in-Branch : (reach : List ℕ) (edges : List Parts) (kids : List Node)
+    → nodes_in (kind.Branch reach edges kids) ≡ 1 + sum (map nodes_in kids)
+nodes_in-Branch = kinds.nodes_in-Branch
+
+-- whatever the nodes hand to their kids, the rows of a tree are those of the nodes that inherit, in order, and each row but
+-- the first is that of a kid of the node whose place it names
+pub linked : {A : Type 0} (handed : A → Node → ℕ → A) (tree : Tree) (value : A) → (rows : List (Seen × A)) × AreLinked handed tree value rows
+linked handed tree value = (links.linked_rows handed tree value, links.linked handed tree value)
+
+-- the same without values
+pub hung : (tree : Tree) (k : ℕ) (r : Seen) → 0 < k → slice_get (rows_of tree) k ≡ Some r → IsHung (rows_of tree) k r
+hung = hangs.hung
+
+-- the rows are those of the nodes in order, and as many as there are nodes
+pub nodes-rows_of : (tree : Tree) → map (λ (r : Seen). r.node) (rows_of tree) ≡ preorder tree.root
+nodes-rows_of = hangs.nodes-rows_of
+
+pub length-rows_of : (tree : Tree) → length (rows_of tree) ≡ nodes_of tree
+length-rows_of = hangs.length-rows_of

@@ -1,0 +1,33 @@
+use Rattle.std.proofs.Common.{sym, ◌∙◌}
+use Rattle.serde_json.specs.View.{view}
+use Rattle.lf_tree.specs.Views.{three_view}
+use Rattle.lf_tree.proofs.NodeSteps.{node_in-leaf, node_in-form, node_in-deep, node_in-branch, ok_of, err_of, ok_same, err_same}
+use Rattle.lf_tree.proofs.nodes.+node.Goals as goal
+
+pub node_in-returns-in-Some-clause-ok : goal.node_in-returns-in-Some-clause-ok
+node_in-returns-in-Some-clause-ok t c =
+    ok_same c.leaf_in.result _ (node_in-leaf c.args.room (view c.args.value.now) (view c.in-Some.misses.now) c.in-Some.ensures ∙ sym c.leaf_in.ensures)
+
+pub node_in-returns-in-Some-clause-err : goal.node_in-returns-in-Some-clause-err
+node_in-returns-in-Some-clause-err t c =
+    err_same c.leaf_in.result _ (node_in-leaf c.args.room (view c.args.value.now) (view c.in-Some.misses.now) c.in-Some.ensures ∙ sym c.leaf_in.ensures)
+
+pub node_in-returns-in_default-three_in-clause-err : goal.node_in-returns-in_default-three_in-clause-err
+node_in-returns-in_default-three_in-clause-err t c =
+    λ other. node_in-form c.args.room (view c.args.value.now) c.in_default.ensures c.in_default-three_in.ensures
+
+pub node_in-returns-then-room-eq0-clause-err : goal.node_in-returns-then-room-eq0-clause-err
+node_in-returns-then-room-eq0-clause-err t c =
+    λ other. node_in-deep c.args.room (view c.args.value.now) (three_view c.in-Some-three_in.parts) c.in_default.ensures c.in-Some-three_in.ensures c.if-room-eq0.true
+
+pub node_in-returns-clause-ok : goal.node_in-returns-clause-ok
+node_in-returns-clause-ok t c =
+    ok_of c.branch_in.result _ _
+    (node_in-branch c.args.room (view c.args.value.now) (three_view c.in-Some-three_in.parts) c.in_default.ensures c.in-Some-three_in.ensures c.if-room-eq0.false)
+    c.branch_in.ensures.ok
+
+pub node_in-returns-clause-err : goal.node_in-returns-clause-err
+node_in-returns-clause-err t c =
+    err_of c.branch_in.result _ _
+    (node_in-branch c.args.room (view c.args.value.now) (three_view c.in-Some-three_in.parts) c.in_default.ensures c.in-Some-three_in.ensures c.if-room-eq0.false)
+    c.branch_in.ensures.err
