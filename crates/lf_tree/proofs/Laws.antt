@@ -1,13 +1,13 @@
 -- What crates above need of trees and their rows.
-use Rattle.std.proofs.Common.{◌≡◌, ℕ, ◌+◌, ◌<◌, List, length, map, sum}
-use Rattle.std.specs.Prelude.{Some}
+use Rattle.std.proofs.Common.{◌≡◌, ℕ, ◌+◌, ◌<◌, List, [], ◌∷◌, length, map, sum}
+use Rattle.std.specs.Prelude.{◌⊎◌, Some}
 use Rattle.std.specs.List.{slice_get}
 use Rattle.lf_faults.specs.declared.fault.Parts.{Parts}
 use Rattle.lf_tree.specs.declared.tree.Tree.{Tree}
 use Rattle.lf_tree.specs.declared.tree.Node.{Node}
 use Rattle.lf_tree.specs.declared.tree.Node.TheVariants as kind
 use Rattle.lf_tree.specs.Counts.{nodes_in, nodes_of}
-use Rattle.lf_tree.specs.Heirs.{AreLinked, IsHung, kids_of}
+use Rattle.lf_tree.specs.Heirs.{AreLinked, IsHung, inherited, inherited_by, kids_of}
 use Rattle.lf_tree.specs.Rows.{Seen, preorder, rows_of}
 use Rattle.lf_tree.proofs.HangLemmas as hangs
 use Rattle.lf_tree.proofs.KindLemmas as kinds
@@ -21,6 +21,15 @@ kids_of-Branch = links.kids_of-Branch
 pub nodes_in-Branch : (reach : List ℕ) (edges : List Parts) (kids : List Node)
     → nodes_in (kind.Branch reach edges kids) ≡ 1 + sum (map nodes_in kids)
 nodes_in-Branch = kinds.nodes_in-Branch
+
+-- what is inherited from a node on, by its kind
+module _ {A : Type 0} (handed : A → Node → ℕ → A) where
+  pub inherited-leaf : (n : Node) (value : A) → (n ≡ kind.Misses) ⊎ (n ≡ kind.Reaches) → inherited handed n value ≡ (value, n) ∷ []
+  inherited-leaf = links.inherited-leaf handed
+
+  pub inherited-Branch : (reach : List ℕ) (edges : List Parts) (kids : List Node) (value : A) → inherited handed (kind.Branch reach edges kids) value
+      ≡ (value, kind.Branch reach edges kids) ∷ inherited_by handed (kind.Branch reach edges kids) value 0 kids
+  inherited-Branch = links.inherited-Branch handed
 
 -- whatever the nodes hand to their kids, the rows of a tree are those of the nodes that inherit, in order, and each row but
 -- the first is that of a kid of the node whose place it names

@@ -1,7 +1,7 @@
 -- How the rows of a tree hang together.
 use Rattle.std.proofs.Common.{◌≡◌, ℕ, zero, suc, ◌+◌, ◌<◌, List, [], ◌∷◌, ◌++◌}
-use Rattle.std.proofs.Common.{length, length-append, refl, sym, ap, subst, ◌∙◌, map, append_assoc, arith}
-use Rattle.std.specs.Prelude.{⊤, None, Some}
+use Rattle.std.proofs.Common.{length, length-append, refl, sym, ap, subst, ◌∙◌, map, append_assoc, inl, inr, arith}
+use Rattle.std.specs.Prelude.{◌⊎◌, ⊤, None, Some}
 use Rattle.std.specs.List.{AllByRecursion, slice_get}
 use Rattle.std.proofs.Math.Seq.{get_or-append_seam}
 use Rattle.std.proofs.lemmas.List.{append-nil, length-map, map-append}
@@ -12,7 +12,7 @@ use Rattle.lf_tree.specs.declared.tree.Node.{Node, para-Node, para-roll-Node}
 use Rattle.lf_tree.specs.declared.tree.Node.TheVariants.{rolls-Misses, rolls-Reaches, rolls-Branch, outs-Branch}
 use Rattle.lf_tree.specs.declared.tree.Node.TheVariants as kind
 use Rattle.lf_tree.specs.declared.tree.Node.TheOpen.{Node-F}
-use Rattle.lf_tree.specs.Heirs.{AreLinked, HasBranch, heirs, heirs_of, heirs_step, kids_in, kids_of}
+use Rattle.lf_tree.specs.Heirs.{AreLinked, HasBranch, heirs, heirs_of, heirs_step, inherited, inherited_by, kids_in, kids_of}
 use Rattle.lf_tree.specs.Rows.{Seen, beneath}
 use Rattle.lf_tree.proofs.Inductions.{by_induction}
 use Rattle.lf_tree.proofs.RowLemmas.{beneath-Branch, beneath-Misses, beneath-Reaches, kid_row, kids_rows}
@@ -89,6 +89,21 @@ module _ {A : Type 0} (handed : A → Node → ℕ → A) where
       let n : Node = kind.Branch reach edges kids in
       ap (λ m. para-Node Heirs (heirs_step handed) m n value) (sym (rolls-Branch reach edges kids))
       ∙ ap (λ b. b n value) (para-roll-Node Heirs (heirs_step handed) (Node-F.Branch reach edges kids))
+
+  by_kids : (branch : Node) (value : A) (kid : ℕ) (kids : List Node) → kids_heirs branch value kid kids ≡ inherited_by handed branch value kid kids
+  by_kids branch value kid [] = refl
+  by_kids branch value kid (k ∷ ks) = ap (λ vs. inherited handed k (handed value branch kid) ++ vs) (by_kids branch value (kid + 1) ks)
+
+  -- what is inherited, by the kind of the node
+  pub inherited-leaf : (n : Node) (value : A) → (n ≡ kind.Misses) ⊎ (n ≡ kind.Reaches) → inherited handed n value ≡ (value, n) ∷ []
+  inherited-leaf n value (inl is) = ap (λ m. (value, n) ∷ heirs handed m value) is ∙ ap (λ vs. (value, n) ∷ vs) (heirs-Misses value)
+  inherited-leaf n value (inr is) = ap (λ m. (value, n) ∷ heirs handed m value) is ∙ ap (λ vs. (value, n) ∷ vs) (heirs-Reaches value)
+
+  pub inherited-Branch : (reach : List ℕ) (edges : List Parts) (kids : List Node) (value : A) → inherited handed (kind.Branch reach edges kids) value
+      ≡ (value, kind.Branch reach edges kids) ∷ inherited_by handed (kind.Branch reach edges kids) value 0 kids
+  inherited-Branch reach edges kids value =
+      let n : Node = kind.Branch reach edges kids in
+      ap (λ vs. (value, n) ∷ vs) (heirs-Branch reach edges kids value ∙ by_kids n value 0 kids)
 
   abbrev row_of : Seen × A → Seen
   row_of e = e.0

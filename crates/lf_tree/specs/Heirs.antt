@@ -40,6 +40,12 @@ module _ {A : Type 0} (handed : A → Node → ℕ → A) where
   abbrev pub inherited : Node → A → List (A × Node)
   inherited n value = (value, n) ∷ heirs n value
 
+  -- the same of the kids of a branch, from the one at a place on
+  abbrev pub inherited_by : Node → A → ℕ → List Node → List (A × Node)
+  inherited_by branch value kid [] = []
+  inherited_by branch value kid (one ∷ more) =
+      inherited one (handed value branch kid) ++ inherited_by branch value (kid + 1) more
+
   -- of two rows with their values the second is that of a kid of the first
   pub record IsKid (branch kid : Seen × A) : Type 0 where
     pub deeper : kid.0.depth ≡ branch.0.depth + 1
