@@ -102,7 +102,7 @@ within-carries {Fact = Fact} w faults wider reach none_more same =
 -- What a formula rests on: there is something where it is true,
 module _ {State Note Fact : Type 0} (w : World State Note Fact) (faults : List Parts) (f : Formula Fact) where
   pub evidence-truth : is_some (evidence_of w faults f) ≡ reaches w faults f
-  evidence-truth = evidence.support-truth (is_down w faults) (is_shown w faults) f
+  evidence-truth = evidence.rests_on-truth (is_down w faults) (is_shown w faults) f
 
   rests : (points : List Point) → evidence_of w faults f ≡ Some points → (P : List Point → Type 0) → IfSome (evidence_of w faults f) P → P points
   rests points is P h = subst (λ o. IfSome o P) is h
