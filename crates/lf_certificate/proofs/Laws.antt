@@ -1,13 +1,107 @@
 -- What crates above may build on, in the words of specs/.
-use Rattle.std.proofs.Common.{◌≡◌}
+use Rattle.std.proofs.Common.{◌≡◌, ℕ, ◌+◌, ◌<◌, List, [], ◌∷◌}
+use Rattle.std.specs.Prelude.{◌⊎◌, ◌↔◌, Some}
 use Rattle.lf_faults.specs.declared.spec.Bounds.{Bounds}
 use Rattle.lf_sim.specs.Runs.{World}
 use Rattle.lf_outcome.specs.declared.formula.Formula.{Formula}
 use Rattle.lf_tree.specs.declared.tree.Tree.{Tree}
-use Rattle.lf_certificate.specs.Accepted.{IsBounded, IsAccepted, IsAnswer}
+use Rattle.lf_certificate.specs.declared.reason.Reason.{Reason}
+use Rattle.lf_certificate.specs.declared.reason.Reason.TheVariants as reason
+use Rattle.lf_certificate.specs.Places.{Place, kid_at, root_of}
+use Rattle.lf_certificate.specs.Accepted.{IsBounded, IsAccepted, IsAnswer, IsAllowedAnswer, IsFirstIn, IsRight, AreRight, last_depth}
+use Rattle.lf_certificate.specs.Faults.{Fails, FailsFirst, FailsFirstFrom, IsFirstFailing, IsFirstFault}
 use Rattle.lf_certificate.proofs.AnswerLemmas as answers
+use Rattle.lf_certificate.proofs.FaultsLemmas as faults
+use Rattle.lf_certificate.proofs.FirstsLemmas as firsts
+use Rattle.lf_certificate.proofs.ReasonLemmas as reasons
+use Rattle.lf_certificate.proofs.VerdictLemmas as verdicts
 
 module _ {State Note Fact : Type 0} (w : World State Note Fact) (b : Bounds) (formula : Formula Fact) (tree : Tree) (bounded : IsBounded w b) where
   -- the answer of an accepted tree is the answer
   pub answer_is : IsAccepted w b formula tree → IsAnswer w b formula tree.answer
   answer_is accepted = answers.answer_is w b formula tree bounded accepted.places accepted.allowed accepted.first
+
+module _ {State Note Fact : Type 0} (w : World State Note Fact) (b : Bounds) (formula : Formula Fact) (last depth : ℕ) (p : Place) where
+  -- Whether a place fails by a reason is decided;
+  pub fails_or_not : (why : Reason) → Fails w b formula last depth p why ⊎ (Fails w b formula last depth p why → ⊥)
+  fails_or_not = reasons.fails_or_not w b formula last depth p
+
+  -- a right place doesn't fail, a place that doesn't fail is right,
+  pub right_fails_not : IsRight w b formula last depth p → (why : Reason) → Fails w b formula last depth p why → ⊥
+  right_fails_not = reasons.right_fails_not w b formula last depth p
+
+  pub right_where_none : ((why : Reason) → Fails w b formula last depth p why → ⊥) → IsRight w b formula last depth p
+  right_where_none = reasons.right_where_none w b formula last depth p
+
+  -- and a place is right or has a first reason, and no two
+  pub right_or_fails : IsRight w b formula last depth p ⊎ ((why : Reason) × FailsFirst w b formula last depth p why)
+  right_or_fails = reasons.right_or_fails w b formula last depth p
+
+  pub first_reason_one : (why other : Reason) → FailsFirst w b formula last depth p why → FailsFirst w b formula last depth p other → why ≡ other
+  first_reason_one = reasons.first_reason_one w b formula last depth p
+
+  -- A place is wholly right where it is right and each of its kids is wholly right,
+  pub wholly_right : IsRight w b formula last depth p
+      → ((i : ℕ) (kid : Place) → kid_at p i ≡ Some kid → AreRight w b formula last (depth + 1) kid) → AreRight w b formula last depth p
+  wholly_right = firsts.wholly_right w b formula last depth p
+
+  -- and so are the kids of one that is;
+  pub right_kid : (kid : Place) (i : ℕ) → kid_at p i ≡ Some kid → AreRight w b formula last depth p → AreRight w b formula last (depth + 1) kid
+  right_kid = firsts.right_kid w b formula last depth p
+
+  -- a place that fails does so before all beneath it,
+  pub fails_here : (why : Reason) → FailsFirst w b formula last depth p why → FailsFirstFrom w b formula last depth p why []
+  fails_here = firsts.fails_here w b formula last depth p
+
+  -- a right place whose kids before one are wholly right fails first where that kid does,
+  pub fails_beneath : (kid : Place) (i : ℕ) (why : Reason) (path : List ℕ) → IsRight w b formula last depth p → kid_at p i ≡ Some kid
+      → ((j : ℕ) (other : Place) → j < i → kid_at p j ≡ Some other → AreRight w b formula last (depth + 1) other)
+      → FailsFirstFrom w b formula last (depth + 1) kid why path → FailsFirstFrom w b formula last depth p why (i ∷ path)
+  fails_beneath = firsts.fails_beneath w b formula last depth p
+
+  -- and a place is wholly right or something fails first from it, and not both
+  pub right_or_fails_from : AreRight w b formula last depth p
+      ⊎ ((why : Reason) × (path : List ℕ) × FailsFirstFrom w b formula last depth p why path)
+  right_or_fails_from = firsts.right_or_fails_from w b formula last depth p
+
+  pub fails_not_right : (why : Reason) (path : List ℕ) → FailsFirstFrom w b formula last depth p why path → AreRight w b formula last depth p → ⊥
+  fails_not_right = firsts.fails_not_right w b formula last depth p
+
+module _ {State Note Fact : Type 0} (w : World State Note Fact) (b : Bounds) (formula : Formula Fact) (tree : Tree) where
+  -- From the root this is the first failing place of the tree
+  pub failing_iff : (why : Reason) (path : List ℕ)
+      → FailsFirstFrom w b formula (last_depth b tree.answer) 0 (root_of tree) why path ↔ IsFirstFailing w b formula tree why path
+  failing_iff why path = (firsts.failing_at_root w b formula tree why path, firsts.failing_from_root w b formula tree why path)
+
+  -- The first fault, or acceptance: by the answer at the start, by the root and all beneath it, by the answer at the end
+  pub fault_at_start : (IsAllowedAnswer w b formula tree.answer → ⊥) → IsFirstFault w b formula tree reason.AnswerNotAllowed []
+  fault_at_start = verdicts.fault_at_start w b formula tree
+
+  pub fault_beneath_root : (why : Reason) (path : List ℕ) → IsAllowedAnswer w b formula tree.answer
+      → FailsFirstFrom w b formula (last_depth b tree.answer) 0 (root_of tree) why path → IsFirstFault w b formula tree why path
+  fault_beneath_root = verdicts.fault_beneath_root w b formula tree
+
+  pub fault_at_end : IsAllowedAnswer w b formula tree.answer → AreRight w b formula (last_depth b tree.answer) 0 (root_of tree)
+      → (IsFirstIn w b formula tree tree.answer → ⊥) → IsFirstFault w b formula tree reason.AnswerNotFirst []
+  fault_at_end = verdicts.fault_at_end w b formula tree
+
+  pub accepted_where : IsAllowedAnswer w b formula tree.answer → AreRight w b formula (last_depth b tree.answer) 0 (root_of tree)
+      → IsFirstIn w b formula tree tree.answer → IsAccepted w b formula tree
+  accepted_where = verdicts.accepted_where w b formula tree
+
+  -- An accepted tree has no first fault,
+  pub accepted_has_none : IsAccepted w b formula tree → (why : Reason) (path : List ℕ) → IsFirstFault w b formula tree why path → ⊥
+  accepted_has_none = faults.accepted_has_none w b formula tree
+
+  -- two first faults of a tree are one,
+  pub first_fault_one : (why other : Reason) (path there : List ℕ) → IsFirstFault w b formula tree why path
+      → IsFirstFault w b formula tree other there → (why ≡ other) × (path ≡ there)
+  first_fault_one = faults.first_fault_one w b formula tree
+
+  -- a tree is accepted or has a first fault,
+  pub accepted_or_fault : IsAccepted w b formula tree ⊎ ((why : Reason) × (path : List ℕ) × IsFirstFault w b formula tree why path)
+  accepted_or_fault = verdicts.accepted_or_fault w b formula tree
+
+  -- so it is accepted exactly where it has none
+  pub accepted_iff : ((why : Reason) (path : List ℕ) → IsFirstFault w b formula tree why path → ⊥) ↔ IsAccepted w b formula tree
+  accepted_iff = verdicts.accepted_iff w b formula tree

@@ -1,5 +1,10 @@
 mod AllowedLemmas
 mod AnswerLemmas
+mod AnswersLemmas
 mod Covering
+mod FaultsLemmas
+mod FirstsLemmas
 pub mod Laws
 mod PlacesLemmas
+mod ReasonLemmas
+mod VerdictLemmas
