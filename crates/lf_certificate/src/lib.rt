@@ -7,5 +7,5 @@
 mod promises;
 mod reason;
 
-pub use promises::accepted_answers;
+pub use promises::{accepted_answers, first_faults};
 pub use reason::Reason;
