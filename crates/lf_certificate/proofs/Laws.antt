@@ -1,19 +1,28 @@
 -- What crates above may build on, in the words of specs/.
-use Rattle.std.proofs.Common.{◌≡◌, ℕ, ◌+◌, ◌<◌, List, [], ◌∷◌}
-use Rattle.std.specs.Prelude.{◌⊎◌, ◌↔◌, Some}
+use Rattle.std.proofs.Common.{◌≡◌, ℕ, ◌+◌, ◌<◌, true, false, List, [], ◌∷◌, ◌++◌, length, take}
+use Rattle.std.specs.Prelude.{◌⊎◌, ◌↔◌, slice_get, Some}
+use Rattle.std.specs.List.{Contains}
+use Rattle.lf_faults.specs.declared.fault.Parts.{Parts}
+use Rattle.lf_faults.specs.Faults.{inserted}
 use Rattle.lf_faults.specs.declared.spec.Bounds.{Bounds}
 use Rattle.lf_sim.specs.Runs.{World}
 use Rattle.lf_outcome.specs.declared.formula.Formula.{Formula}
+use Rattle.lf_outcome.specs.Truth.{reaches}
+use Rattle.lf_cone.specs.Cones.{IsClosed, IsRequired, AreRequired}
 use Rattle.lf_tree.specs.declared.tree.Tree.{Tree}
+use Rattle.lf_tree.specs.declared.tree.Node.{Node, out-Node}
+use Rattle.lf_tree.specs.declared.tree.Node.TheOpen.{Node-F}
 use Rattle.lf_certificate.specs.declared.reason.Reason.{Reason}
 use Rattle.lf_certificate.specs.declared.reason.Reason.TheVariants as reason
 use Rattle.lf_certificate.specs.Places.{Place, kid_at, root_of}
 use Rattle.lf_certificate.specs.Accepted.{IsBounded, IsAccepted, IsAnswer, IsAllowedAnswer, IsFirstIn, IsRight, AreRight, last_depth}
-use Rattle.lf_certificate.specs.Faults.{Fails, FailsFirst, FailsFirstFrom, IsFirstFailing, IsFirstFault}
+use Rattle.lf_certificate.specs.Faults.{turn_of, LeafFails, Suffices, BranchFails, Fails, FailsFirst, FailsFirstFrom, IsFirstFailing, IsFirstFault}
 use Rattle.lf_certificate.proofs.AnswerLemmas as answers
 use Rattle.lf_certificate.proofs.FaultsLemmas as faults
 use Rattle.lf_certificate.proofs.FirstsLemmas as firsts
+use Rattle.lf_certificate.proofs.PlacesLemmas as places
 use Rattle.lf_certificate.proofs.ReasonLemmas as reasons
+use Rattle.lf_certificate.proofs.TurnsLemmas as turns
 use Rattle.lf_certificate.proofs.VerdictLemmas as verdicts
 
 module _ {State Note Fact : Type 0} (w : World State Note Fact) (b : Bounds) (formula : Formula Fact) (tree : Tree) (bounded : IsBounded w b) where
@@ -66,6 +75,47 @@ module _ {State Note Fact : Type 0} (w : World State Note Fact) (b : Bounds) (fo
 
   pub fails_not_right : (why : Reason) (path : List ℕ) → FailsFirstFrom w b formula last depth p why path → AreRight w b formula last depth p → ⊥
   fails_not_right = firsts.fails_not_right w b formula last depth p
+
+-- The kids of a place: a leaf has none,
+pub misses_no_kid : (p kid : Place) (i : ℕ) → out-Node p.node ≡ Node-F.Misses → kid_at p i ≡ Some kid → ⊥
+misses_no_kid = turns.misses_no_kid
+
+pub reaches_no_kid : (p kid : Place) (i : ℕ) → out-Node p.node ≡ Node-F.Reaches → kid_at p i ≡ Some kid → ⊥
+reaches_no_kid = turns.reaches_no_kid
+
+-- and a branch has one for each edge with a node, and no other
+pub kid_is : (p : Place) (reach : List ℕ) (edges : List Parts) (kids : List Node) (i : ℕ) (edge : Parts) (node : Node)
+    → out-Node p.node ≡ Node-F.Branch reach edges kids → slice_get edges i ≡ Some edge → slice_get kids i ≡ Some node
+    → kid_at p i ≡ Some (record { node = node; faults = inserted edge p.faults; excluded = p.excluded ++ take i edges })
+kid_is = places.kid-some
+
+pub kid_within : (p kid : Place) (reach : List ℕ) (edges : List Parts) (kids : List Node) (i : ℕ)
+    → out-Node p.node ≡ Node-F.Branch reach edges kids → kid_at p i ≡ Some kid → i < length edges
+kid_within = turns.kid_within
+
+module _ {State Note Fact : Type 0} (w : World State Note Fact) (b : Bounds) (formula : Formula Fact) (last depth : ℕ) (p : Place) where
+  -- The first reason of a leaf, from what was found before it in turn
+  pub misses_first : (why : Reason) → out-Node p.node ≡ Node-F.Misses → LeafFails w b formula last depth p.faults false why
+      → (turn_of reason.WrongDepth < turn_of why → depth ≡ last) → FailsFirst w b formula last depth p why
+  misses_first = turns.misses_first w b formula last depth p
+
+  pub reaches_first : (why : Reason) → out-Node p.node ≡ Node-F.Reaches → LeafFails w b formula last depth p.faults true why
+      → (turn_of reason.WrongDepth < turn_of why → depth ≡ last) → FailsFirst w b formula last depth p why
+  reaches_first = turns.reaches_first w b formula last depth p
+
+  -- and that of a branch
+  pub branch_first : (reach : List ℕ) (edges : List Parts) (kids : List Node) (why : Reason) → out-Node p.node ≡ Node-F.Branch reach edges kids
+      → BranchFails w b formula last depth p.faults p.excluded reach edges kids why
+      → (turn_of reason.WrongDepth < turn_of why → depth < last)
+      → (turn_of reason.BranchMisses < turn_of why → reaches w p.faults formula ≡ true)
+      → (turn_of reason.ReachFallsShort < turn_of why → Suffices w b formula p.faults reach)
+      → (turn_of reason.ReachNotClosed < turn_of why → IsClosed w p.faults reach)
+      → (turn_of reason.EdgeMissing < turn_of why → (f : Parts) → IsRequired w p.faults b reach p.excluded f → Contains edges f)
+      → (turn_of reason.EdgesDiffer < turn_of why → AreRequired w p.faults b reach p.excluded edges)
+      → FailsFirst w b formula last depth p why
+  branch_first reach edges kids why opened fails above reaching suffices closed tried required =
+      turns.branch_first w b formula last depth p reach edges kids why opened fails
+      (record { above = above; reaching = reaching; suffices = suffices; closed = closed; tried = tried; required = required })
 
 module _ {State Note Fact : Type 0} (w : World State Note Fact) (b : Bounds) (formula : Formula Fact) (tree : Tree) where
   -- From the root this is the first failing place of the tree

@@ -7,4 +7,5 @@ mod FirstsLemmas
 pub mod Laws
 mod PlacesLemmas
 mod ReasonLemmas
+mod TurnsLemmas
 mod VerdictLemmas
