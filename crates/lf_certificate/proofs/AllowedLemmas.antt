@@ -14,8 +14,8 @@ use Rattle.lf_outcome.specs.declared.formula.Formula.{Formula}
 use Rattle.lf_tree.specs.declared.tree.Node.{Node, out-Node}
 use Rattle.lf_tree.specs.declared.tree.Node.TheOpen.{Node-F}
 use Rattle.lf_certificate.specs.Places.{Place, kid_in, kid_at, place_from}
-use Rattle.lf_certificate.specs.Accepted.{IsRight, IsRightNode}
-use Rattle.lf_certificate.proofs.Covering.{AreRight, item-in}
+use Rattle.lf_certificate.specs.Accepted.{AreRight, IsRightNode}
+use Rattle.lf_certificate.proofs.Covering.{item-in}
 use Rattle.lf_certificate.proofs.PlacesLemmas.{from-kid}
 
 pub some-one : {X : Type 0} (x y : X) → Some x ≡ Some y → x ≡ y
@@ -91,7 +91,7 @@ through_kid p i path q (Some kid) is leads = record { kid = kid; is = is; leads 
 pub through : (p : Place) (i : ℕ) (path : List ℕ) (q : Place) → place_from p (i ∷ path) ≡ Some q → Through p i path q
 through p i path q leads = through_kid p i path q (kid_at p i) refl leads
 
-module _ {State Note Fact : Type 0} (w : World State Note Fact) (b : Bounds) (formula : Formula Fact) (last : ℕ) (lasts : 1 ≤ w.pause_length) where
+module _ {State Note Fact : Type 0} (w : World State Note Fact) (b : Bounds) (formula : Formula Fact) (last : ℕ) where
   -- an edge of a right place may be added
   edge_allowed : (d : ℕ) (p : Place) (y : Node-F Node) (i : ℕ) (kid : Place) → IsRightNode w b formula last d p.faults p.excluded y
       → KidOf y p.faults p.excluded i kid → IsAllowed b kid.faults
@@ -102,7 +102,7 @@ module _ {State Note Fact : Type 0} (w : World State Note Fact) (b : Bounds) (fo
       let here : slice_get edges i ≡ Some k.edge = ap (λ es. slice_get es i) edges_are ∙ k.edge_is in
       subst (IsAllowed b) (sym k.faults_is) ((right.required.each k.edge).0 (item-in edges i k.edge here)).allowed.1
 
-  pub place_allowed : (path : List ℕ) (d : ℕ) (p q : Place) → AreRight w b formula last lasts d p → length p.faults ≡ d → IsAllowed b p.faults
+  pub place_allowed : (path : List ℕ) (d : ℕ) (p q : Place) → AreRight w b formula last d p → length p.faults ≡ d → IsAllowed b p.faults
       → place_from p path ≡ Some q → IsAllowed b q.faults × (length q.faults ≡ d + length path)
   place_allowed [] d p q right size allowed leads =
       let same : p ≡ q = some-one p q leads in

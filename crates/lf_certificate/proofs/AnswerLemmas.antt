@@ -15,8 +15,8 @@ use Rattle.lf_outcome.specs.declared.formula.Formula.{Formula}
 use Rattle.lf_outcome.specs.Truth.{reaches}
 use Rattle.lf_tree.specs.declared.tree.Tree.{Tree}
 use Rattle.lf_certificate.specs.Places.{Place, root_of, place_at}
-use Rattle.lf_certificate.specs.Accepted.{IsBounded, IsAccepted, IsAnswer, IsAllowedAnswer, IsFirstIn, MissesIn, IsRight, Covers, last_depth}
-use Rattle.lf_certificate.proofs.Covering.{AreRight, StandsLast, IsBeneath, claim}
+use Rattle.lf_certificate.specs.Accepted.{AreRight, IsBounded, IsAccepted, IsAnswer, IsAllowedAnswer, IsFirstIn, MissesIn, IsRight, Covers, last_depth}
+use Rattle.lf_certificate.proofs.Covering.{StandsLast, IsBeneath, claim}
 
 -- of a truth value that isn't true
 pub reaches_or : (r : Bool) → (r ≡ true) ⊎ (r ≡ false)
@@ -27,7 +27,7 @@ module _ {State Note Fact : Type 0} (w : World State Note Fact) (b : Bounds) (fo
   lasts : 1 ≤ w.pause_length
   lasts = omega (arith, bounded.pause_length, bounded.limits.pause_length.0)
 
-  all_right : AreRight w b formula (last_depth b tree.answer) lasts 0 (root_of tree)
+  all_right : AreRight w b formula (last_depth b tree.answer) 0 (root_of tree)
   all_right path q at far leads =
       let same : length path ≡ at = omega (arith, far) in
       subst (λ d. IsRight w b formula (last_depth b tree.answer) d q) same (places path q leads)

@@ -15,10 +15,10 @@ use Rattle.lf_tree.specs.declared.tree.Tree.{Tree}
 use Rattle.lf_tree.specs.declared.tree.Node.{Node, out-Node}
 use Rattle.lf_tree.specs.declared.tree.Node.TheOpen.{Node-F}
 use Rattle.lf_certificate.specs.Places.{Place, place_from, place_at, root_of}
-use Rattle.lf_certificate.specs.Accepted.{IsBounded, IsFirstIn, MissesIn, IsRight, IsRightNode, Covers, last_depth, covered_below}
+use Rattle.lf_certificate.specs.Accepted.{IsBounded, IsFirstIn, MissesIn, IsRight, AreRight, IsRightNode, Covers, last_depth, covered_below}
 use Rattle.lf_certificate.proofs.AllowedLemmas.{place_allowed}
 use Rattle.lf_certificate.proofs.AnswerLemmas.{reaches_or}
-use Rattle.lf_certificate.proofs.Covering.{AreRight, StandsLast, claim}
+use Rattle.lf_certificate.proofs.Covering.{StandsLast, claim}
 use Rattle.lf_certificate.proofs.PlacesLemmas.{place-append}
 
 module _ {State Note Fact : Type 0} (w : World State Note Fact) (b : Bounds) (formula : Formula Fact) where
@@ -35,7 +35,7 @@ module _ {State Note Fact : Type 0} (w : World State Note Fact) (b : Bounds) (fo
 
   -- all beneath a place of the tree is right
   pub right_beneath : (path : List ℕ) (p : Place) → place_at tree path ≡ Some p
-      → AreRight w b formula (last_depth b tree.answer) pauses_last (length path) p
+      → AreRight w b formula (last_depth b tree.answer) (length path) p
   right_beneath path p leads rest q at far go =
       let same : length (path ++ rest) ≡ at = length-append path rest ∙ sym far in
       subst (λ d. IsRight w b formula (last_depth b tree.answer) d q) same
@@ -44,7 +44,7 @@ module _ {State Note Fact : Type 0} (w : World State Note Fact) (b : Bounds) (fo
   -- its set is allowed, and as large as it is deep
   pub set_at : (path : List ℕ) (p : Place) → place_at tree path ≡ Some p → IsAllowed b p.faults × (length p.faults ≡ length path)
   set_at path p leads =
-      let found = place_allowed w b formula (last_depth b tree.answer) pauses_last path 0 (root_of tree) p (right_beneath [] (root_of tree) refl) refl
+      let found = place_allowed w b formula (last_depth b tree.answer) path 0 (root_of tree) p (right_beneath [] (root_of tree) refl) refl
       (empty_allowed b) leads in
       (found.0, omega (arith, found.1))
 

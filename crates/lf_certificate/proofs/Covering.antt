@@ -19,7 +19,7 @@ use Rattle.lf_cone.proofs.Laws.{still_reaches}
 use Rattle.lf_tree.specs.declared.tree.Node.{Node, out-Node}
 use Rattle.lf_tree.specs.declared.tree.Node.TheOpen.{Node-F}
 use Rattle.lf_certificate.specs.Places.{Place, kid_at, place_from}
-use Rattle.lf_certificate.specs.Accepted.{IsRight, IsRightNode, IsRightLeaf, IsRightBranch}
+use Rattle.lf_certificate.specs.Accepted.{IsRight, AreRight, IsRightNode, IsRightLeaf, IsRightBranch}
 use Rattle.lf_certificate.proofs.PlacesLemmas.{kid_of, kid-some, from-kid}
 
 -- the first of a list that the other has, or none of them
@@ -76,10 +76,6 @@ pub suc-one : (n m : ℕ) → suc n ≡ suc m → n ≡ m
 suc-one n m e = omega (arith, e)
 
 module _ {State Note Fact : Type 0} (w : World State Note Fact) (b : Bounds) (formula : Formula Fact) (last : ℕ) (lasts : 1 ≤ w.pause_length) where
-  -- all that stands beneath a place so far down is right
-  abbrev pub AreRight : ℕ → Place → Type 0
-  AreRight d p = (path : List ℕ) (q : Place) (at : ℕ) → at ≡ d + length path → place_from p path ≡ Some q → IsRight w b formula last at q
-
   -- the set stands beneath the place, at the last depth
   pub record StandsLast (d : ℕ) (p : Place) (faults : List Parts) : Type 0 where
     pub path : List ℕ
@@ -100,7 +96,7 @@ module _ {State Note Fact : Type 0} (w : World State Note Fact) (b : Bounds) (fo
 
   abbrev pub Claim : ℕ → Type 0
   Claim n =
-      (d : ℕ) (p : Place) → d + n ≡ last → length p.faults ≡ d → IsAllowed b p.faults → AreRight d p
+      (d : ℕ) (p : Place) → d + n ≡ last → length p.faults ≡ d → IsAllowed b p.faults → AreRight w b formula last d p
       → (wider : List Parts) → IsBeneath p wider → Outcome d p wider
 
   leaf : (says : Bool) (d : ℕ) (p : Place) → length p.faults ≡ d → IsAllowed b p.faults → IsRightLeaf w b formula last d p.faults says
@@ -122,11 +118,11 @@ module _ {State Note Fact : Type 0} (w : World State Note Fact) (b : Bounds) (fo
     same = s.same;
   }
 
-  right_beneath : (d i : ℕ) (p kid : Place) → kid_at p i ≡ Some kid → AreRight d p → AreRight (d + 1) kid
+  right_beneath : (d i : ℕ) (p kid : Place) → kid_at p i ≡ Some kid → AreRight w b formula last d p → AreRight w b formula last (d + 1) kid
   right_beneath d i p kid is right = λ path q at far leads. right (i ∷ path) q at (omega (arith, far)) (from-kid p kid i path is ∙ leads)
 
   module _ (d : ℕ) (p : Place) (reach : List ℕ) (edges : List Parts) (kids : List Node) (opened : out-Node p.node ≡ Node-F.Branch reach edges kids)
-      (size : length p.faults ≡ d) (allowed : IsAllowed b p.faults) (areright : AreRight d p)
+      (size : length p.faults ≡ d) (allowed : IsAllowed b p.faults) (areright : AreRight w b formula last d p)
       (right : IsRightBranch w b formula last d p.faults p.excluded reach edges kids)
       (wider : List Parts) (beneath : IsBeneath p wider) where
     -- where no edge is in the set, the light cone decides it
@@ -192,7 +188,7 @@ module _ {State Note Fact : Type 0} (w : World State Note Fact) (b : Bounds) (fo
 
   -- by the kind of the node
   by_node : (n : ℕ) → (ih : (m : ℕ) → n ≡ suc m → Claim m) → (d : ℕ) (p : Place) (y : Node-F Node) → out-Node p.node ≡ y
-      → d + n ≡ last → length p.faults ≡ d → IsAllowed b p.faults → AreRight d p → IsRightNode w b formula last d p.faults p.excluded y
+      → d + n ≡ last → length p.faults ≡ d → IsAllowed b p.faults → AreRight w b formula last d p → IsRightNode w b formula last d p.faults p.excluded y
       → (wider : List Parts) → IsBeneath p wider → Outcome d p wider
   by_node n ih d p Node-F.Misses opened sum size allowed areright right wider beneath = inr (leaf false d p size allowed right wider beneath)
   by_node n ih d p Node-F.Reaches opened sum size allowed areright right wider beneath = inr (leaf true d p size allowed right wider beneath)

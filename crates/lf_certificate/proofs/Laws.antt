@@ -1,19 +1,34 @@
 -- What crates above may build on, in the words of specs/.
-use Rattle.std.proofs.Common.{◌≡◌, ℕ, List}
-use Rattle.std.specs.Prelude.{Option, Some}
+use Rattle.std.proofs.Common.{◌≡◌, ℕ, ◌+◌, ◌<◌, true, false, List, [], ◌∷◌, ◌++◌, length, take}
+use Rattle.std.specs.Prelude.{◌⊎◌, ◌↔◌, slice_get, Option, Some}
+use Rattle.std.specs.List.{Contains}
 use Rattle.lf_faults.specs.declared.fault.Parts.{Parts}
+use Rattle.lf_faults.specs.Faults.{inserted}
 use Rattle.lf_faults.specs.Allowed.{IsInLimits}
 use Rattle.lf_faults.specs.declared.spec.Bounds.{Bounds}
 use Rattle.lf_sim.specs.Runs.{World}
 use Rattle.lf_outcome.specs.declared.formula.Formula.{Formula}
+use Rattle.lf_outcome.specs.Truth.{reaches}
+use Rattle.lf_cone.specs.Cones.{IsClosed, IsRequired, AreRequired}
 use Rattle.lf_tree.specs.declared.tree.Tree.{Tree}
-use Rattle.lf_certificate.proofs.ExistenceLemmas as existence
-use Rattle.lf_certificate.specs.Places.{Place, place_at}
-use Rattle.lf_certificate.specs.Accepted.{IsBounded, IsAccepted, IsAnswer, Covers, covered_below}
+use Rattle.lf_tree.specs.declared.tree.Node.{Node, out-Node}
+use Rattle.lf_tree.specs.declared.tree.Node.TheOpen.{Node-F}
+use Rattle.lf_certificate.specs.declared.reason.Reason.{Reason}
+use Rattle.lf_certificate.specs.declared.reason.Reason.TheVariants as reason
+use Rattle.lf_certificate.specs.Places.{Place, kid_at, place_at, root_of}
+use Rattle.lf_certificate.specs.Accepted.{IsBounded, IsAccepted, IsAnswer, IsAllowedAnswer, IsFirstIn, IsRight, AreRight, Covers, last_depth, covered_below}
+use Rattle.lf_certificate.specs.Faults.{turn_of, LeafFails, Suffices, BranchFails, Fails, FailsFirst, FailsFirstFrom, IsFirstFailing, IsFirstFault}
 use Rattle.lf_certificate.specs.Grown.{IsTreeOf}
 use Rattle.lf_certificate.proofs.AnswerLemmas as answers
 use Rattle.lf_certificate.proofs.CoverLemmas as covering
+use Rattle.lf_certificate.proofs.ExistenceLemmas as existence
+use Rattle.lf_certificate.proofs.FaultsLemmas as faults
+use Rattle.lf_certificate.proofs.FirstsLemmas as firsts
 use Rattle.lf_certificate.proofs.GrownLemmas as grown
+use Rattle.lf_certificate.proofs.PlacesLemmas as places
+use Rattle.lf_certificate.proofs.ReasonLemmas as reasons
+use Rattle.lf_certificate.proofs.TurnsLemmas as turns
+use Rattle.lf_certificate.proofs.VerdictLemmas as verdicts
 
 module _ {State Note Fact : Type 0} (w : World State Note Fact) (b : Bounds) (formula : Formula Fact) (tree : Tree) (bounded : IsBounded w b) where
   -- the answer of an accepted tree is the answer
@@ -43,3 +58,129 @@ tree_exists = existence.tree_exists
 pub answer_exists : {State Note Fact : Type 0} (w : World State Note Fact) (b : Bounds) (formula : Formula Fact) → IsInLimits b
     → (answer : Option (List Parts)) × IsAnswer w b formula answer
 answer_exists w b formula limits = let found = existence.tree_exists w b formula limits in (found.0.answer, found.1.answer)
+
+module _ {State Note Fact : Type 0} (w : World State Note Fact) (b : Bounds) (formula : Formula Fact) (last depth : ℕ) (p : Place) where
+  -- Whether a place fails by a reason is decided;
+  pub fails_or_not : (why : Reason) → Fails w b formula last depth p why ⊎ (Fails w b formula last depth p why → ⊥)
+  fails_or_not = reasons.fails_or_not w b formula last depth p
+
+  -- a right place doesn't fail, a place that doesn't fail is right,
+  pub right_fails_not : IsRight w b formula last depth p → (why : Reason) → Fails w b formula last depth p why → ⊥
+  right_fails_not = reasons.right_fails_not w b formula last depth p
+
+  pub right_where_none : ((why : Reason) → Fails w b formula last depth p why → ⊥) → IsRight w b formula last depth p
+  right_where_none = reasons.right_where_none w b formula last depth p
+
+  -- and a place is right or has a first reason, and no two
+  pub right_or_fails : IsRight w b formula last depth p ⊎ ((why : Reason) × FailsFirst w b formula last depth p why)
+  right_or_fails = reasons.right_or_fails w b formula last depth p
+
+  pub first_reason_one : (why other : Reason) → FailsFirst w b formula last depth p why → FailsFirst w b formula last depth p other → why ≡ other
+  first_reason_one = reasons.first_reason_one w b formula last depth p
+
+  -- A place is wholly right where it is right and each of its kids is wholly right,
+  pub wholly_right : IsRight w b formula last depth p
+      → ((i : ℕ) (kid : Place) → kid_at p i ≡ Some kid → AreRight w b formula last (depth + 1) kid) → AreRight w b formula last depth p
+  wholly_right = firsts.wholly_right w b formula last depth p
+
+  -- and so are the kids of one that is;
+  pub right_kid : (kid : Place) (i : ℕ) → kid_at p i ≡ Some kid → AreRight w b formula last depth p → AreRight w b formula last (depth + 1) kid
+  right_kid = firsts.right_kid w b formula last depth p
+
+  -- a place that fails does so before all beneath it,
+  pub fails_here : (why : Reason) → FailsFirst w b formula last depth p why → FailsFirstFrom w b formula last depth p why []
+  fails_here = firsts.fails_here w b formula last depth p
+
+  -- a right place whose kids before one are wholly right fails first where that kid does,
+  pub fails_beneath : (kid : Place) (i : ℕ) (why : Reason) (path : List ℕ) → IsRight w b formula last depth p → kid_at p i ≡ Some kid
+      → ((j : ℕ) (other : Place) → j < i → kid_at p j ≡ Some other → AreRight w b formula last (depth + 1) other)
+      → FailsFirstFrom w b formula last (depth + 1) kid why path → FailsFirstFrom w b formula last depth p why (i ∷ path)
+  fails_beneath = firsts.fails_beneath w b formula last depth p
+
+  -- and a place is wholly right or something fails first from it, and not both
+  pub right_or_fails_from : AreRight w b formula last depth p
+      ⊎ ((why : Reason) × (path : List ℕ) × FailsFirstFrom w b formula last depth p why path)
+  right_or_fails_from = firsts.right_or_fails_from w b formula last depth p
+
+  pub fails_not_right : (why : Reason) (path : List ℕ) → FailsFirstFrom w b formula last depth p why path → AreRight w b formula last depth p → ⊥
+  fails_not_right = firsts.fails_not_right w b formula last depth p
+
+-- The kids of a place: a leaf has none,
+pub misses_no_kid : (p kid : Place) (i : ℕ) → out-Node p.node ≡ Node-F.Misses → kid_at p i ≡ Some kid → ⊥
+misses_no_kid = turns.misses_no_kid
+
+pub reaches_no_kid : (p kid : Place) (i : ℕ) → out-Node p.node ≡ Node-F.Reaches → kid_at p i ≡ Some kid → ⊥
+reaches_no_kid = turns.reaches_no_kid
+
+-- and a branch has one for each edge with a node, and no other
+pub kid_is : (p : Place) (reach : List ℕ) (edges : List Parts) (kids : List Node) (i : ℕ) (edge : Parts) (node : Node)
+    → out-Node p.node ≡ Node-F.Branch reach edges kids → slice_get edges i ≡ Some edge → slice_get kids i ≡ Some node
+    → kid_at p i ≡ Some (record { node = node; faults = inserted edge p.faults; excluded = p.excluded ++ take i edges })
+kid_is = places.kid-some
+
+pub kid_within : (p kid : Place) (reach : List ℕ) (edges : List Parts) (kids : List Node) (i : ℕ)
+    → out-Node p.node ≡ Node-F.Branch reach edges kids → kid_at p i ≡ Some kid → i < length edges
+kid_within = turns.kid_within
+
+module _ {State Note Fact : Type 0} (w : World State Note Fact) (b : Bounds) (formula : Formula Fact) (last depth : ℕ) (p : Place) where
+  -- The first reason of a leaf, from what was found before it in turn
+  pub misses_first : (why : Reason) → out-Node p.node ≡ Node-F.Misses → LeafFails w b formula last depth p.faults false why
+      → (turn_of reason.WrongDepth < turn_of why → depth ≡ last) → FailsFirst w b formula last depth p why
+  misses_first = turns.misses_first w b formula last depth p
+
+  pub reaches_first : (why : Reason) → out-Node p.node ≡ Node-F.Reaches → LeafFails w b formula last depth p.faults true why
+      → (turn_of reason.WrongDepth < turn_of why → depth ≡ last) → FailsFirst w b formula last depth p why
+  reaches_first = turns.reaches_first w b formula last depth p
+
+  -- and that of a branch
+  pub branch_first : (reach : List ℕ) (edges : List Parts) (kids : List Node) (why : Reason) → out-Node p.node ≡ Node-F.Branch reach edges kids
+      → BranchFails w b formula last depth p.faults p.excluded reach edges kids why
+      → (turn_of reason.WrongDepth < turn_of why → depth < last)
+      → (turn_of reason.BranchMisses < turn_of why → reaches w p.faults formula ≡ true)
+      → (turn_of reason.ReachFallsShort < turn_of why → Suffices w b formula p.faults reach)
+      → (turn_of reason.ReachNotClosed < turn_of why → IsClosed w p.faults reach)
+      → (turn_of reason.EdgeMissing < turn_of why → (f : Parts) → IsRequired w p.faults b reach p.excluded f → Contains edges f)
+      → (turn_of reason.EdgesDiffer < turn_of why → AreRequired w p.faults b reach p.excluded edges)
+      → FailsFirst w b formula last depth p why
+  branch_first reach edges kids why opened fails above reaching suffices closed tried required =
+      turns.branch_first w b formula last depth p reach edges kids why opened fails
+      (record { above = above; reaching = reaching; suffices = suffices; closed = closed; tried = tried; required = required })
+
+module _ {State Note Fact : Type 0} (w : World State Note Fact) (b : Bounds) (formula : Formula Fact) (tree : Tree) where
+  -- From the root this is the first failing place of the tree
+  pub failing_iff : (why : Reason) (path : List ℕ)
+      → FailsFirstFrom w b formula (last_depth b tree.answer) 0 (root_of tree) why path ↔ IsFirstFailing w b formula tree why path
+  failing_iff why path = (firsts.failing_at_root w b formula tree why path, firsts.failing_from_root w b formula tree why path)
+
+  -- The first fault, or acceptance: by the answer at the start, by the root and all beneath it, by the answer at the end
+  pub fault_at_start : (IsAllowedAnswer w b formula tree.answer → ⊥) → IsFirstFault w b formula tree reason.AnswerNotAllowed []
+  fault_at_start = verdicts.fault_at_start w b formula tree
+
+  pub fault_beneath_root : (why : Reason) (path : List ℕ) → IsAllowedAnswer w b formula tree.answer
+      → FailsFirstFrom w b formula (last_depth b tree.answer) 0 (root_of tree) why path → IsFirstFault w b formula tree why path
+  fault_beneath_root = verdicts.fault_beneath_root w b formula tree
+
+  pub fault_at_end : IsAllowedAnswer w b formula tree.answer → AreRight w b formula (last_depth b tree.answer) 0 (root_of tree)
+      → (IsFirstIn w b formula tree tree.answer → ⊥) → IsFirstFault w b formula tree reason.AnswerNotFirst []
+  fault_at_end = verdicts.fault_at_end w b formula tree
+
+  pub accepted_where : IsAllowedAnswer w b formula tree.answer → AreRight w b formula (last_depth b tree.answer) 0 (root_of tree)
+      → IsFirstIn w b formula tree tree.answer → IsAccepted w b formula tree
+  accepted_where = verdicts.accepted_where w b formula tree
+
+  -- An accepted tree has no first fault,
+  pub accepted_has_none : IsAccepted w b formula tree → (why : Reason) (path : List ℕ) → IsFirstFault w b formula tree why path → ⊥
+  accepted_has_none = faults.accepted_has_none w b formula tree
+
+  -- two first faults of a tree are one,
+  pub first_fault_one : (why other : Reason) (path there : List ℕ) → IsFirstFault w b formula tree why path
+      → IsFirstFault w b formula tree other there → (why ≡ other) × (path ≡ there)
+  first_fault_one = faults.first_fault_one w b formula tree
+
+  -- a tree is accepted or has a first fault,
+  pub accepted_or_fault : IsAccepted w b formula tree ⊎ ((why : Reason) × (path : List ℕ) × IsFirstFault w b formula tree why path)
+  accepted_or_fault = verdicts.accepted_or_fault w b formula tree
+
+  -- so it is accepted exactly where it has none
+  pub accepted_iff : ((why : Reason) (path : List ℕ) → IsFirstFault w b formula tree why path → ⊥) ↔ IsAccepted w b formula tree
+  accepted_iff = verdicts.accepted_iff w b formula tree

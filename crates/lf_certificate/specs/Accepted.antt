@@ -12,7 +12,7 @@ use Rattle.lf_cone.specs.Cones.{IsClosed, AreRequired}
 use Rattle.lf_tree.specs.declared.tree.Tree.{Tree}
 use Rattle.lf_tree.specs.declared.tree.Node.{Node, out-Node}
 use Rattle.lf_tree.specs.declared.tree.Node.TheOpen.{Node-F}
-use Rattle.lf_certificate.specs.Places.{Place, place_at}
+use Rattle.lf_certificate.specs.Places.{Place, place_from, place_at}
 
 -- the bounds are within the limits, and are those of the world
 pub record IsBounded {State Note Fact : Type 0} (w : World State Note Fact) (b : Bounds) : Type 0 where
@@ -64,6 +64,10 @@ module _ {State Note Fact : Type 0} (w : World State Note Fact) (b : Bounds) (fo
   -- what stands at a place so far down is right
   abbrev pub IsRight : ℕ → ℕ → Place → Type 0
   IsRight last depth p = IsRightNode last depth p.faults p.excluded (out-Node p.node)
+
+  -- all that stands at a place so far down and beneath it is right
+  abbrev pub AreRight : ℕ → ℕ → Place → Type 0
+  AreRight last depth p = (path : List ℕ) (q : Place) (at : ℕ) → at ≡ depth + length path → place_from p path ≡ Some q → IsRight last at q
 
   -- the set stands in the tree at the last depth, and its run misses
   pub record MissesIn (tree : Tree) (faults : List Parts) : Type 0 where

@@ -1,5 +1,5 @@
 -- What is wrong with a tree, and what of it is met first.
-use Rattle.std.specs.Prelude.{◌≡◌, ◌≢◌, ℕ, ◌<◌, ◌≤◌, Bool, true, false, List, [], length, Option, Some}
+use Rattle.std.specs.Prelude.{◌≡◌, ◌≢◌, ℕ, ◌+◌, ◌<◌, ◌≤◌, Bool, true, false, List, [], length, Option, Some}
 use Rattle.std.specs.List.{Contains}
 use Rattle.std.specs.Ordering.{nat_cmp, is_lt}
 use Rattle.std.specs.Cmp.Lexicographic.{slice_cmp}
@@ -14,7 +14,7 @@ use Rattle.lf_tree.specs.declared.tree.Node.{Node, out-Node}
 use Rattle.lf_tree.specs.declared.tree.Node.TheOpen.{Node-F}
 use Rattle.lf_certificate.specs.declared.reason.Reason.{Reason}
 use Rattle.lf_certificate.specs.declared.reason.Reason.TheVariants as reason
-use Rattle.lf_certificate.specs.Places.{Place, place_at}
+use Rattle.lf_certificate.specs.Places.{Place, place_from, place_at}
 use Rattle.lf_certificate.specs.Accepted.{last_depth, IsAllowedAnswer, IsFirstIn}
 
 -- the numbers of the reasons
@@ -96,6 +96,14 @@ module _ {State Note Fact : Type 0} (w : World State Note Fact) (b : Bounds) (fo
   pub record FailsFirst (last depth : ℕ) (p : Place) (why : Reason) : Type 0 where
     pub fails : Fails last depth p why
     pub before : (other : Reason) → turn_of other < turn_of why → ¬ Fails last depth p other
+
+  -- the same at a place so far down, with all beneath it: the path from it to the first that fails, and the first reason
+  pub record FailsFirstFrom (last depth : ℕ) (p : Place) (why : Reason) (path : List ℕ) : Type 0 where
+    pub place : Place
+    pub leads : place_from p path ≡ Some place
+    pub fails : FailsFirst last (depth + length path) place why
+    pub before : (other : List ℕ) (q : Place) → path_is_before other path ≡ true → place_from p other ≡ Some q
+        → (reason : Reason) → ¬ Fails last (depth + length other) q reason
 
   -- the first place of a tree that fails, and the first reason by which it does
   pub record IsFirstFailing (tree : Tree) (why : Reason) (path : List ℕ) : Type 0 where

@@ -7,5 +7,5 @@
 mod promises;
 mod reason;
 
-pub use promises::{accepted_answers, one_tree, settings_are_bounded};
+pub use promises::{accepted_answers, first_faults, one_tree, settings_are_bounded};
 pub use reason::Reason;

@@ -24,7 +24,7 @@ use Rattle.lf_cone.proofs.HearingLemmas.{hearer, speaker, closed-keeps, sharp-le
 use Rattle.lf_cone.proofs.Growing.{Lacks, least_exists, covering_exists}
 
 -- the form of a reach
-form_or_not : (nodes horizon : ℕ) (reach : List ℕ) → Decided (IsReachOf nodes horizon reach)
+pub form_or_not : (nodes horizon : ℕ) (reach : List ℕ) → Decided (IsReachOf nodes horizon reach)
 form_or_not nodes horizon reach =
     decide_iff _ (IsReachOf nodes horizon reach)
     (λ h. record {

@@ -67,6 +67,10 @@ pub cone_exists : (nodes horizon : ℕ) (least : ℕ → ℕ → ℕ) (points : 
     → (reach : List ℕ) × IsCone nodes horizon least points reach
 cone_exists = growing.cone_exists
 
+-- Whether a list is a reach is decided
+pub form_or_not : (nodes horizon : ℕ) (reach : List ℕ) → IsReachOf nodes horizon reach ⊎ (IsReachOf nodes horizon reach → ⊥)
+form_or_not = existence.form_or_not
+
 module _ {State Note Fact : Type 0} (w : World State Note Fact) (faults : List Parts) where
   pub sharp_exists : (points : List Point) → AreInside w.rules.nodes w.horizon points → (reach : List ℕ) × IsSharp w faults points reach
   sharp_exists = existence.sharp_exists w faults
