@@ -1,6 +1,6 @@
 -- What is wrong with a text first, and what is read of a tree's own text.
-use Rattle.std.proofs.Common.{◌≡◌, ◌≢◌, ℕ, ◌<◌, ◌≤◌, Bool, true, false, List, length, Option, Some, None, Result, Ok, Err, refl, sym, ap, ◌∙◌, subst, arith, IfOk, IfErr, IsUtf8, bytes_eq}
-use Rattle.std.specs.Prelude.{MatchResult, ◌↔◌}
+use Rattle.std.proofs.Common.{◌≡◌, ◌≢◌, ℕ, ◌≤◌, true, false, List, length, Option, Some, None, Ok, Err, refl, sym, ap, ◌∙◌, subst, arith, IfOk, IfErr, bytes_eq}
+use Rattle.std.specs.Prelude.{MatchResult}
 use Rattle.std.proofs.lemmas.Bool.{true≢false, false_from_ne_true}
 use Rattle.std.proofs.lemmas.Slice.Eq.{bytes_eq-Decides}
 use Rattle.serde_json.specs.Data.{Data}
@@ -12,7 +12,7 @@ use Rattle.lf_tree.specs.Texts.{IsInRange, tree_text, most_bytes, depth_of}
 use Rattle.lf_tree.specs.Trees.{IsTree}
 use Rattle.lf_tree.specs.Values.{tree_value}
 use Rattle.lf_tree.specs.Reading.{Reading, ◌>>=◌, checked, tree_in}
-use Rattle.lf_tree.specs.FirstFaults.{IsJson, if_own, written_in, IsWrong, IsFirstFault}
+use Rattle.lf_tree.specs.FirstFaults.{IsJson, if_own, IsWrong, IsFirstFault}
 use Rattle.lf_tree.proofs.ReadBack.{tree-back}
 use Rattle.lf_tree.proofs.ReadFacts.{is_of_value, IsSound, tree-sound, tree-low}
 use Rattle.lf_tree.proofs.Written.{tree-written, read-written}

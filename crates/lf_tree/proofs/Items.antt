@@ -2,10 +2,10 @@
 use Rattle.std.proofs.Common.{◌≡◌, ℕ, suc, ◌+◌, ◌<◌, List, [], ◌∷◌, ◌++◌, length, get_or, take, drop, Ok, Err, refl, sym, ap, ap₂, ◌∙◌, arith, drop-cons, append_assoc}
 use Rattle.std.proofs.Math.ListN.{set}
 use Rattle.std.proofs.lemmas.List.{take_more_set}
-use Rattle.serde_json.specs.Data.{Data, Items, item}
+use Rattle.serde_json.specs.Data.{item}
 use Rattle.serde_json.specs.View.{view, items_view}
 use Rattle.serde_json.specs.declared.value.Value.{Value}
-use Rattle.lf_tree.specs.Reading.{Reading, ◌>>=◌, all_in, step_in, steps_in}
+use Rattle.lf_tree.specs.Reading.{Reading, ◌>>=◌, step_in, steps_in}
 
 -- one more, and what was read before
 joined : (done : List ℕ) (x : ℕ) (more : Reading (List ℕ)) → ((more >>= (λ xs. Ok (x ∷ xs))) >>= (λ xs. Ok (done ++ xs))) ≡ (more >>= (λ xs. Ok ((done ++ x ∷ []) ++ xs)))

@@ -4,6 +4,7 @@ mod FirstFaults
 mod HangLemmas
 mod Inductions
 mod Items
+mod Kept
 mod KindLemmas
 pub mod Laws
 mod LengthLemmas

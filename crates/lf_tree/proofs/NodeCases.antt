@@ -1,10 +1,7 @@
 -- Induction on nodes, and what is defined on them by their kinds.
-use Rattle.std.proofs.Common.{◌≡◌, ◌≤◌, ℕ, zero, ◌+◌, Bool, true, false, ◌&&◌, List, [], ◌∷◌, ◌++◌, refl, sym, ap, ◌∙◌, subst, map, max, arith}
-use Rattle.std.specs.Prelude.{codes}
-use Rattle.std.specs.Fmt.{decimal}
+use Rattle.std.proofs.Common.{◌≡◌, ◌≤◌, ℕ, ◌+◌, Bool, true, List, [], ◌∷◌, sym, ap, ◌∙◌, subst, map, max, arith}
 use Rattle.std.specs.List.{list_all, AllByRecursion, fold}
 use Rattle.std.proofs.lemmas.Bool.{and_parts}
-use Rattle.serde_json.specs.Data.{Data}
 use Rattle.lf_faults.specs.declared.fault.Parts.{Parts}
 use Rattle.lf_tree.specs.declared.tree.Node.{Node, fold-Node, fold-roll-Node}
 use Rattle.lf_tree.specs.declared.tree.Node.TheVariants.{rolls-Misses, rolls-Reaches, rolls-Branch}
@@ -12,9 +9,7 @@ use Rattle.lf_tree.specs.declared.tree.Node.TheVariants as kind
 use Rattle.lf_tree.specs.declared.tree.Node.TheOpen.{Node-F}
 use Rattle.lf_tree.specs.declared.tree.Node.TheFolds.{ind-Node, map-Node}
 use Rattle.lf_tree.specs.declared.tree.Node.TheViews.{roll-Node}
-use Rattle.lf_tree.specs.Texts.{node_step, node_text, depth_step, depth_of}
-use Rattle.lf_tree.specs.Trees.{is_node_step, is_node}
-use Rattle.lf_tree.specs.Values.{value_step, node_value}
+use Rattle.lf_tree.specs.Texts.{depth_step, depth_of}
 
 -- what holds of a node of which it holds of each kid, by kind
 pub record Steps (Q : Node → Type 0) : Type 0 where

@@ -1,8 +1,8 @@
 -- How a node is read.
-use Rattle.std.proofs.Common.{◌≡◌, ◌≢◌, ℕ, zero, suc, ◌-◌, Option, Some, None, Ok, Err, codes, IfOk, IfErr, refl, sym, ap, ap₂, ◌∙◌, arith}
+use Rattle.std.proofs.Common.{◌≡◌, ◌≢◌, ℕ, zero, suc, ◌-◌, Option, Some, None, Ok, Err, codes, IfOk, IfErr, refl, ap, ap₂, ◌∙◌, arith}
 use Rattle.serde_json.specs.Data.{Data}
 use Rattle.lf_tree.specs.declared.fault.TreeFault.TheVariants.{Form, TooDeep, Memory}
-use Rattle.lf_tree.specs.Reading.{Reading, one_in, three_in, leaf_in, leaf_or, branch_in, node_with, node_in}
+use Rattle.lf_tree.specs.Reading.{Reading, one_in, three_in, leaf_in, leaf_or, branch_in, node_in}
 
 abbrev misses_in : Data → Option Data
 misses_in d = one_in (codes "misses") d

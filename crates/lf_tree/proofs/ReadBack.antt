@@ -1,27 +1,23 @@
 -- The value of a tree reads as that tree.
-use Rattle.std.proofs.Common.{◌≡◌, ◌≢◌, ℕ, zero, suc, ◌+◌, ◌-◌, ◌≤◌, Bool, true, false, ◌&&◌, ◌||◌, ◌==◌, cond, nat_le, List, [], ◌∷◌, length, map, Option, Some, None, Ok, Err, refl, sym, ap, ap₂, ◌∙◌, subst, arith, IfSome}
-use Rattle.std.specs.Prelude.{codes}
+use Rattle.std.proofs.Common.{◌≡◌, ◌≢◌, ℕ, suc, ◌-◌, ◌≤◌, Bool, true, false, ◌&&◌, ◌||◌, cond, nat_le, List, [], ◌∷◌, length, map, Option, Some, None, Ok, Err, refl, ap, ◌∙◌, arith}
 use Rattle.std.specs.List.{list_all, list_any, AllByRecursion}
 use Rattle.std.proofs.lemmas.Bool.{and_parts}
-use Rattle.serde_json.specs.Data.{Data, boolean, number, unsigned, array, object, no_members, member, Items, item}
+use Rattle.serde_json.specs.Data.{Data, boolean}
 use Rattle.serde_json.specs.Events.{items_len}
 use Rattle.serde_json.specs.View.{items_of}
 use Rattle.lf_faults.specs.declared.fault.Parts.{Parts}
-use Rattle.lf_faults.specs.Faults.{IsFault}
-use Rattle.lf_faults.specs.Texts.{spelling}
-use Rattle.lf_faults.proofs.Laws.{spelling_injective}
 use Rattle.lf_tree.specs.declared.fault.TreeFault.TheVariants.{Form, OutOfRange}
 use Rattle.lf_tree.specs.declared.tree.Tree.{Tree}
 use Rattle.lf_tree.specs.declared.tree.Node.{Node}
 use Rattle.lf_tree.specs.declared.tree.Node.TheVariants as kind
 use Rattle.lf_tree.specs.Texts.{format_of, is_pause, has_pause, answer_faults, depth_of}
 use Rattle.lf_tree.specs.Trees.{is_fault, is_count, is_ascending, is_node, is_answer, IsTree}
-use Rattle.lf_tree.specs.Values.{fault_value, whole_value, listed, faults_value, keyed, value_step, node_value, answer_value, tree_value}
-use Rattle.lf_tree.specs.Reading.{Reading, ◌>>=◌, checked, some_or, fault_named, fault_in, whole_in, step_in, all_in, faults_in, edges_in, steps_in, reach_in, set_in, answer_in, format_in, leaf_in, kids_in, branch_in, node_in, most_branches, parts_in, tree_in}
+use Rattle.lf_tree.specs.Values.{fault_value, whole_value, listed, faults_value, value_step, node_value, answer_value, tree_value}
+use Rattle.lf_tree.specs.Reading.{Reading, ◌>>=◌, checked, some_or, fault_in, step_in, all_in, faults_in, edges_in, steps_in, reach_in, set_in, answer_in, format_in, kids_in, node_in, most_branches, tree_in}
 use Rattle.lf_tree.proofs.Named.{IsFault-true, named-spelling}
-use Rattle.lf_tree.proofs.NodeCases.{Steps, by_induction, fold-Misses, fold-Reaches, fold-Branch, all_true, both_of, each_of, depth-kids}
+use Rattle.lf_tree.proofs.NodeCases.{by_induction, fold-Misses, fold-Reaches, fold-Branch, all_true, both_of, each_of, depth-kids}
 use Rattle.lf_tree.proofs.NodeSteps.{node_in-leaf, node_in-branch}
-use Rattle.lf_tree.proofs.Written.{AreParts, parts-Branch}
+use Rattle.lf_tree.proofs.Written.{parts-Branch}
 
 -- lists
 items-back : {A : Type 0} (read : Data → Reading A) (value : A → Data) (xs : List A) → AllByRecursion (λ x. read (value x) ≡ Ok x) xs

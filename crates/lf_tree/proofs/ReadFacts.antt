@@ -1,21 +1,18 @@
 -- What is read is no deeper than may be, and what can be wrong with a value.
-use Rattle.std.proofs.Common.{◌≡◌, ◌≢◌, ℕ, zero, suc, ◌+◌, ◌≤◌, Bool, true, false, ◌&&◌, ◌||◌, ◌==◌, cond, nat_le, List, [], ◌∷◌, length, Option, Some, None, Ok, Err, refl, sym, ap, ◌∙◌, subst, arith, IfOk, IfErr, inl, inr, add-one, option_and_then}
+use Rattle.std.proofs.Common.{◌≡◌, ℕ, zero, suc, ◌≤◌, Bool, true, false, ◌||◌, ◌==◌, cond, nat_le, ◌∷◌, Option, Some, None, Ok, Err, refl, arith, IfOk, IfErr, option_and_then}
 use Rattle.std.specs.Prelude.{codes, ⊤}
 use Rattle.std.specs.List.{AllByRecursion}
-use Rattle.std.proofs.lemmas.Bool.{cases_Bool}
 use Rattle.serde_json.specs.Data.{Data, null, boolean, number, string, array, object, Items, no_items, item}
 use Rattle.serde_json.specs.Events.{items_len}
 use Rattle.serde_json.specs.Find.{as_number, as_u64}
-use Rattle.lf_faults.specs.declared.fault.Parts.{Parts}
 use Rattle.lf_tree.specs.declared.fault.TreeFault.{TreeFault}
 use Rattle.lf_tree.specs.declared.fault.TreeFault.TheVariants.{TooLong, NoJson, Form, OutOfRange, TooDeep, Memory}
 use Rattle.lf_tree.specs.declared.tree.Tree.{Tree}
 use Rattle.lf_tree.specs.declared.tree.Node.{Node}
 use Rattle.lf_tree.specs.declared.tree.Node.TheVariants as kind
-use Rattle.lf_tree.specs.declared.tree.Node.TheOpen.{Node-F}
 use Rattle.lf_tree.specs.Texts.{depth_of, depth_step}
 use Rattle.lf_tree.specs.Trees.{is_ascending, is_count}
-use Rattle.lf_tree.specs.Reading.{Reading, ◌>>=◌, checked, some_or, fault_named, fault_in, whole_in, step_in, all_in, faults_in, edges_in, steps_in, reach_in, set_in, answer_in, format_in, one_in, three_in, leaf_in, leaf_or, kids_in, branch_in, node_with, node_in, most_branches, parts_in, tree_in}
+use Rattle.lf_tree.specs.Reading.{Reading, ◌>>=◌, checked, some_or, fault_named, fault_in, whole_in, step_in, all_in, faults_in, edges_in, steps_in, reach_in, set_in, answer_in, format_in, one_in, three_in, leaf_in, leaf_or, kids_in, branch_in, node_in, most_branches, parts_in, tree_in}
 use Rattle.lf_tree.proofs.NodeCases.{fold-Misses, fold-Reaches, depth-Branch-le}
 
 -- Depth

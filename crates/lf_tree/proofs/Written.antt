@@ -1,18 +1,18 @@
 -- The value of a tree, its text, and what serde_json reads of that text.
-use Rattle.std.proofs.Common.{◌≡◌, ℕ, zero, suc, ◌+◌, ◌*◌, ◌<◌, ◌≤◌, ◌^◌, Bool, true, false, ◌&&◌, ◌||◌, cond, nat_le, List, [], ◌∷◌, ◌++◌, length, map, max, Option, Some, None, option_map, option_and_then, refl, sym, ap, ap₂, ◌∙◌, subst, arith, append_assoc, append-nil, decimal, IsUtf8}
-use Rattle.std.specs.Prelude.{codes, ⊤}
+use Rattle.std.proofs.Common.{◌≡◌, ℕ, zero, suc, ◌+◌, ◌*◌, ◌<◌, ◌≤◌, ◌^◌, Bool, true, false, ◌&&◌, ◌||◌, cond, nat_le, List, [], ◌∷◌, ◌++◌, length, map, Option, Some, None, option_map, option_and_then, refl, sym, ap, ap₂, ◌∙◌, subst, arith, append_assoc, append-nil, decimal, IsUtf8}
+use Rattle.std.specs.Prelude.{codes}
 use Rattle.std.specs.List.{list_all, list_any, AllByRecursion}
 use Rattle.std.proofs.lemmas.Bool.{and_parts, leb-true}
 use Rattle.json.specs.Json as json
 use Rattle.json.specs.Lex.{tokens}
 use Rattle.json.specs.Tree as tree
 use Rattle.json.specs.Tree.{json_tokens, HasNumbers, ItemsHaveNumbers}
-use Rattle.json.specs.Print.{print, escape_byte, escape, quoted}
+use Rattle.json.specs.Print.{escape_byte, quoted}
 use Rattle.json.proofs.Printed.Decimals.{IsNumber-decimal}
 use Rattle.json.proofs.Printed.Tokens.{tokens-print}
 use Rattle.json.proofs.Printed.Trees.{value-json_tokens, ArePrintable-json_tokens}
 use Rattle.json.proofs.Printed.Utf8.{are_ascii, IsUtf8-are_ascii}
-use Rattle.serde_json.specs.Data.{Data, boolean, number, array, item, object, no_members, member, null, put, Members}
+use Rattle.serde_json.specs.Data.{Data, boolean, number, array, item, object, no_members, member, put}
 use Rattle.serde_json.specs.Read.{read, of_json, of_items, of_members, max_depth}
 use Rattle.serde_json.specs.View.{items_of}
 use Rattle.serde_json.specs.Written.{outline, items_outline, compact_text, items_text}
@@ -30,7 +30,7 @@ use Rattle.lf_tree.specs.Trees.{is_fault, is_count, is_reach, is_node_step, is_n
 use Rattle.lf_tree.specs.Values.{fault_value, whole_value, listed, faults_value, keyed, value_step, node_value, answer_value, tree_value}
 use Rattle.lf_tree.proofs.Bytes.{ascii-append, ascii-plain, escape-plain, plain-decimal, plain-spelling}
 use Rattle.lf_tree.proofs.Named.{IsFault-true}
-use Rattle.lf_tree.proofs.NodeCases.{Steps, by_induction, fold-Misses, fold-Reaches, fold-Branch, of_map, all_true, both_of, each_of, depth-kids}
+use Rattle.lf_tree.proofs.NodeCases.{by_induction, fold-Misses, fold-Reaches, fold-Branch, of_map, all_true, both_of, each_of, depth-kids}
 
 -- the text is that of the value, which nests no deeper than so, and reads as the value
 pub record IsWritten (d : Data) (deep : ℕ) (text : List ℕ) : Type 0 where

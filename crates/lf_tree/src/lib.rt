@@ -2,6 +2,7 @@
 #![tactic(auto)]
 
 mod counting;
+mod facts;
 mod fault;
 mod lists;
 mod nodes;
@@ -14,6 +15,7 @@ mod tree;
 mod write;
 
 pub use counting::count;
+pub use facts::{texts_are_json, types_are_kept};
 pub use fault::TreeFault;
 pub use preorder::{Row, rows};
 pub use read::read_tree;

@@ -108,21 +108,30 @@ fn reads_each_part_of_a_tree(rt: HostRuntime) -> Result<(), Fail> {
 
 #[test]
 fn reads_kids_in_their_order(rt: HostRuntime) -> Result<(), Fail> {
-    let text =
-        "{\"answer\":null,\"format\":2,\"root\":{\"edges\":[\"pause 1 @2\",\"crash 3 @10\"],\"kids\":[{\"misses\":false},{\"misses\":true}],\"reach\":[0,48]}}";
+    let text = "{\"answer\":null,\"format\":2,\"root\":{\"edges\":[\"pause 1 @2\",\"crash 3 @10\"],\"kids\":[{\"misses\":false},{\"misses\":true}],\"reach\":[0,48]}}";
     let tree = read(rt.alloc(), text)?;
     assert!(rt; tree.answer.is_none());
+    let paused = Fault::pause(1, 2).ok_or("no pause")?;
+    let crashed = Fault::crash(3, 10).ok_or("no crash")?;
     match &tree.root {
         Node::Branch { edges, kids, .. } => {
-            assert!(rt; edges.as_slice()[0] == Fault::pause(1, 2).ok_or("no pause")?);
-            assert!(rt; edges.as_slice()[1] == Fault::crash(3, 10).ok_or("no crash")?);
-            assert!(rt; matches!(&kids.as_slice()[0], Node::Reaches));
-            assert!(rt; matches!(&kids.as_slice()[1], Node::Misses));
+            assert!(rt; edges.as_slice() == [paused, crashed].as_slice());
+            let in_order = match kids.as_slice() {
+                [Node::Reaches, Node::Misses] => true,
+                _ => false,
+            };
+            assert!(rt; in_order);
         }
         Node::Misses | Node::Reaches => assert!(rt; false, "no branch"),
     }
+    Ok(())
+}
+
+#[test]
+fn a_text_that_was_read_is_written_again(rt: HostRuntime) -> Result<(), Fail> {
+    let tree = read(rt.alloc(), ONE_BRANCH)?;
     match to_text(rt.alloc(), &tree) {
-        Ok(again) => assert!(rt; again.as_slice() == text.as_bytes()),
+        Ok(again) => assert!(rt; again.as_slice() == ONE_BRANCH.as_bytes()),
         Err(fault) => assert!(rt; false, "{fault}"),
     }
     Ok(())

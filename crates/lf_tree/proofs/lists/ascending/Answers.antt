@@ -1,4 +1,4 @@
-use Rattle.std.proofs.Common.{◌≡◌, rules, if◌then◌else◌, Some, None, sym, ap}
+use Rattle.std.proofs.Common.{rules, if◌then◌else◌, Some, None, sym, ap}
 use Rattle.lf_tree.proofs.Ascending.{stops, goes_on}
 use Rattle.lf_tree.proofs.lists.ascending.Goals as goal
 

@@ -1,4 +1,3 @@
-use Rattle.std.proofs.Common.{sym, ◌∙◌}
 use Rattle.lf_tree.specs.Rests.{left_of}
 use Rattle.lf_tree.proofs.RestLemmas.{skip-Omit, skip-Crash, skip-Pause}
 use Rattle.lf_tree.proofs.own.after_fault.Goals as goal
