@@ -1,5 +1,5 @@
 -- What is defined on nodes, by their kinds.
-use Rattle.std.proofs.Common.{◌≡◌, ◌≤◌, ℕ, ◌+◌, Bool, true, false, ◌||◌, List, [], ◌∷◌, refl, ◌++◌, length, take, sym, ap, ◌∙◌, map, min, sum, arith}
+use Rattle.std.proofs.Common.{◌≡◌, ◌≤◌, ℕ, ◌+◌, Bool, false, ◌||◌, List, [], ◌∷◌, refl, ◌++◌, length, take, sym, ap, ◌∙◌, map, min, sum, arith}
 use Rattle.std.specs.Prelude.{codes}
 use Rattle.std.specs.Fmt.{decimal}
 use Rattle.std.specs.List.{list_any}
@@ -56,10 +56,3 @@ pause-rest n reach edges es kids ks here rest is edges_read kids_read here_is no
     let own : list_any is_pause edges ≡ false = ap (λ fs. list_any is_pause fs) (sym edges_read) ∙ sym here_is ∙ none in
     rest_is ∙ ap (λ (ns : List Node). list_any has_pause ns) kids_read ∙ sym (ap (λ b. b || list_any has_pause kids) own)
     ∙ sym (has_pause-Branch reach edges kids) ∙ sym (ap has_pause is)
-
--- where one is
-pub pause-here : (n : Node) (reach : List ℕ) (edges es : List Parts) (kids : List Node) (here : Bool) → n ≡ kind.Branch reach edges kids
-    → es ≡ edges → here ≡ list_any is_pause es → here ≡ true → true ≡ has_pause n
-pause-here n reach edges es kids here is edges_read here_is some =
-    let own : list_any is_pause edges ≡ true = ap (λ fs. list_any is_pause fs) (sym edges_read) ∙ sym here_is ∙ some in
-    sym (ap (λ b. b || list_any has_pause kids) own) ∙ sym (has_pause-Branch reach edges kids) ∙ sym (ap has_pause is)

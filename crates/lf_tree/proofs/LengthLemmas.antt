@@ -10,7 +10,7 @@ use Rattle.lf_faults.specs.Texts.{node_at_step, spelling}
 use Rattle.lf_tree.specs.declared.tree.Tree.{Tree}
 use Rattle.lf_tree.specs.declared.tree.Node.{Node}
 use Rattle.lf_tree.specs.declared.tree.Node.TheVariants as kind
-use Rattle.lf_tree.proofs.KindLemmas.{node_text-Branch, node_text-Misses, node_text-Reaches}
+use Rattle.lf_tree.proofs.KindLemmas.{node_text-Branch}
 use Rattle.std.specs.List.{list_any, sum_by}
 use Rattle.std.proofs.lemmas.List.{take_all}
 use Rattle.std.proofs.lemmas.List.Sums.{sum_by-cons}
@@ -134,12 +134,6 @@ length-Branch n reach edges es kids ks is edges_read kids_read =
       length-three (codes "{\"edges\":") (codes ",\"kids\":") (codes ",\"reach\":") (faults_text edges) (in_brackets (map node_text kids))
           (in_brackets (map decimal reach)) (codes "}"),
     )
-
-pub length-Misses : (n : Node) → n ≡ kind.Misses → length (node_text n) ≡ 15
-length-Misses n is = ap (λ m. length (node_text m)) is ∙ ap length node_text-Misses
-
-pub length-Reaches : (n : Node) → n ≡ kind.Reaches → length (node_text n) ≡ 16
-length-Reaches n is = ap (λ m. length (node_text m)) is ∙ ap length node_text-Reaches
 
 format_digit : (b : Bool) → length (decimal (if b then 2 else 1)) ≡ 1
 format_digit true = one_digit 2 (omega arith)
