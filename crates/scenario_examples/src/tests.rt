@@ -1,9 +1,9 @@
 //! Worked examples of texts, and what is read of them.
 
-use crate::{Key, LONGEST, ScenarioError, read, scenarios_are_one};
 use lf_list::Listed;
 use lf_outcome::{Formula, Outcome, atoms, depth, named, same as same_formula};
 use lf_protocols::{Fact, Kind};
+use lf_scenario::{Key, LONGEST, ScenarioError, read, scenarios_are_one};
 use std::alloc::{AllocError, Global};
 use std::test::Fail;
 
