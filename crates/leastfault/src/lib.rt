@@ -16,12 +16,3 @@ pub use laws::{answers_are_one, replies_are_one};
 pub use lf_streams::{Failed, FromRead, Sink, Source, ToWrite};
 pub use lf_words::{Asked, Unasked, asked};
 pub use replies::{refusal, report};
-
-#[cfg(test)]
-mod formula_tests;
-#[cfg(test)]
-mod protocol_tests;
-#[cfg(test)]
-mod run_tests;
-#[cfg(test)]
-mod tests;

@@ -23,6 +23,3 @@ pub use limits::{DEEPEST, LONGEST, MOST_ATOMS, MOST_SETS};
 pub use reader::read;
 pub use scenario::Scenario;
 pub use uniqueness::{refusals_are_one, scenarios_are_one};
-
-#[cfg(test)]
-mod tests;

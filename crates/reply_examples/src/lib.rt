@@ -1,0 +1,17 @@
+//! Worked examples of scenarios and runs, and the replies to them.
+//!
+//! A table of examples is one text, a line for each, in which `|` parts the columns and `;` stands for the end of a line.
+#![tactic(auto)]
+
+#[cfg(test)]
+mod devices;
+#[cfg(test)]
+mod formulas;
+#[cfg(test)]
+mod protocols;
+#[cfg(test)]
+mod runs;
+#[cfg(test)]
+mod searches;
+#[cfg(test)]
+mod texts;

@@ -1,0 +1,110 @@
+//! The texts of examples, and how the replies to them are compared.
+
+use leastfault::{run_bytes, search_bytes};
+use lf_streams::{FromRead, ToWrite};
+use std::alloc::{AllocError, Global};
+use std::process::Abort;
+use std::test::Fail;
+
+/// Three nodes, of which node 0 sends the value once.
+pub(crate) const ONCE: &str =
+    "nodes = 3\nhorizon = 4\nlast_omission = 3\ncrashes = 0\nbudget = 2\nprotocol = \"retry\"\ntries = 1\noutcome = \"delivered\"\n";
+
+/// The keys that each scenario of a table has first.
+const BOUNDS: &str = "nodes horizon last_omission crashes budget";
+
+/// The columns before and behind the first `|`.
+pub(crate) fn columns(line: &str) -> (&str, &str) {
+    line.split_once('|').unwrap_or((line, ""))
+}
+
+/// Adds lines, of which all but the last end with `;`.
+pub(crate) fn push_lines(text: &mut String, lines: &str) -> Result<(), AllocError> {
+    for c in lines.chars() {
+        text.push(if c == ';' { '\n' } else { c })?;
+    }
+    Ok(())
+}
+
+/// The scenario's text, of the numbers of its bounds and further lines.
+pub(crate) fn scenario(alloc: Global, numbers: &str, lines: &str) -> Result<String, AllocError> {
+    let mut text = String::new(alloc);
+    for (key, number) in BOUNDS.split(' ').zip(numbers.split(' ')) {
+        text.push_str(format!(in alloc; "{key} = {number}\n")?.as_str())?;
+    }
+    push_lines(&mut text, lines)?;
+    text.push('\n')?;
+    Ok(text)
+}
+
+/// What was written is this reply, and the status is this one. Both stand in one row, the status first.
+fn is_reply(
+    rt: &impl Abort,
+    alloc: Global,
+    out: &[u8],
+    status: u8,
+    row: &str,
+    name: &str,
+) -> Result<(), Fail> {
+    let (expected, lines) = columns(row);
+    let mut reply = String::new(alloc);
+    push_lines(&mut reply, lines)?;
+    reply.push('\n')?;
+    assert_eq!(rt; out, reply.as_bytes(), "to {name}");
+    let status = format!(in alloc; "{status}")?;
+    assert_eq!(rt; status.as_str(), expected, "to {name}");
+    Ok(())
+}
+
+/// The search of the text has this status and this reply.
+pub(crate) fn search_replies(
+    rt: &impl Abort,
+    alloc: Global,
+    text: &[u8],
+    row: &str,
+    name: &str,
+) -> Result<(), Fail> {
+    let mut out = Vec::new(alloc);
+    let mut source = FromRead::new(text);
+    let searched = search_bytes(alloc, &mut source, &mut ToWrite::new(&mut out))?;
+    is_reply(rt, alloc, out.as_slice(), searched.status, row, name)
+}
+
+/// The run of the text under the faults has this status and this reply.
+pub(crate) fn run_replies(
+    rt: &impl Abort,
+    alloc: Global,
+    text: &[u8],
+    faults: &str,
+    row: &str,
+    name: &str,
+) -> Result<(), Fail> {
+    let mut out = Vec::new(alloc);
+    let mut source = FromRead::new(text);
+    let status = run_bytes(alloc, &mut source, faults, &mut ToWrite::new(&mut out))?;
+    is_reply(rt, alloc, out.as_slice(), status, row, name)
+}
+
+/// For each line of the table, bounds, further lines, a status and a reply: the search of that scenario has this reply.
+pub(crate) fn searches(rt: &impl Abort, alloc: Global, table: &str) -> Result<(), Fail> {
+    for row in table.lines() {
+        let (numbers, rest) = columns(row);
+        let (lines, expected) = columns(rest);
+        let text = scenario(alloc, numbers, lines)?;
+        search_replies(rt, alloc, text.as_bytes(), expected, row)?;
+    }
+    Ok(())
+}
+
+/// For each line of the table, bounds, further lines, faults, a status and a reply: the run of that scenario under these
+/// faults has this reply.
+pub(crate) fn runs(rt: &impl Abort, alloc: Global, table: &str) -> Result<(), Fail> {
+    for row in table.lines() {
+        let (numbers, rest) = columns(row);
+        let (lines, rest) = columns(rest);
+        let (faults, expected) = columns(rest);
+        let text = scenario(alloc, numbers, lines)?;
+        run_replies(rt, alloc, text.as_bytes(), faults, expected, row)?;
+    }
+    Ok(())
+}
