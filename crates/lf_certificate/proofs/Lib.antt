@@ -5,6 +5,7 @@ mod Covering
 mod FaultsLemmas
 mod FirstsLemmas
 pub mod Laws
+mod MissesLemmas
 mod PlacesLemmas
 mod ReasonLemmas
 mod TurnsLemmas
