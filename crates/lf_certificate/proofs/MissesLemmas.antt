@@ -1,5 +1,5 @@
 -- The sets at the last depth that miss, one level at a time.
-use Rattle.std.proofs.Common.{◌≡◌, ℕ, ◌+◌, true, false, List, [], ◌∷◌, length, refl, sym, ap, ◌∙◌, subst, arith, inl, inr}
+use Rattle.std.proofs.Common.{◌≡◌, ℕ, ◌+◌, false, List, [], ◌∷◌, length, refl, ap, ◌∙◌, arith, inl, inr}
 use Rattle.std.specs.Prelude.{◌⊎◌, Option, None, Some}
 use Rattle.std.proofs.lemmas.Bool.{both_ways}
 use Rattle.lf_faults.specs.declared.fault.Parts.{Parts}
