@@ -1,10 +1,10 @@
 -- Whether a tree's answer is the first of the sets at the last depth that miss is decided.
-use Rattle.std.proofs.Common.{◌≡◌, ℕ, zero, suc, ◌+◌, ◌<◌, ◌≤◌, Bool, true, false, List, [], ◌∷◌, length}
-use Rattle.std.proofs.Common.{refl, sym, ap, ◌∙◌, subst, arith, inl, inr}
+use Rattle.std.proofs.Common.{◌≡◌, ℕ, zero, suc, true, false, List, [], ◌∷◌, length}
+use Rattle.std.proofs.Common.{refl, sym, ◌∙◌, subst, arith, inl, inr}
 use Rattle.std.specs.Prelude.{◌⊎◌, Option, None, Some}
-use Rattle.std.proofs.lemmas.Option.{none-some, slice_get_within}
-use Rattle.std.proofs.lemmas.Bool.{cases_Bool, false≢true, both_ways, false_from_ne_true}
-use Rattle.lf_list.proofs.Laws.{Decided, decide_both, decide_is, decide_iff}
+use Rattle.std.proofs.lemmas.Option.{none-some}
+use Rattle.std.proofs.lemmas.Bool.{both_ways, false_from_ne_true}
+use Rattle.lf_list.proofs.Laws.{Decided, decide_both, decide_is}
 use Rattle.lf_faults.specs.declared.fault.Parts.{Parts}
 use Rattle.lf_faults.specs.declared.spec.Bounds.{Bounds}
 use Rattle.lf_faults.specs.Faults.{set_is_before}
@@ -13,13 +13,13 @@ use Rattle.lf_sim.specs.Runs.{World}
 use Rattle.lf_outcome.specs.declared.formula.Formula.{Formula}
 use Rattle.lf_outcome.specs.Truth.{reaches}
 use Rattle.lf_tree.specs.declared.tree.Tree.{Tree}
-use Rattle.lf_tree.specs.declared.tree.Node.{Node, out-Node}
-use Rattle.lf_certificate.specs.Places.{Place, kid_at, place_from, root_of, place_at}
+use Rattle.lf_tree.specs.declared.tree.Node.{out-Node}
+use Rattle.lf_certificate.specs.Places.{Place, kid_at, place_from, root_of}
 use Rattle.lf_certificate.specs.Accepted.{IsAllowedAnswer, IsFirstIn, MissesIn, last_depth}
 use Rattle.lf_certificate.proofs.PlacesLemmas.{from-kid}
 use Rattle.lf_certificate.proofs.AllowedLemmas.{some-one, edges_of, through}
 use Rattle.lf_certificate.proofs.FirstsLemmas.{kid_few}
-use Rattle.lf_certificate.proofs.ReasonLemmas.{FirstBelow, first_below, lists_or_not}
+use Rattle.lf_certificate.proofs.ReasonLemmas.{first_below, lists_or_not}
 
 -- Of the places that stand so far beneath a place, the one property holds of some, or the other of each
 module _ (P Q : Place → Type 0) (d : (p : Place) → P p ⊎ Q p) where
@@ -105,14 +105,18 @@ module _ {State Note Fact : Type 0} (w : World State Note Fact) (b : Bounds) (fo
         elim (some_or_each (MissesWith R) (λ p. MissesWith R p → ⊥)
         (λ p. decide_both (reaches w p.faults formula ≡ false) (R p.faults) (decide_is (reaches w p.faults formula) false) (decided p.faults))
         (last_depth b tree.answer) (root_of tree)) [
-          | inl found ↦ inl (found.place.faults, record {
+          | inl found ↦ inl (
+            found.place.faults,
+            record {
               path = found.path;
               place = found.place;
               leads = found.leads;
               last = found.far;
               same = refl;
               misses = found.holds.0;
-            }, found.holds.1)
+            },
+            found.holds.1,
+          )
           | inr none ↦ inr (λ faults m has. none m.path m.place m.last m.leads
               (subst (λ fs. reaches w fs formula ≡ false) (sym m.same) m.misses, subst R (sym m.same) has))
         ]

@@ -1,7 +1,7 @@
 -- First faults of a tree: an accepted tree has none, and there is at most one.
-use Rattle.std.proofs.Common.{◌≡◌, ℕ, zero, suc, ◌+◌, ◌<◌, ◌≤◌, Bool, true, false, List, [], ◌∷◌, length}
-use Rattle.std.proofs.Common.{refl, sym, ap, ◌∙◌, subst, arith, inl, inr}
-use Rattle.std.specs.Prelude.{◌⊎◌, Option, Some}
+use Rattle.std.proofs.Common.{◌≡◌, ℕ, true, List, [], length}
+use Rattle.std.proofs.Common.{refl, sym, ap, ◌∙◌, subst, inl, inr}
+use Rattle.std.specs.Prelude.{◌⊎◌}
 use Rattle.std.specs.declared.cmp.Ordering.{Ordering}
 use Rattle.std.specs.declared.cmp.Ordering.TheVariants.{Less, Equal, Greater}
 use Rattle.std.specs.Ordering.{nat_cmp, ordering_reverse, is_lt}
@@ -14,9 +14,9 @@ use Rattle.lf_outcome.specs.declared.formula.Formula.{Formula}
 use Rattle.lf_tree.specs.declared.tree.Tree.{Tree}
 use Rattle.lf_certificate.specs.declared.reason.Reason.{Reason}
 use Rattle.lf_certificate.specs.declared.reason.Reason.TheVariants as reason
-use Rattle.lf_certificate.specs.Places.{Place, place_at}
+use Rattle.lf_certificate.specs.Places.{place_at}
 use Rattle.lf_certificate.specs.Accepted.{IsAccepted, IsAllowedAnswer, IsFirstIn, last_depth}
-use Rattle.lf_certificate.specs.Faults.{path_is_before, Fails, FailsFirst, IsFirstFailing, NoneFails, IsFirstFault}
+use Rattle.lf_certificate.specs.Faults.{path_is_before, FailsFirst, IsFirstFailing, NoneFails, IsFirstFault}
 use Rattle.lf_certificate.proofs.AllowedLemmas.{some-one}
 use Rattle.lf_certificate.proofs.ReasonLemmas.{not_allowed_nowhere, not_first_nowhere, right_fails_not, first_reason_one}
 

@@ -1,16 +1,14 @@
 -- The first failing place beneath a place, one level at a time: a place with all beneath it is right, or something fails first.
-use Rattle.std.proofs.Common.{◌≡◌, ◌≢◌, ℕ, zero, suc, ◌+◌, ◌-◌, ◌<◌, ◌≤◌, Bool, true, false, cond, List, [], ◌∷◌, length, nat_lt, ◌==◌}
+use Rattle.std.proofs.Common.{◌≡◌, ℕ, zero, suc, ◌+◌, ◌-◌, ◌<◌, true, List, [], ◌∷◌, length}
 use Rattle.std.proofs.Common.{refl, sym, ap, ◌∙◌, subst, arith, inl, inr}
 use Rattle.std.specs.Prelude.{◌⊎◌, Option, None, Some}
 use Rattle.std.specs.declared.cmp.Ordering.{Ordering}
 use Rattle.std.specs.declared.cmp.Ordering.TheVariants.{Less, Equal, Greater}
-use Rattle.std.specs.Ordering.{nat_cmp, ordering_then, ordering_reverse, is_lt}
+use Rattle.std.specs.Ordering.{nat_cmp, ordering_then, is_lt}
 use Rattle.std.specs.Cmp.Lexicographic.{slice_cmp}
 use Rattle.std.proofs.lemmas.Cmp.{ranked}
 use Rattle.std.proofs.lemmas.Option.{none-some, slice_get_within}
-use Rattle.std.proofs.lemmas.Bool.{cases_eq, cases_lt, false≢true}
-use Rattle.lf_list.proofs.Laws.{Decided}
-use Rattle.lf_faults.specs.declared.fault.Parts.{Parts}
+use Rattle.std.proofs.lemmas.Bool.{cases_lt, false≢true}
 use Rattle.lf_faults.specs.declared.spec.Bounds.{Bounds}
 use Rattle.lf_sim.specs.Runs.{World}
 use Rattle.lf_outcome.specs.declared.formula.Formula.{Formula}
@@ -22,8 +20,8 @@ use Rattle.lf_certificate.specs.Places.{Place, kid_at, place_from, root_of, plac
 use Rattle.lf_certificate.specs.Accepted.{IsRight, IsRightNode, AreRight, last_depth}
 use Rattle.lf_certificate.specs.Faults.{path_is_before, Fails, FailsFirst, FailsFirstFrom, IsFirstFailing, NoneFails}
 use Rattle.lf_certificate.proofs.PlacesLemmas.{from-kid}
-use Rattle.lf_certificate.proofs.AllowedLemmas.{some-one, is_branch, edges_of, KidOf, kid_there, Through, through}
-use Rattle.lf_certificate.proofs.ReasonLemmas.{FirstBelow, first_below, right_fails_not, right_or_fails}
+use Rattle.lf_certificate.proofs.AllowedLemmas.{some-one, is_branch, edges_of, KidOf, kid_there, through}
+use Rattle.lf_certificate.proofs.ReasonLemmas.{first_below, right_fails_not, right_or_fails}
 
 -- The order of paths, one step at a time: a path that comes before one through a kid is empty, or goes through a kid
 -- before it, or through the same kid and comes before it there
@@ -145,8 +143,11 @@ module _ {State Note Fact : Type 0} (w : World State Note Fact) (b : Bounds) (fo
         | inl found ↦
             let kid = found.here.0 in
             let fails = found.here.2 in
-            inr (fails.0, found.at ∷ fails.1,
-            fails_beneath depth p kid found.at fails.0 fails.1 right found.here.1 (λ j other below there. found.before j below other there) fails.2)
+            inr (
+              fails.0,
+              found.at ∷ fails.1,
+              fails_beneath depth p kid found.at fails.0 fails.1 right found.here.1 (λ j other below there. found.before j below other there) fails.2,
+            )
         | inr all ↦ inl (wholly_right depth p right (λ i kid is. all i (kid_few p kid i is) kid is))
       ]
 
@@ -191,8 +192,8 @@ module _ {State Note Fact : Type 0} (w : World State Note Fact) (b : Bounds) (fo
         leads = found.leads;
         fails = subst (λ d. FailsFirst w b formula (last_depth b tree.answer) d found.place why) same found.fails;
         before = λ other q before leads reason fails.
-          let there : length other ≡ 0 + length other = omega arith in
-          found.before other q before leads reason (subst (λ d. Fails w b formula (last_depth b tree.answer) d q reason) there fails);
+            let there : length other ≡ 0 + length other = omega arith in
+            found.before other q before leads reason (subst (λ d. Fails w b formula (last_depth b tree.answer) d q reason) there fails);
       }
 
   pub failing_from_root : (why : Reason) (path : List ℕ) → IsFirstFailing w b formula tree why path
@@ -204,8 +205,8 @@ module _ {State Note Fact : Type 0} (w : World State Note Fact) (b : Bounds) (fo
         leads = found.leads;
         fails = subst (λ d. FailsFirst w b formula (last_depth b tree.answer) d found.place why) same found.fails;
         before = λ other q before leads reason fails.
-          let there : 0 + length other ≡ length other = omega arith in
-          found.before other q before leads reason (subst (λ d. Fails w b formula (last_depth b tree.answer) d q reason) there fails);
+            let there : 0 + length other ≡ length other = omega arith in
+            found.before other q before leads reason (subst (λ d. Fails w b formula (last_depth b tree.answer) d q reason) there fails);
       }
 
   -- and where the root is wholly right, each place is, and none fails

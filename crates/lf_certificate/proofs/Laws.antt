@@ -16,7 +16,7 @@ use Rattle.lf_tree.specs.declared.tree.Node.TheOpen.{Node-F}
 use Rattle.lf_certificate.specs.declared.reason.Reason.{Reason}
 use Rattle.lf_certificate.specs.declared.reason.Reason.TheVariants as reason
 use Rattle.lf_certificate.specs.Places.{Place, kid_at, place_at, root_of}
-use Rattle.lf_certificate.specs.Accepted.{IsBounded, IsAccepted, IsAnswer, IsAllowedAnswer, IsFirstIn, IsRight, AreRight, Covers, last_depth, covered_below}
+use Rattle.lf_certificate.specs.Accepted.{IsBounded, IsAccepted, IsAnswer, IsAllowedAnswer, IsFirstIn, IsRight, AreRight, MissesIn, MissesFrom, Covers, last_depth, covered_below}
 use Rattle.lf_certificate.specs.Faults.{turn_of, LeafFails, Suffices, BranchFails, Fails, FailsFirst, FailsFirstFrom, IsFirstFailing, IsFirstFault}
 use Rattle.lf_certificate.specs.Grown.{IsTreeOf}
 use Rattle.lf_certificate.proofs.AnswerLemmas as answers
@@ -25,6 +25,7 @@ use Rattle.lf_certificate.proofs.ExistenceLemmas as existence
 use Rattle.lf_certificate.proofs.FaultsLemmas as faults
 use Rattle.lf_certificate.proofs.FirstsLemmas as firsts
 use Rattle.lf_certificate.proofs.GrownLemmas as grown
+use Rattle.lf_certificate.proofs.MissesLemmas as missing
 use Rattle.lf_certificate.proofs.PlacesLemmas as places
 use Rattle.lf_certificate.proofs.ReasonLemmas as reasons
 use Rattle.lf_certificate.proofs.TurnsLemmas as turns
@@ -146,11 +147,35 @@ module _ {State Note Fact : Type 0} (w : World State Note Fact) (b : Bounds) (fo
       turns.branch_first w b formula last depth p reach edges kids why opened fails
       (record { above = above; reaching = reaching; suffices = suffices; closed = closed; tried = tried; required = required })
 
+module _ {State Note Fact : Type 0} (w : World State Note Fact) (b : Bounds) (formula : Formula Fact) (last depth : ℕ) (p : Place) where
+  -- The sets that miss at the last depth: the place's own,
+  pub misses_here : depth ≡ last → reaches w p.faults formula ≡ false → MissesFrom w b formula last depth p p.faults
+  misses_here = missing.misses_here w b formula last depth p
+
+  -- those beneath a kid,
+  pub misses_beneath : (kid : Place) (i : ℕ) (faults : List Parts) → kid_at p i ≡ Some kid → MissesFrom w b formula last (depth + 1) kid faults
+      → MissesFrom w b formula last depth p faults
+  misses_beneath = missing.misses_beneath w b formula last depth p
+
+  -- and no other
+  pub cases_misses : (faults : List Parts) → MissesFrom w b formula last depth p faults
+      → ((depth ≡ last) × (p.faults ≡ faults) × (reaches w faults formula ≡ false))
+      ⊎ ((i : ℕ) × (kid : Place) × (kid_at p i ≡ Some kid) × MissesFrom w b formula last (depth + 1) kid faults)
+  cases_misses = missing.cases_misses w b formula last depth p
+
 module _ {State Note Fact : Type 0} (w : World State Note Fact) (b : Bounds) (formula : Formula Fact) (tree : Tree) where
   -- From the root this is the first failing place of the tree
   pub failing_iff : (why : Reason) (path : List ℕ)
       → FailsFirstFrom w b formula (last_depth b tree.answer) 0 (root_of tree) why path ↔ IsFirstFailing w b formula tree why path
   failing_iff why path = (firsts.failing_at_root w b formula tree why path, firsts.failing_from_root w b formula tree why path)
+
+  -- and these are the sets that miss in the tree,
+  pub misses_iff : (faults : List Parts) → MissesFrom w b formula (last_depth b tree.answer) 0 (root_of tree) faults ↔ MissesIn w b formula tree faults
+  misses_iff faults = (missing.misses_at_root w b formula tree faults, missing.misses_from_root w b formula tree faults)
+
+  -- of which one is the first, or there is none
+  pub first_in_one : (x y : Option (List Parts)) → IsFirstIn w b formula tree x → IsFirstIn w b formula tree y → x ≡ y
+  first_in_one = missing.first_in_one w b formula tree
 
   -- The first fault, or acceptance: by the answer at the start, by the root and all beneath it, by the answer at the end
   pub fault_at_start : (IsAllowedAnswer w b formula tree.answer → ⊥) → IsFirstFault w b formula tree reason.AnswerNotAllowed []

@@ -8,6 +8,7 @@ mod FaultsLemmas
 mod FirstsLemmas
 mod GrownLemmas
 pub mod Laws
+mod MissesLemmas
 mod PlacesLemmas
 mod ReasonLemmas
 mod TurnsLemmas

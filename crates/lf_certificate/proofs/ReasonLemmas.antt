@@ -1,5 +1,5 @@
 -- What is wrong at one place: it is decided for each reason, a right place has no reason, and one that isn't right has a first.
-use Rattle.std.proofs.Common.{◌≡◌, ℕ, zero, suc, ◌+◌, ◌<◌, ◌≤◌, Bool, true, false, List, [], ◌∷◌, length, get_or}
+use Rattle.std.proofs.Common.{◌≡◌, ℕ, zero, suc, ◌<◌, Bool, true, false, List, [], ◌∷◌, length, get_or}
 use Rattle.std.proofs.Common.{refl, sym, ap, ◌∙◌, subst, arith, inl, inr}
 use Rattle.std.specs.Prelude.{◌⊎◌}
 use Rattle.std.specs.List.{Contains}
@@ -289,11 +289,14 @@ module _ {State Note Fact : Type 0} (w : World State Note Fact) (b : Bounds) (fo
   right_or_fails last depth p =
       elim (first_below (λ k. Fails w b formula last depth p (reason_at k)) (λ k. Fails w b formula last depth p (reason_at k) → ⊥)
       (λ k. fails_or_not last depth p (reason_at k)) 11) [
-        | inl found ↦ inr (reason_at found.at, record {
-          fails = found.here;
-          before = λ other early h. found.before (turn_of other)
-              (omega (arith, early, turn-at found.at found.below)) (subst (Fails w b formula last depth p) (sym (at-turn other)) h);
-        })
+        | inl found ↦ inr (
+          reason_at found.at,
+          record {
+            fails = found.here;
+            before = λ other early h. found.before (turn_of other)
+                (omega (arith, early, turn-at found.at found.below)) (subst (Fails w b formula last depth p) (sym (at-turn other)) h);
+          },
+        )
         | inr none ↦ inl (right_where_none last depth p (λ why h. none (turn_of why) (turn-few why) (subst (Fails w b formula last depth p)
             (sym (at-turn why)) h)))
       ]

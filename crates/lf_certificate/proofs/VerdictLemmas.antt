@@ -1,5 +1,5 @@
 -- A tree is accepted or has a first fault.
-use Rattle.std.proofs.Common.{◌≡◌, ℕ, List, [], refl, inl, inr}
+use Rattle.std.proofs.Common.{ℕ, List, [], refl, inl, inr}
 use Rattle.std.specs.Prelude.{◌⊎◌, ◌↔◌}
 use Rattle.lf_faults.specs.declared.spec.Bounds.{Bounds}
 use Rattle.lf_sim.specs.Runs.{World}
@@ -52,5 +52,5 @@ module _ {State Note Fact : Type 0} (w : World State Note Fact) (b : Bounds) (fo
       | inl accepted ↦ accepted
       | inr found ↦ absurd (none found.0 found.1 found.2)
     ],
-    λ accepted. accepted_has_none w b formula tree accepted
+    λ accepted. accepted_has_none w b formula tree accepted,
   )

@@ -78,6 +78,15 @@ module _ {State Note Fact : Type 0} (w : World State Note Fact) (b : Bounds) (fo
     pub same : place.faults ≡ faults
     pub misses : reaches w faults formula ≡ false
 
+  -- the same at a place so far down or beneath it
+  pub record MissesFrom (last depth : ℕ) (p : Place) (faults : List Parts) : Type 0 where
+    pub path : List ℕ
+    pub place : Place
+    pub leads : place_from p path ≡ Some place
+    pub here : depth + length path ≡ last
+    pub same : place.faults ≡ faults
+    pub misses : reaches w faults formula ≡ false
+
   -- the first, in the order of sets, of the sets at the last depth that miss, or none where none does
   abbrev pub IsFirstIn : Tree → Option (List Parts) → Type 0
   IsFirstIn tree answer =
