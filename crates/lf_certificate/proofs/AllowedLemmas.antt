@@ -1,7 +1,7 @@
 -- The sets of which a right tree speaks are allowed, and as large as their places are deep.
-use Rattle.std.proofs.Common.{◌≡◌, ℕ, zero, suc, ◌+◌, ◌<◌, ◌≤◌, Bool, true, false, not, List, [], ◌∷◌, ◌++◌, length, take}
-use Rattle.std.proofs.Common.{refl, sym, ap, ◌∙◌, subst, arith, inl, inr}
-use Rattle.std.specs.Prelude.{◌⊎◌, slice_get, unwrap_or, Option, None, Some}
+use Rattle.std.proofs.Common.{◌≡◌, ℕ, ◌+◌, Bool, true, false, List, [], ◌∷◌, ◌++◌, length, take}
+use Rattle.std.proofs.Common.{refl, sym, ap, ◌∙◌, subst, arith}
+use Rattle.std.specs.Prelude.{slice_get, unwrap_or, Option, None, Some}
 use Rattle.std.specs.Option.{is_some, option_map, option_and_then}
 use Rattle.std.proofs.lemmas.Bool.{false≢true}
 use Rattle.lf_faults.specs.declared.fault.Parts.{Parts}
@@ -113,5 +113,5 @@ module _ {State Note Fact : Type 0} (w : World State Note Fact) (b : Bounds) (fo
       let kid_allowed = edge_allowed d p (out-Node p.node) i t.kid (right [] p d (omega arith) refl) k in
       let kid_size : length t.kid.faults ≡ d + 1 = omega (arith, ap length k.faults_is, length-inserted k.edge p.faults, size) in
       let found = place_allowed path (d + 1) t.kid q
-          (λ rest r at far go. right (i ∷ rest) r at (omega (arith, far)) (from-kid p t.kid i rest t.is ∙ go)) kid_size kid_allowed t.leads in
+      (λ rest r at far go. right (i ∷ rest) r at (omega (arith, far)) (from-kid p t.kid i rest t.is ∙ go)) kid_size kid_allowed t.leads in
       (found.0, omega (arith, found.1))

@@ -1,22 +1,21 @@
 -- The answer of an accepted tree.
-use Rattle.std.proofs.Common.{◌≡◌, ℕ, ◌+◌, ◌<◌, ◌≤◌, Bool, true, false, not, List, [], length}
+use Rattle.std.proofs.Common.{◌≡◌, ℕ, ◌≤◌, Bool, true, false, not, List, length}
 use Rattle.std.proofs.Common.{refl, sym, ap, ◌∙◌, subst, arith, inl, inr}
 use Rattle.std.specs.Prelude.{◌⊎◌, Option, None, Some}
-use Rattle.std.specs.List.{Contains}
 use Rattle.std.proofs.lemmas.Bool.{cases_Bool, false≢true}
 use Rattle.lf_list.proofs.Laws.{none-in}
 use Rattle.lf_faults.specs.declared.fault.Parts.{Parts}
 use Rattle.lf_faults.specs.declared.spec.Bounds.{Bounds}
 use Rattle.lf_faults.specs.Faults.{set_is_before}
-use Rattle.lf_faults.specs.Allowed.{IsAllowed, IsSubset, IsFirst}
+use Rattle.lf_faults.specs.Allowed.{IsAllowed, IsFirst}
 use Rattle.lf_faults.proofs.Laws.{empty_allowed, before-fewer}
 use Rattle.lf_sim.specs.Runs.{World}
 use Rattle.lf_outcome.specs.declared.formula.Formula.{Formula}
 use Rattle.lf_outcome.specs.Truth.{reaches}
 use Rattle.lf_tree.specs.declared.tree.Tree.{Tree}
 use Rattle.lf_certificate.specs.Places.{Place, root_of, place_at}
-use Rattle.lf_certificate.specs.Accepted.{AreRight, IsBounded, IsAccepted, IsAnswer, IsAllowedAnswer, IsFirstIn, MissesIn, IsRight, Covers, last_depth}
-use Rattle.lf_certificate.proofs.Covering.{StandsLast, IsBeneath, claim}
+use Rattle.lf_certificate.specs.Accepted.{AreRight, IsBounded, IsAnswer, IsAllowedAnswer, IsFirstIn, MissesIn, IsRight, last_depth}
+use Rattle.lf_certificate.proofs.Covering.{claim}
 
 -- of a truth value that isn't true
 pub reaches_or : (r : Bool) → (r ≡ true) ⊎ (r ≡ false)

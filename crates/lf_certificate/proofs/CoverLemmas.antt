@@ -1,5 +1,5 @@
 -- What an accepted tree shows at each of its places.
-use Rattle.std.proofs.Common.{◌≡◌, ℕ, ◌+◌, ◌-◌, ◌<◌, ◌≤◌, Bool, true, false, List, [], ◌∷◌, ◌++◌, length}
+use Rattle.std.proofs.Common.{◌≡◌, ℕ, ◌-◌, ◌<◌, ◌≤◌, true, false, List, [], ◌++◌, length}
 use Rattle.std.proofs.Common.{refl, sym, ap, ◌∙◌, subst, arith, inl, inr}
 use Rattle.std.specs.Prelude.{◌⊎◌, Option, None, Some}
 use Rattle.std.specs.List.{Contains}
@@ -14,8 +14,8 @@ use Rattle.lf_outcome.specs.Truth.{reaches}
 use Rattle.lf_tree.specs.declared.tree.Tree.{Tree}
 use Rattle.lf_tree.specs.declared.tree.Node.{Node, out-Node}
 use Rattle.lf_tree.specs.declared.tree.Node.TheOpen.{Node-F}
-use Rattle.lf_certificate.specs.Places.{Place, place_from, place_at, root_of}
-use Rattle.lf_certificate.specs.Accepted.{IsBounded, IsFirstIn, MissesIn, IsRight, AreRight, IsRightNode, Covers, last_depth, covered_below}
+use Rattle.lf_certificate.specs.Places.{Place, place_at, root_of}
+use Rattle.lf_certificate.specs.Accepted.{AreRight, IsBounded, IsFirstIn, MissesIn, IsRight, IsRightNode, Covers, last_depth, covered_below}
 use Rattle.lf_certificate.proofs.AllowedLemmas.{place_allowed}
 use Rattle.lf_certificate.proofs.AnswerLemmas.{reaches_or}
 use Rattle.lf_certificate.proofs.Covering.{StandsLast, claim}

@@ -1,25 +1,25 @@
 -- An accepted tree covers the allowed sets: each of them reaches, or stands at the last depth.
 use Rattle.std.proofs.Common.{◌≡◌, ℕ, zero, suc, ◌+◌, ◌<◌, ◌≤◌, Bool, true, false, List, [], ◌∷◌, length, take}
 use Rattle.std.proofs.Common.{refl, sym, ap, ◌∙◌, subst, arith, inl, inr}
-use Rattle.std.specs.Prelude.{◌⊎◌, slice_get, Option, None, Some}
+use Rattle.std.specs.Prelude.{◌⊎◌, slice_get, Some}
 use Rattle.std.specs.List.{Contains}
 use Rattle.std.proofs.lemmas.Option.{slice_get_within, get_or_from_slice_get}
 use Rattle.std.proofs.lemmas.List.Elements.{Contains-append_cases}
 use Rattle.lf_list.proofs.Laws.{none-in, cases_in}
 use Rattle.lf_faults.specs.declared.fault.Parts.{Parts}
 use Rattle.lf_faults.specs.declared.spec.Bounds.{Bounds}
-use Rattle.lf_faults.specs.Faults.{IsAscending, inserted}
+use Rattle.lf_faults.specs.Faults.{inserted}
 use Rattle.lf_faults.specs.Allowed.{IsAllowed, IsSubset, CanAdd}
-use Rattle.lf_faults.proofs.Laws.{in_or_not, large_subset, in-inserted, cases_inserted, length-inserted, inserted-ascending, subset_allowed}
+use Rattle.lf_faults.proofs.Laws.{in_or_not, large_subset, cases_inserted, length-inserted, inserted-ascending, subset_allowed}
 use Rattle.lf_sim.specs.Runs.{World}
 use Rattle.lf_outcome.specs.declared.formula.Formula.{Formula}
 use Rattle.lf_outcome.specs.Truth.{reaches}
-use Rattle.lf_cone.specs.Cones.{Supports, IsOutside, IsRequired, AreRequired}
+use Rattle.lf_cone.specs.Cones.{IsOutside, IsRequired}
 use Rattle.lf_cone.proofs.Laws.{still_reaches}
 use Rattle.lf_tree.specs.declared.tree.Node.{Node, out-Node}
 use Rattle.lf_tree.specs.declared.tree.Node.TheOpen.{Node-F}
 use Rattle.lf_certificate.specs.Places.{Place, kid_at, place_from}
-use Rattle.lf_certificate.specs.Accepted.{IsRight, AreRight, IsRightNode, IsRightLeaf, IsRightBranch}
+use Rattle.lf_certificate.specs.Accepted.{AreRight, IsRightNode, IsRightLeaf, IsRightBranch}
 use Rattle.lf_certificate.proofs.PlacesLemmas.{kid_of, kid-some, from-kid}
 
 -- the first of a list that the other has, or none of them

@@ -3,10 +3,9 @@ use Rattle.std.proofs.Common.{◌≡◌, ℕ, zero, suc, ◌+◌, ◌<◌, ◌�
 use Rattle.std.proofs.Common.{refl, sym, ap, ◌∙◌, subst, arith, inl, inr}
 use Rattle.std.specs.Prelude.{◌⊎◌, slice_get, Option, None, Some}
 use Rattle.std.specs.Option.{is_some}
-use Rattle.std.proofs.lemmas.Bool.{cases_Bool, cases_eq, false≢true}
+use Rattle.std.proofs.lemmas.Bool.{cases_Bool, false≢true}
 use Rattle.std.proofs.lemmas.List.{length-append}
 use Rattle.std.proofs.lemmas.Option.{slice_get_within}
-use Rattle.lf_list.proofs.Laws.{none-in}
 use Rattle.lf_faults.specs.declared.fault.Parts.{Parts}
 use Rattle.lf_faults.specs.declared.spec.Bounds.{Bounds}
 use Rattle.lf_faults.specs.Faults.{inserted, set_is_before}
@@ -14,18 +13,17 @@ use Rattle.lf_faults.specs.Allowed.{IsInLimits, IsAllowed, IsNext, IsLast, IsWal
 use Rattle.lf_faults.proofs.Laws.{cases_sets, before-fewer, fewer-before, set_not_itself, empty_allowed, walk, length-inserted}
 use Rattle.lf_sim.specs.Runs.{World}
 use Rattle.lf_outcome.specs.declared.formula.Formula.{Formula}
-use Rattle.lf_outcome.specs.declared.point.Point.{Point}
 use Rattle.lf_outcome.specs.Evidence.{evidence_of}
 use Rattle.lf_outcome.specs.Truth.{reaches}
 use Rattle.lf_outcome.proofs.Laws.{evidence-truth, evidence-points}
-use Rattle.lf_cone.specs.Cones.{IsSharp, AreRequired}
+use Rattle.lf_cone.specs.Cones.{AreRequired}
 use Rattle.lf_cone.proofs.Laws.{sharp_exists, required_exist}
 use Rattle.lf_tree.specs.declared.tree.Tree.{Tree}
 use Rattle.lf_tree.specs.declared.tree.Node.{Node, out-Node, roll-Node, out-roll-Node}
 use Rattle.lf_tree.specs.declared.tree.Node.TheOpen.{Node-F}
-use Rattle.lf_certificate.specs.Places.{Place, kid_at, place_from, place_at}
-use Rattle.lf_certificate.specs.Accepted.{IsBounded, IsAnswer, last_depth}
-use Rattle.lf_certificate.specs.Grown.{IsReachFor, IsGrownNode, IsGrown, IsTreeOf}
+use Rattle.lf_certificate.specs.Places.{Place, place_from}
+use Rattle.lf_certificate.specs.Accepted.{IsAnswer, last_depth}
+use Rattle.lf_certificate.specs.Grown.{IsGrownNode, IsGrown, IsTreeOf}
 use Rattle.lf_certificate.proofs.AllowedLemmas.{some-one, kid_there, through, edges_of}
 use Rattle.lf_certificate.proofs.AnswerLemmas.{reaches_or}
 use Rattle.lf_certificate.proofs.Covering.{item, item-in}
@@ -45,20 +43,29 @@ module _ (b : Bounds) (misses : List Parts → Bool) where
   both_truths r t f = false≢true (sym f ∙ t)
 
   found_here : (here : List Parts) → IsAllowed b here → NoneBefore here → misses here ≡ true → Found
-  found_here here allowed none is =
-      (Some here, (allowed, is, λ other other_allowed missing. elim (cases_Bool (set_is_before other here)) [
+  found_here here allowed none is = (
+    Some here,
+    (
+      allowed,
+      is,
+      λ other other_allowed missing. elim (cases_Bool (set_is_before other here)) [
         | inl before ↦ absurd (both_truths (misses other) missing (none other other_allowed before))
         | inr after ↦ after
-      ]))
+      ],
+    ),
+  )
 
   not_here : (here other : List Parts) → here ≡ other → misses here ≡ false → misses other ≡ false
   not_here here other same isnt = ap misses (sym same) ∙ isnt
 
   at_last : (here : List Parts) → IsLast b here → NoneBefore here → misses here ≡ false → Found
-  at_last here last none isnt = (None, λ other allowed. elim (cases_sets here other) [
-    | inl after ↦ absurd (both_truths (set_is_before here other) after (last other allowed))
-    | inr rest ↦ elim rest [ inl same ↦ not_here here other same isnt | inr before ↦ none other allowed before ]
-  ])
+  at_last here last none isnt = (
+    None,
+    λ other allowed. elim (cases_sets here other) [
+      | inl after ↦ absurd (both_truths (set_is_before here other) after (last other allowed))
+      | inr rest ↦ elim rest [ inl same ↦ not_here here other same isnt | inr before ↦ none other allowed before ]
+    ],
+  )
 
   none_before_next : (here next : List Parts) → IsNext b here next → NoneBefore here → misses here ≡ false → NoneBefore next
   none_before_next here next is none isnt other allowed before = elim (cases_sets here other) [
@@ -211,13 +218,15 @@ module _ {State Note Fact : Type 0} (w : World State Note Fact) (b : Bounds) (fo
         let points = evidence-points w faults formula rests.0 rests.1 in
         let sharp = sharp_exists w faults rests.0 (λ p c. ((points p c).0, (points p c).2)) in
         let required = required_exist w faults b sharp.0 excluded in
-        let all = kids_to sharp.0 required.0 required.1 (length required.0) (omega arith) in
-        (roll-Node (Node-F.Branch sharp.0 required.0 all.kids), branch_grown d faults excluded sharp.0 required.0 all.kids (record {
-          above = omega (arith, sum);
-          sharp = (rests.0, rests.1, sharp.1);
-          required = required.1;
-          each = all.count;
-        }) all.grown)
+        let all = kids_to sharp.0 required.0 required.1 (length required.0) (omega arith) in (
+          roll-Node (Node-F.Branch sharp.0 required.0 all.kids),
+          branch_grown d faults excluded sharp.0 required.0 all.kids (record {
+            above = omega (arith, sum);
+            sharp = (rests.0, rests.1, sharp.1);
+            required = required.1;
+            each = all.count;
+          }) all.grown,
+        )
 
   pub grows : (n : ℕ) → Grows n
   grows zero d faults excluded sum size allowed = elim (reaches_or (reaches w faults formula)) [
@@ -247,8 +256,10 @@ module _ {State Note Fact : Type 0} (w : World State Note Fact) (b : Bounds) (fo
   tree_exists limits =
       let answer = first_exists b (λ faults. not (reaches w faults formula)) limits in
       let root =
-      grows w b formula (last_depth b answer.0) (fewer_reach answer.0 answer.1) (last_depth b answer.0) 0 [] [] (omega arith) refl (empty_allowed b) in
-      (record { answer = answer.0; root = root.0 }, record {
-        answer = answer.1;
-        places = λ path p leads. root.1 path p (length path) (omega arith) leads;
-      })
+      grows w b formula (last_depth b answer.0) (fewer_reach answer.0 answer.1) (last_depth b answer.0) 0 [] [] (omega arith) refl (empty_allowed b) in (
+        record { answer = answer.0; root = root.0 },
+        record {
+          answer = answer.1;
+          places = λ path p leads. root.1 path p (length path) (omega arith) leads;
+        },
+      )

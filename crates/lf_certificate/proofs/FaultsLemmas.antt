@@ -125,8 +125,10 @@ module _ {State Note Fact : Type 0} (w : World State Note Fact) (b : Bounds) (fo
   -- What a first fault is made of
   pub fault_at_place : (why : Reason) (path : List ℕ) → IsAllowedAnswer w b formula tree.answer → IsFirstFailing w b formula tree why path
       → IsFirstFault w b formula tree why path
-  fault_at_place reason.AnswerNotAllowed path allowed x = absurd (not_allowed_nowhere w b formula (last_depth b tree.answer) (length path) x.place x.fails.fails)
-  fault_at_place reason.AnswerNotFirst path allowed x = absurd (not_first_nowhere w b formula (last_depth b tree.answer) (length path) x.place x.fails.fails)
+  fault_at_place reason.AnswerNotAllowed path allowed x =
+      absurd (not_allowed_nowhere w b formula (last_depth b tree.answer) (length path) x.place x.fails.fails)
+  fault_at_place reason.AnswerNotFirst path allowed x =
+      absurd (not_first_nowhere w b formula (last_depth b tree.answer) (length path) x.place x.fails.fails)
   fault_at_place reason.WrongDepth path allowed x = (allowed, x)
   fault_at_place reason.SaidToReach path allowed x = (allowed, x)
   fault_at_place reason.SaidToMiss path allowed x = (allowed, x)

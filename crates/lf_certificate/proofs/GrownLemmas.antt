@@ -1,18 +1,16 @@
 -- The tree of a search is accepted, and there is at most one.
 use Rattle.std.proofs.Common.{◌≡◌, ℕ, zero, suc, ◌+◌, ◌<◌, ◌≤◌, Bool, true, false, not, List, [], ◌∷◌, ◌++◌, length, take}
 use Rattle.std.proofs.Common.{refl, sym, ap, ◌∙◌, subst, arith, inl, inr}
-use Rattle.std.specs.Prelude.{◌⊎◌, slice_get, Option, None, Some}
+use Rattle.std.specs.Prelude.{slice_get, Option, None, Some}
 use Rattle.std.proofs.lemmas.Bool.{false≢true}
 use Rattle.std.proofs.lemmas.Option.{slice_get_within}
 use Rattle.lf_faults.specs.declared.fault.Parts.{Parts}
 use Rattle.lf_faults.specs.declared.spec.Bounds.{Bounds}
-use Rattle.lf_faults.specs.Faults.{inserted, set_is_before}
-use Rattle.lf_faults.specs.Allowed.{IsAllowed, IsFirst}
+use Rattle.lf_faults.specs.Faults.{inserted}
+use Rattle.lf_faults.specs.Allowed.{IsAllowed}
 use Rattle.lf_faults.proofs.Laws.{first_is_one}
 use Rattle.lf_sim.specs.Runs.{World}
 use Rattle.lf_outcome.specs.declared.formula.Formula.{Formula}
-use Rattle.lf_outcome.specs.declared.point.Point.{Point}
-use Rattle.lf_outcome.specs.Evidence.{evidence_of}
 use Rattle.lf_outcome.specs.Truth.{reaches}
 use Rattle.lf_outcome.proofs.Laws.{evidence-suffices}
 use Rattle.lf_cone.specs.Cones.{IsSharp, AreRequired}
@@ -20,7 +18,7 @@ use Rattle.lf_cone.proofs.Laws.{sharp_one, required_one}
 use Rattle.lf_tree.specs.declared.tree.Tree.{Tree}
 use Rattle.lf_tree.specs.declared.tree.Node.{Node, out-Node, roll-Node, roll-out-Node}
 use Rattle.lf_tree.specs.declared.tree.Node.TheOpen.{Node-F}
-use Rattle.lf_certificate.specs.Places.{Place, place_from, place_at, root_of}
+use Rattle.lf_certificate.specs.Places.{Place, place_from, place_at}
 use Rattle.lf_certificate.specs.Accepted.{IsBounded, IsAccepted, IsAnswer, IsAllowedAnswer, IsFirstIn, MissesIn, IsRight, IsRightNode, last_depth}
 use Rattle.lf_certificate.specs.Grown.{IsReachFor, IsGrownNode, IsGrownBranch, IsGrown, IsTreeOf}
 use Rattle.lf_certificate.proofs.AllowedLemmas.{some-one}

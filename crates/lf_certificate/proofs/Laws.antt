@@ -15,9 +15,9 @@ use Rattle.lf_tree.specs.declared.tree.Node.{Node, out-Node}
 use Rattle.lf_tree.specs.declared.tree.Node.TheOpen.{Node-F}
 use Rattle.lf_certificate.specs.declared.reason.Reason.{Reason}
 use Rattle.lf_certificate.specs.declared.reason.Reason.TheVariants as reason
-use Rattle.lf_certificate.specs.Places.{Place, kid_at, place_at, root_of}
-use Rattle.lf_certificate.specs.Accepted.{IsBounded, IsAccepted, IsAnswer, IsAllowedAnswer, IsFirstIn, IsRight}
-use Rattle.lf_certificate.specs.Accepted.{AreRight, MissesIn, MissesFrom, Covers, last_depth, covered_below}
+use Rattle.lf_certificate.specs.Places.{Place, kid_at, root_of, place_at}
+use Rattle.lf_certificate.specs.Accepted.{IsBounded, IsAccepted, IsAnswer, IsAllowedAnswer, IsFirstIn, IsRight, AreRight, MissesIn, MissesFrom}
+use Rattle.lf_certificate.specs.Accepted.{Covers, covered_below, last_depth}
 use Rattle.lf_certificate.specs.Faults.{turn_of, LeafFails, Suffices, BranchFails, Fails, FailsFirst, FailsFirstFrom, IsFirstFailing, IsFirstFault}
 use Rattle.lf_certificate.specs.Grown.{IsTreeOf}
 use Rattle.lf_certificate.proofs.AnswerLemmas as answers

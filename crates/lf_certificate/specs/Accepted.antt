@@ -1,5 +1,5 @@
 -- Accepted trees: what a checker tests of a certificate, whoever made it.
-use Rattle.std.specs.Prelude.{◌≡◌, ℕ, ◌+◌, ◌<◌, ◌≤◌, Bool, true, false, not, List, length, Option, None, Some, MatchOption}
+use Rattle.std.specs.Prelude.{◌≡◌, ℕ, ◌+◌, ◌<◌, Bool, true, false, not, List, length, Option, None, Some, MatchOption}
 use Rattle.std.specs.List.{Contains}
 use Rattle.lf_faults.specs.declared.fault.Parts.{Parts}
 use Rattle.lf_faults.specs.declared.spec.Bounds.{Bounds}

@@ -1,12 +1,11 @@
 -- The tree of a search: its answer, and beneath each set that reaches, above the last depth, the sets that are to be tried.
-use Rattle.std.specs.Prelude.{◌≡◌, ℕ, ◌<◌, Bool, true, false, List, length, Option, Some}
+use Rattle.std.specs.Prelude.{◌≡◌, ℕ, ◌<◌, true, false, List, length, Some}
 use Rattle.lf_faults.specs.declared.fault.Parts.{Parts}
 use Rattle.lf_faults.specs.declared.spec.Bounds.{Bounds}
 use Rattle.lf_sim.specs.Runs.{World}
 use Rattle.lf_outcome.specs.declared.formula.Formula.{Formula}
 use Rattle.lf_outcome.specs.declared.point.Point.{Point}
 use Rattle.lf_outcome.specs.Evidence.{evidence_of}
-use Rattle.lf_outcome.specs.Truth.{reaches}
 use Rattle.lf_cone.specs.Cones.{IsSharp, AreRequired}
 use Rattle.lf_tree.specs.declared.tree.Tree.{Tree}
 use Rattle.lf_tree.specs.declared.tree.Node.{Node, out-Node}

@@ -28,8 +28,8 @@ pub fn accepted_answers<State, Note, Fact>()
         Covers w b formula p.faults p.excluded (covered_below b tree.answer) }
 {}
 
-/// The first fault of a tree: an accepted tree has none, two are one, and a tree that isn't accepted has one. So a tree is
-/// accepted exactly where it has no first fault. All of this is decided, for every machine and all bounds.
+/// The first fault of a tree: an accepted tree has none, two of one tree are one, and every tree is accepted or has one. So a
+/// tree is accepted exactly where it has no first fault. This holds of every machine and all bounds.
 pub fn first_faults<State, Note, Fact>()
     ensures none { (w : World State Note Fact) (b : Bounds) (formula : Formula Fact) (tree : Tree) →
         IsAccepted w b formula tree → (why : Reason) (path : List ℕ) → ¬ IsFirstFault w b formula tree why path }

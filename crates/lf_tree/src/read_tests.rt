@@ -108,7 +108,8 @@ fn reads_each_part_of_a_tree(rt: HostRuntime) -> Result<(), Fail> {
 
 #[test]
 fn reads_kids_in_their_order(rt: HostRuntime) -> Result<(), Fail> {
-    let text = "{\"answer\":null,\"format\":2,\"root\":{\"edges\":[\"pause 1 @2\",\"crash 3 @10\"],\"kids\":[{\"misses\":false},{\"misses\":true}],\"reach\":[0,48]}}";
+    let text =
+        "{\"answer\":null,\"format\":2,\"root\":{\"edges\":[\"pause 1 @2\",\"crash 3 @10\"],\"kids\":[{\"misses\":false},{\"misses\":true}],\"reach\":[0,48]}}";
     let tree = read(rt.alloc(), text)?;
     assert!(rt; tree.answer.is_none());
     let paused = Fault::pause(1, 2).ok_or("no pause")?;
