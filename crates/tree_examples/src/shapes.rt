@@ -1,0 +1,115 @@
+//! Trees of all shapes.
+
+use crate::same::{are_same, depth};
+use lf_faults::{Fault, FaultSet};
+use lf_outcome::Reach;
+use lf_tree::{Edges, Kids, Node, Tree, TreeFault, read_tree, to_text};
+use std::alloc::{AllocError, Global};
+use std::process::Abort;
+use std::test::Fail;
+
+/// A branch of the last nodes, at most two, which are taken out. Its edges and its reach go by how many nodes are left.
+fn branch(alloc: Global, count: u32, nodes: &mut Vec<Node>) -> Result<Node, AllocError> {
+    let second = if count > 1 { nodes.pop() } else { None };
+    let first = if count > 0 { nodes.pop() } else { None };
+    let mut kids = Vec::new(alloc);
+    if let Some(kid) = first {
+        kids.push(kid)?;
+    }
+    if let Some(kid) = second {
+        kids.push(kid)?;
+    }
+    let mut edges = Vec::new(alloc);
+    if let Some(edge) = Fault::omit(0, 1, count.saturating_add(7))
+        && nodes.len() != 1
+    {
+        edges.push(edge)?;
+    }
+    if let Some(edge) = Fault::pause(count, 48)
+        && nodes.len() == 2
+    {
+        edges.push(edge)?;
+    }
+    Ok(with_reach(nodes.len(), edges, kids))
+}
+
+/// The branch with one of two reaches.
+fn with_reach(left: usize, edges: Vec<Fault>, kids: Vec<Node>) -> Node {
+    let reach = if left == 0 {
+        Reach::new(&[0, 48])
+    } else {
+        Reach::new(&[1, 2, 3, 4, 5, 6, 7, 10])
+    };
+    match reach {
+        Some(reach) => Node::Branch {
+            reach,
+            edges: Edges::from_vec(edges),
+            kids: Kids::from_vec(kids),
+        },
+        None => Node::Misses,
+    }
+}
+
+/// The tree that a word of so many digits spells, from its last digit on: 0 and 1 put a leaf on a stack, and 2, 3 and 4 a
+/// branch in place of its last none, one or two nodes. Each tree whose branches have at most two kids is spelled by a word.
+fn spelled(alloc: Global, word: u32, digits: u32) -> Result<Node, AllocError> {
+    let mut nodes = Vec::new(alloc);
+    let mut rest = word;
+    for _ in 0..digits {
+        let node = match rest % 5 {
+            0 => Node::Misses,
+            1 => Node::Reaches,
+            digit => branch(alloc, digit - 2, &mut nodes)?,
+        };
+        nodes.push(node)?;
+        rest /= 5;
+    }
+    Ok(nodes.pop().unwrap_or(Node::Misses))
+}
+
+/// An answer: none, the empty set, or a set of two faults, the last a pause.
+fn answer(number: u32) -> Option<FaultSet> {
+    match number % 3 {
+        0 => None,
+        1 => Some(FaultSet::empty()),
+        _ => FaultSet::empty()
+            .insert(Fault::crash(1, 2)?)?
+            .insert(Fault::pause(1, 3)?),
+    }
+}
+
+/// Writes the tree and reads it back, or it is refused as too deep where more than six branches stand one in the other.
+fn reads_back(rt: &impl Abort, alloc: Global, tree: &Tree) -> Result<(), Fail> {
+    let text = to_text(alloc, tree).map_err(|_| "no text")?;
+    match read_tree(alloc, text.as_slice()) {
+        Ok(found) => {
+            assert!(rt; depth(&tree.root) <= 6);
+            assert!(rt; are_same(&found, tree));
+        }
+        Err(fault) => {
+            assert!(rt; depth(&tree.root) > 6);
+            assert_eq!(rt; fault, TreeFault::TooDeep);
+        }
+    }
+    Ok(())
+}
+
+/// All words of so many digits.
+fn all_read_back(rt: &impl Abort, alloc: Global, digits: u32, words: u32) -> Result<(), Fail> {
+    for word in 0..words {
+        let tree = Tree {
+            answer: answer(word),
+            root: spelled(alloc, word, digits)?,
+        };
+        reads_back(rt, alloc, &tree)?;
+    }
+    Ok(())
+}
+
+#[test]
+fn trees_of_all_shapes_read_back(rt: HostRuntime) -> Result<(), Fail> {
+    all_read_back(&rt, rt.alloc(), 1, 5)?;
+    all_read_back(&rt, rt.alloc(), 2, 25)?;
+    all_read_back(&rt, rt.alloc(), 4, 625)?;
+    all_read_back(&rt, rt.alloc(), 7, 78_125)
+}
