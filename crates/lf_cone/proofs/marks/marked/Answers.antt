@@ -11,7 +11,8 @@ loop-fault-init c = record { long = refl; marks = marks-none 480 }
 pub loop-fault-preserved : goal.loop-fault-preserved
 loop-fault-preserved c =
     let g = c.fault-item.result in
-    let below : place_of g / 8 < length c.loop-fault.rows = omega (arith, c.place-place.ensures.value, c.place-place.ensures.below, c.loop-fault.invariant.long) in
+    let below : place_of g / 8 < length c.loop-fault.rows =
+    omega (arith, c.place-place.ensures.value, c.place-place.ensures.below, c.loop-fault.invariant.long) in
     record {
       long = length-set c.loop-fault.rows (c.place-place.result / 8) _ ∙ c.loop-fault.invariant.long;
       marks = subst (λ k. AreMarks (take (c.loop-fault.fault-index + 1) c.args.faults.now) (with_mark c.loop-fault.rows k))

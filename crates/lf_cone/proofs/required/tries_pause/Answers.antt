@@ -25,7 +25,8 @@ returns-then-at g c =
     let f = Pause c.args.node c.args.step in (
       λ h. absurd (false≢true h),
       λ p. absurd (p.included (marked-in v.marks.faults.now v.marks.rows c.requires.marks f
-          (is-fault (world_of s) v.effects.set s.spec v.reach v.marks.faults.now c.nodes-nodes.ensures.limits f p) (((c.args.step - 1) * 10 + 9) * 8 + c.args.node) (omega arith)
+          (is-fault (world_of s) v.effects.set s.spec v.reach v.marks.faults.now c.nodes-nodes.ensures.limits f p)
+          (((c.args.step - 1) * 10 + 9) * 8 + c.args.node) (omega arith)
           (c.at.ensures.0 c.if-at.true))),
     )
 
@@ -42,7 +43,8 @@ returns g c =
         allowed = any_pause s.spec v.effects.set c.args.node 1 c.args.step c.requires.allowed
             ((c.requires.room.pause c.args.node c.requires.node).0 c.if-not-view-node.false) c.requires.first c.requires.last;
         included = λ k. both_ways c.at.result c.if-at.false (c.at.ensures.1 (in-marked v.marks.faults.now v.marks.rows c.requires.marks f
-            (admitted-fault s.spec f limits (c.requires.node, c.requires.first, c.requires.last)) (((c.args.step - 1) * 10 + 9) * 8 + c.args.node) (omega arith) k));
+            (admitted-fault s.spec f limits (c.requires.node, c.requires.first, c.requires.last))
+            (((c.args.step - 1) * 10 + 9) * 8 + c.args.node) (omega arith) k));
       },
       λ p. c.lives.ensures.1 (subst (λ k. LivesBetween w v.effects.set v.reach c.args.node c.args.step (c.args.step + k)) (sym c.pause_length.ensures.value)
           p.supports),
