@@ -23,6 +23,3 @@ pub use point::Point;
 pub use reach::Reach;
 pub use truth::{by_cases, holds, holds_within};
 pub use words::outcome_named;
-
-#[cfg(test)]
-mod tests;

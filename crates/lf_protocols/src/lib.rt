@@ -29,6 +29,3 @@ pub use nodes::Nodes;
 pub use note::Note;
 pub use protocol::{Kind, Protocol};
 pub use state::{Holding, Phase, Progress, Relay, Replica, State};
-
-#[cfg(test)]
-mod tests;
