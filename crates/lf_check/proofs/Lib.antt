@@ -1,0 +1,11 @@
+mod AllLemmas
+mod BranchLemmas
+mod FirstsLemmas
+mod FoundLemmas
+mod ListLemmas
+mod NodeLemmas
+mod RowLemmas
+mod SameLemmas
+mod VerdictLemmas
+mod WalkLemmas
+mod WayLemmas

@@ -1,0 +1,161 @@
+use Rattle.std.proofs.Common.{◌≡◌, ◌<◌, ◌+◌, ◌-◌, ◌++◌, length, take, refl, sym, ap, ◌∙◌, arith}
+use Rattle.std.specs.Prelude.{slice_get, Some}
+use Rattle.std.proofs.lemmas.Option.{slice_get_read}
+use Rattle.lf_faults.specs.Faults.{inserted}
+use Rattle.lf_sim.specs.Settings.{set_of, world_of}
+use Rattle.lf_tree.specs.declared.tree.Node.TheVariants as kind
+use Rattle.lf_certificate.specs.Accepted.{IsRight, IsRightBranch}
+use Rattle.lf_certificate.specs.Places.{Place}
+use Rattle.lf_check.specs.Nodes.{place_of}
+use Rattle.lf_check.specs.Walks.{Stand, kid_of, stand_of}
+use Rattle.lf_check.proofs.NodeLemmas.{found-at, given-Branch, right-none, right-Branch}
+use Rattle.lf_check.proofs.WalkLemmas.{stops-here, passes-Misses, passes-Reaches, goes-Branch, so_far-first, so_far-more, stops-kid, passes-kids}
+use Rattle.lf_check.proofs.WalkLemmas.{kid_of-some, walk-at}
+use Rattle.lf_check.proofs.walk.+visit.Goals as goal
+
+pub visit-returns-then-is_some : goal.visit-returns-then-is_some
+visit-returns-then-is_some g t c =
+    let j = c.args.judged.now in
+    let s = j.setting.now in
+    let walk = c.args.walk.now in
+    stops-here (world_of s) s.spec j.formula.now j.last c.args.depth (place_of c.args.node.now c.args.set walk.excluded.items) (stand_of walk)
+    (stand_of walk) c.in_ok-fault.fault (sym c.is_some.ensures ∙ c.if-is_some.true) refl
+    (found-at (world_of s) s.spec j.formula.now j.last c.args.depth c.args.node.now (set_of c.in_ok-run.run') c.args.set c.as_slice.result.now
+    walk.excluded.items c.in_ok-fault.fault c.in_ok-run.ensures.set c.as_slice.ensures.value c.in_ok-fault.ensures)
+
+pub visit-visit_kids-requires : goal.visit-visit_kids-requires
+visit-visit_kids-requires g t c κs within =
+    let j = c.args.judged.now in
+    let s = j.setting.now in
+    let excluded = c.args.walk.now.excluded.items in
+    let p : Place = place_of c.args.node.now c.args.set excluded in
+    let branch = c.in-Branch in
+    let edges = c.as_slice-in-Branch.result.now in
+    let kids = c.as_slice-in-Branch-2.result.now in
+    let right : IsRight (world_of s) s.spec j.formula.now j.last c.args.depth p =
+    right-none (world_of s) s.spec j.formula.now j.last c.args.depth p c.in_ok-fault.fault (sym c.is_some.ensures ∙ c.if-is_some.false)
+    (found-at (world_of s) s.spec j.formula.now j.last c.args.depth c.args.node.now (set_of c.in_ok-run.run') c.args.set c.as_slice.result.now
+    excluded c.in_ok-fault.fault c.in_ok-run.ensures.set c.as_slice.ensures.value c.in_ok-fault.ensures) in
+    let is : c.args.node.now ≡ kind.Branch branch.reach edges kids =
+    given-Branch c.args.node.now branch.reach branch.edges edges branch.kids kids branch.is c.as_slice-in-Branch.ensures c.as_slice-in-Branch-2.ensures in
+    let r : IsRightBranch (world_of s) s.spec j.formula.now j.last c.args.depth c.args.set excluded branch.reach edges kids =
+    right-Branch (world_of s) s.spec j.formula.now j.last c.args.depth p branch.reach edges kids is right in
+    (omega arith, (within.0, (within.1.0, (within.1.1.0, (within.1.1.1, (r.above, ((λ f h. ((r.required.each f).0 h).allowed), r.each)))))))
+
+pub visit-returns-in-Misses : goal.visit-returns-in-Misses
+visit-returns-in-Misses g t c =
+    let j = c.args.judged.now in
+    let s = j.setting.now in
+    let walk = c.args.walk.now in
+    let p : Place = place_of c.args.node.now c.args.set walk.excluded.items in
+    passes-Misses (world_of s) s.spec j.formula.now j.last c.args.depth p (stand_of walk)
+    (record { excluded = walk.excluded.items; path = walk.path.items; first = c.lowered-walk.result }) c.in-Misses.is
+    (right-none (world_of s) s.spec j.formula.now j.last c.args.depth p c.in_ok-fault.fault (sym c.is_some.ensures ∙ c.if-is_some.false)
+    (found-at (world_of s) s.spec j.formula.now j.last c.args.depth c.args.node.now (set_of c.in_ok-run.run') c.args.set c.as_slice.result.now
+    walk.excluded.items c.in_ok-fault.fault c.in_ok-run.ensures.set c.as_slice.ensures.value c.in_ok-fault.ensures))
+    refl refl c.lowered-walk.ensures
+
+pub visit-returns-in-Reaches : goal.visit-returns-in-Reaches
+visit-returns-in-Reaches g t c =
+    let j = c.args.judged.now in
+    let s = j.setting.now in
+    let walk = c.args.walk.now in
+    let p : Place = place_of c.args.node.now c.args.set walk.excluded.items in
+    passes-Reaches (world_of s) s.spec j.formula.now j.last c.args.depth p (stand_of walk) (stand_of walk) c.in-Reaches.is
+    (right-none (world_of s) s.spec j.formula.now j.last c.args.depth p c.in_ok-fault.fault (sym c.is_some.ensures ∙ c.if-is_some.false)
+    (found-at (world_of s) s.spec j.formula.now j.last c.args.depth c.args.node.now (set_of c.in_ok-run.run') c.args.set c.as_slice.result.now
+    walk.excluded.items c.in_ok-fault.fault c.in_ok-run.ensures.set c.as_slice.ensures.value c.in_ok-fault.ensures))
+    refl refl refl
+
+pub visit-returns-in-Branch : goal.visit-returns-in-Branch
+visit-returns-in-Branch g t c =
+    let j = c.args.judged.now in
+    let s = j.setting.now in
+    let walk = c.args.walk.now in
+    let p : Place = place_of c.args.node.now c.args.set walk.excluded.items in
+    let branch = c.in-Branch in
+    let edges = c.as_slice-in-Branch.result.now in
+    let kids = c.as_slice-in-Branch-2.result.now in
+    goes-Branch (world_of s) s.spec j.formula.now j.last c.args.depth p branch.reach edges kids
+    (given-Branch c.args.node.now branch.reach branch.edges edges branch.kids kids branch.is c.as_slice-in-Branch.ensures
+    c.as_slice-in-Branch-2.ensures)
+    (right-none (world_of s) s.spec j.formula.now j.last c.args.depth p c.in_ok-fault.fault (sym c.is_some.ensures ∙ c.if-is_some.false)
+    (found-at (world_of s) s.spec j.formula.now j.last c.args.depth c.args.node.now (set_of c.in_ok-run.run') c.args.set c.as_slice.result.now
+    walk.excluded.items c.in_ok-fault.fault c.in_ok-run.ensures.set c.as_slice.ensures.value c.in_ok-fault.ensures))
+    c.visit_kids.result (stand_of walk) (stand_of c.visit_kids.new.walk) c.visit_kids.ensures
+
+pub visit_kids-kids-init : goal.visit_kids-kids-init
+visit_kids-kids-init g t c =
+    let j = c.args.judged.now in
+    let s = j.setting.now in
+    so_far-first (world_of s) s.spec j.formula.now j.last c.args.depth
+    (kid_of c.args.edges.now c.args.kids.now c.args.set c.args.walk.now.excluded.items) c.args.edges.now (stand_of c.args.walk.now)
+
+pub visit_kids-with-larger-requires : goal.visit_kids-with-larger-requires
+visit_kids-with-larger-requires g t c =
+    let i = c.kids.i in
+    let few : i < length c.args.edges.now = omega (arith, c.kids-test.true, c.requires.count) in
+    c.requires.each c.index-edges-i.result (i, few, sym c.index-edges-i.is)
+
+pub visit_kids-returns-then-is_some : goal.visit_kids-returns-then-is_some
+visit_kids-returns-then-is_some g t c =
+    let j = c.args.judged.now in
+    let s = j.setting.now in
+    let start = c.args.walk.now.excluded.items in
+    let edges = c.args.edges.now in
+    let kids = c.args.kids.now in
+    let i = c.kids.i in
+    let edge = c.index-edges-i.result in
+    let node = c.index-kids-i.result in
+    let few : i < length edges = omega (arith, c.kids-test.true, c.requires.count) in
+    let there : i < length kids = omega (arith, c.kids-test.true) in
+    let at : slice_get edges i ≡ Some edge = slice_get_read edges (length edges) i edge refl few c.index-edges-i.is in
+    let stands : slice_get kids i ≡ Some node = slice_get_read kids (length kids) i node refl there c.index-kids-i.is in
+    let here = c.kids.walk in
+    let pushed : Stand = record { excluded = here.excluded.items; path = c.push.new.self.items; first = here.first } in
+    let met : Stand = stand_of c.visit.new.walk in
+    stops-kid (world_of s) s.spec j.formula.now j.last c.args.depth (kid_of edges kids c.args.set start) i
+    (place_of node (inserted edge c.args.set) (start ++ take i edges)) (kid_of-some edges kids c.args.set start i edge node at stands) edges
+    (length edges) (stand_of c.args.walk.now) (stand_of here) pushed met c.in_ok-found.found (sym c.is_some.ensures ∙ c.if-is_some.true)
+    c.kids.invariant c.in_ok-push.ensures.items
+    (walk-at (world_of s) s.spec j.formula.now j.last (c.args.depth + 1) node c.with-larger.result (inserted edge c.args.set) here.excluded.items
+    (start ++ take i edges) pushed met c.in_ok-found.found c.with-larger.ensures c.kids.invariant.excluded c.in_ok-found.ensures)
+
+pub visit_kids-kids-preserved : goal.visit_kids-kids-preserved
+visit_kids-kids-preserved g t c =
+    let j = c.args.judged.now in
+    let s = j.setting.now in
+    let start = c.args.walk.now.excluded.items in
+    let edges = c.args.edges.now in
+    let kids = c.args.kids.now in
+    let i = c.kids.i in
+    let edge = c.index-edges-i.result in
+    let node = c.index-kids-i.result in
+    let few : i < length edges = omega (arith, c.kids-test.true, c.requires.count) in
+    let there : i < length kids = omega (arith, c.kids-test.true) in
+    let at : slice_get edges i ≡ Some edge = slice_get_read edges (length edges) i edge refl few c.index-edges-i.is in
+    let stands : slice_get kids i ≡ Some node = slice_get_read kids (length kids) i node refl there c.index-kids-i.is in
+    let here = c.kids.walk in
+    let pushed : Stand = record { excluded = here.excluded.items; path = c.push.new.self.items; first = here.first } in
+    let met : Stand = stand_of c.visit.new.walk in
+    let path = c.visit.new.walk.path in
+    so_far-more (world_of s) s.spec j.formula.now j.last c.args.depth (kid_of edges kids c.args.set start) i
+    (place_of node (inserted edge c.args.set) (start ++ take i edges)) (kid_of-some edges kids c.args.set start i edge node at stands) edges
+    edge (stand_of c.args.walk.now) (stand_of here) pushed met
+    (record { excluded = c.push-in-kids.new.self.items; path = c.pop-place.new.self.items; first = c.visit.new.walk.first }) at c.kids.invariant
+    refl c.in_ok-push.ensures.items refl c.in_ok-found.found (sym c.is_some.ensures ∙ c.if-is_some.false)
+    (walk-at (world_of s) s.spec j.formula.now j.last (c.args.depth + 1) node c.with-larger.result (inserted edge c.args.set) here.excluded.items
+    (start ++ take i edges) pushed met c.in_ok-found.found c.with-larger.ensures c.kids.invariant.excluded c.in_ok-found.ensures)
+    c.in_ok-push-2.ensures.items (c.pop-place.ensures.rest ∙ ap (λ n. take (n - 1) path.items) path.ok.0) refl
+
+pub visit_kids-returns : goal.visit_kids-returns
+visit_kids-returns g t c =
+    let j = c.args.judged.now in
+    let s = j.setting.now in
+    let start = c.args.walk.now in
+    let edges = c.args.edges.now in
+    let all : c.kids.i ≡ length edges = omega (arith, c.kids-test.false, c.kids.auto.i-end, c.requires.count) in
+    passes-kids (world_of s) s.spec j.formula.now j.last c.args.depth (kid_of edges c.args.kids.now c.args.set start.excluded.items) edges c.kids.i
+    (length edges) c.len-before.result (stand_of start) (stand_of c.kids.walk)
+    (record { excluded = c.truncate.new.self.items; path = c.kids.walk.path.items; first = c.kids.walk.first }) c.kids.invariant all
+    (c.len-before.ensures ∙ start.excluded.ok.0) c.truncate.ensures.items refl refl

@@ -1,0 +1,4 @@
+pub mod Nodes
+pub mod Rows
+pub mod Verdicts
+pub mod Walks

@@ -1,0 +1,25 @@
+//! Judges certificates: whoever made a tree, a yes alone implies that its answer is the answer.
+#![tactic(auto)]
+
+mod branch;
+mod found;
+mod judging;
+mod leaf;
+mod listing;
+mod node;
+mod part;
+mod places;
+mod rows;
+mod same;
+mod scenarios;
+mod verdict;
+mod walk;
+
+pub use judging::judge;
+pub use scenarios::{check, check_rows};
+pub use verdict::Verdict;
+
+#[cfg(test)]
+mod rows_tests;
+#[cfg(test)]
+mod tests;

@@ -1,0 +1,15 @@
+//! The nodes of a tree, one after another, each with the set of which it speaks.
+
+use lf_faults::FaultSet;
+use lf_tree::{Row, Tree};
+
+/// All nodes of a tree.
+#[derive(Debug, Drop)]
+pub(crate) struct Places<'a> {
+    pub(crate) tree: &'a Tree,
+    /// The root first, and then each kid in order, with all that is beneath it.
+    pub(crate) rows: Vec<Row<'a>>,
+    /// The set of each node. None where no edge leads to the node, or one before it can't be added to its branch's set:
+    /// then something is wrong with a branch before it.
+    pub(crate) sets: Vec<Option<FaultSet>>,
+}

@@ -1,0 +1,176 @@
+//! The walk over a tree: the root first, and then each kid in order, with all that is beneath it.
+
+ghost use Rattle.std.specs.Prelude.{◌≡◌, ◌<◌, length, IfOk, Some};
+ghost use Rattle.std.specs.List.{Contains};
+ghost use Rattle.lf_check.specs.Nodes.{place_of};
+ghost use Rattle.lf_check.specs.Walks.{IsWalkFrom, IsWalkOver, Lowers, kid_of, stand_of};
+ghost use Rattle.lf_faults.specs.Allowed.{CanAdd};
+ghost use Rattle.lf_faults.specs.declared.fault.Parts.{Parts};
+ghost use Rattle.lf_sim.specs.Settings.{IsRun, set_of, world_of};
+
+use crate::node::node_fault;
+use lf_certificate::Reason;
+use lf_faults::{Fault, FaultSet, with};
+use lf_outcome::Formula;
+use lf_sim::{Machine, Run, Setting, run, run_reusing};
+use lf_tree::Node;
+use std::alloc::{AllocError, Global};
+
+/// What a tree is judged for.
+#[derive(Drop)]
+pub(crate) struct Judged<'a, M: Machine> {
+    pub(crate) setting: &'a Setting<M>,
+    pub(crate) formula: &'a Formula<M::Fact>,
+    /// How many branches stand above the last sets.
+    pub(crate) last: u32,
+}
+
+/// Where a walk stands, and the memory that it uses again.
+#[derive(Drop)]
+pub(crate) struct Walk<M: Machine> {
+    /// The run of the set that was run last, whose memory the next run takes.
+    spent: Option<Run<M>>,
+    /// Memory for required edges.
+    required: Vec<Fault>,
+    /// What is excluded where the walk stands.
+    excluded: Vec<Fault>,
+    /// The way from the root to where the walk stands, or to what is wrong.
+    pub(crate) path: Vec<usize>,
+    /// The first, in the order of sets, of the sets at the last depth that miss, of those met so far.
+    pub(crate) first: Option<FaultSet>,
+}
+
+impl<M: Machine> Walk<M> {
+    ghost use Rattle.std.specs.Prelude.{[], None};
+
+    /// A walk that stands at the root and has met nothing.
+    pub(crate) fn new(alloc: Global) -> Walk<M>
+        ensures { stand_of result ≡ record { excluded = []; path = []; first = None } }
+    {
+        Walk {
+            spent: None,
+            required: Vec::new(alloc),
+            excluded: Vec::new(alloc),
+            path: Vec::new(alloc),
+            first: None,
+        }
+    }
+}
+
+/// The first of a set that misses and of the one that was the first before, if there was one.
+pub(crate) fn lowered(first: Option<FaultSet>, set: FaultSet) -> Option<FaultSet>
+    ensures { Lowers (λ other. set ≡ other) first result }
+{
+    match first {
+        Some(least) => {
+            if set.is_before(&least) {
+                Some(set)
+            } else {
+                first
+            }
+        }
+        None => Some(set),
+    }
+}
+
+/// The run of a set, in the memory of one that is no longer needed, if there is one.
+pub(crate) fn run_of<M: Machine>(
+    alloc: Global,
+    setting: &Setting<M>,
+    set: &FaultSet,
+    spent: Option<Run<M>>,
+) -> Result<Run<M>, AllocError>
+    ensures run { IfOk result (IsRun (world_of setting.now)) }
+    ensures set { IfOk result (λ run. set_of run ≡ set.now) }
+{
+    match spent {
+        Some(spent) => Ok(run_reusing(setting, set, spent)),
+        None => run(alloc, setting, set),
+    }
+}
+
+/// Judges what stands at a node of a set, with `depth` branches above it, and all beneath it: what is wrong with it first,
+/// with the way there on the walk's path. None where all of it is right: then the sets that miss have been met.
+///
+/// It goes no further down than the last depth. The error is that memory has run out.
+#[cycle(visit)]
+pub(crate) fn visit<M: Machine>(
+    alloc: Global,
+    judged: &Judged<'_, M>,
+    walk: &mut Walk<M>,
+    node: &Node,
+    set: FaultSet,
+    depth: u32,
+) -> Result<Option<Reason>, AllocError>
+    ensures { IfOk result (IsWalkFrom (world_of judged.now.setting.now) judged.now.setting.now.spec judged.now.formula.now
+        judged.now.last depth (place_of node.now set walk.old.excluded.items) (stand_of walk.old) (stand_of walk.new)) }
+{
+    let run = run_of(alloc, judged.setting, &set, walk.spent.take())?;
+    let fault = node_fault(
+        judged.setting,
+        judged.formula,
+        &run,
+        judged.last,
+        depth,
+        node,
+        walk.excluded.as_slice(),
+        &mut walk.required,
+    )?;
+    walk.spent = Some(run);
+    if fault.is_some() {
+        return Ok(fault);
+    }
+    match node {
+        Node::Misses => {
+            walk.first = lowered(walk.first, set);
+            Ok(None)
+        }
+        Node::Reaches => Ok(None),
+        Node::Branch { edges, kids, .. } => {
+            visit_kids(
+                alloc,
+                judged,
+                walk,
+                edges.as_slice(),
+                kids.as_slice(),
+                set,
+                depth,
+            )
+        }
+    }
+}
+
+/// The same of the kids of a branch that is right itself: each is of the set with one edge more, and the edges before its
+/// own are excluded beneath it.
+#[cycle(visit)]
+fn visit_kids<M: Machine>(
+    alloc: Global,
+    judged: &Judged<'_, M>,
+    walk: &mut Walk<M>,
+    edges: &[Fault],
+    kids: &[Node],
+    set: FaultSet,
+    depth: u32,
+) -> Result<Option<Reason>, AllocError>
+    requires above { depth < judged.now.last }
+    requires each { (f : Parts) → Contains edges.now f → CanAdd judged.now.setting.now.spec set f }
+    requires count { length kids.now ≡ length edges.now }
+    ensures { IfOk result (IsWalkOver (world_of judged.now.setting.now) judged.now.setting.now.spec judged.now.formula.now
+        judged.now.last depth (kid_of edges.now kids.now set walk.old.excluded.items) (length edges.now) (stand_of walk.old)
+        (stand_of walk.new)) }
+{
+    let before = walk.excluded.len();
+    'kids: for (i, kid) in kids.iter().enumerate() {
+        let edge = edges[i];
+        let larger = with(&judged.setting.spec, &set, edge);
+        walk.path.push(i)?;
+        let found = visit(alloc, judged, walk, kid, larger, depth + 1)?;
+        if found.is_some() {
+            return Ok(found);
+        }
+        let _place = walk.path.pop();
+        walk.excluded.push(edge)?;
+    }
+    walk.excluded.truncate(before);
+    Ok(None)
+}

@@ -1,0 +1,8 @@
+use Rattle.std.specs.Prelude.{◌+◌, ◌*◌}
+use Rattle.plain_trees.proofs.+grow.Given as goal
+
+abbrev pub decreases-node : goal.decreases-node
+decreases-node l = 2 * l.room
+
+abbrev pub decreases-kids : goal.decreases-kids
+decreases-kids l = 2 * l.room + 1
