@@ -26,7 +26,8 @@ leastfault() { "$program" "$@"; }
 status_of() {
     case "$1" in
     least* | all*) echo 1 ;;
-    none*) echo 0 ;;
+    none* | yes) echo 0 ;;
+    "no "*) echo 1 ;;
     refused* | full*) echo 2 ;;
     *reaches) echo 0 ;;
     *misses) echo 1 ;;

@@ -1,3 +1,6 @@
+mod Limits
 mod ReplyLemmas
 mod Searching
+mod TreeTexts
 mod Uniqueness
+mod Yes

@@ -1,5 +1,5 @@
 -- The reply to a text, and to the bytes at its front.
-use Rattle.std.proofs.Common.{◌≡◌, ℕ, ◌<◌, ◌≤◌, List, length, take, refl, sym, ap, ◌∙◌, subst, inl, inr, arith}
+use Rattle.std.proofs.Common.{◌≡◌, ℕ, ◌+◌, ◌<◌, ◌≤◌, List, length, take, refl, sym, ap, ◌∙◌, subst, inl, inr, arith}
 use Rattle.std.specs.Prelude.{Option, None, Some, IfSome, Result, Ok, Err, IfErr}
 use Rattle.std.specs.Io.KnownBytes.{Appends}
 use Rattle.std.proofs.lemmas.Bool.{cases_lt}
@@ -14,9 +14,18 @@ use Rattle.lf_scenario.specs.Scenarios.{IsRefused, IsText}
 use Rattle.lf_sim.specs.Settings.{world_of}
 use Rattle.lf_trace.specs.Namings.{Names}
 use Rattle.lf_trace.specs.Traces.{trace}
+use Rattle.lf_check.specs.declared.verdict.Verdict.{Verdict}
+use Rattle.lf_check.specs.declared.verdict.Verdict.TheVariants as verdicts
+use Rattle.lf_check.specs.Verdicts.{IsVerdict}
+use Rattle.lf_tree.specs.declared.tree.Tree.{Tree}
+use Rattle.lf_tree.specs.declared.fault.TreeFault.{TreeFault}
+use Rattle.lf_tree.specs.declared.fault.TreeFault.TheVariants as tree
+use Rattle.lf_tree.specs.FirstFaults.{IsFirstFault}
+use Rattle.lf_tree.specs.Texts.{most_bytes}
 use Rattle.leastfault.specs.Answers.{IsAnswer, reaches_in}
-use Rattle.leastfault.specs.Reports.{no_set_line, report, run_status, search_status}
-use Rattle.leastfault.specs.Replies.{IsRunReply, IsSearchReply, RepliesRefusal, WrotePart, WroteReply, most_taken}
+use Rattle.leastfault.specs.Reports.{check_status, judgement, no_set_line, report, run_status, search_status}
+use Rattle.leastfault.specs.Replies.{IsCheckReply, IsRunReply, IsSearchReply, RepliesCheck, RepliesRefusal, ToBoth, ToHeld, WrotePart, WroteReply}
+use Rattle.leastfault.specs.Replies.{IsTreeText}
 
 pub search_from_report : (text reply : List ℕ) (status budget : ℕ) (s : Scenario) (answer : Option (List Parts)) → IsText s text → IsAnswer s answer
     → budget ≡ s.setting.spec.budget → reply ≡ report budget answer → status ≡ search_status answer → IsSearchReply text reply status
@@ -69,63 +78,107 @@ pub run_of_set : (words text reply : List ℕ) (status : ℕ) (s : Scenario) (se
     → reply ≡ trace (world_of s.setting) set s.formula → status ≡ run_status (reaches_in s set) → IsRunReply words text reply status
 run_of_set words text reply status s set reads chosen is ends = inr (s, reads, inr (set, chosen.0, chosen.1, is, ends))
 
+-- the reply of a check, by the verdict
+pub check_of_verdict : (text certificate reply : List ℕ) (status : ℕ) (s : Scenario) (t : Tree) (v : Verdict) → IsText s text × IsTreeText t certificate
+    → IsVerdict (world_of s.setting) s.setting.spec s.formula t v → reply ≡ judgement v → status ≡ check_status v
+    → IsCheckReply text certificate reply status
+check_of_verdict text certificate reply status s t verdicts.Yes given accepted is ends =
+    inr (s, given.0, inr (t, given.1, inl (accepted, is, ends)))
+check_of_verdict text certificate reply status s t (verdicts.No why path) given fault is ends =
+    inr (s, given.0, inr (t, given.1, inr (why, path.items, fault, is, ends)))
+
 -- past the longest text, the bytes at the front say all
 module _ (held reply : List ℕ) (status : ℕ) where
-  front : longest < length held → length (take most_taken held) ≤ longest → ⊥
-  front more short = omega (arith, more, short, length-take most_taken held)
+  front : longest < length held → length (take (longest + 1) held) ≤ longest → ⊥
+  front more short = omega (arith, more, short, length-take (longest + 1) held)
 
-  refused : (e : ScenarioError) → longest < length held → IsRefused (take most_taken held) e → IsRefused held e
+  refused : (e : ScenarioError) → longest < length held → IsRefused (take (longest + 1) held) e → IsRefused held e
   refused e more (inl why) = inl (more, why.1)
   refused e more (inr (inl why)) = absurd (front more why.0)
   refused e more (inr (inr why)) = absurd (front more why.0)
 
-  refused_reply : longest < length held → RepliesRefusal (take most_taken held) reply status → RepliesRefusal held reply status
+  refused_reply : longest < length held → RepliesRefusal (take (longest + 1) held) reply status → RepliesRefusal held reply status
   refused_reply more refusal = (refusal.0, refused refusal.0 more refusal.1, refusal.2, refusal.3)
 
-  search_long : longest < length held → IsSearchReply (take most_taken held) reply status → IsSearchReply held reply status
+  search_long : longest < length held → IsSearchReply (take (longest + 1) held) reply status → IsSearchReply held reply status
   search_long more (inl refusal) = inl (refused_reply more refusal)
   search_long more (inr found) = absurd (front more found.2.short)
 
-  run_long : (words : List ℕ) → longest < length held → IsRunReply words (take most_taken held) reply status → IsRunReply words held reply status
+  run_long : (words : List ℕ) → longest < length held → IsRunReply words (take (longest + 1) held) reply status → IsRunReply words held reply status
   run_long words more (inl refusal) = inl (refused_reply more refusal)
   run_long words more (inr found) = absurd (front more found.1.short)
 
--- of an engine: a text that is too long has the replies of its front
-abbrev pub GoesByFront : (List ℕ → List ℕ → ℕ → Type 0) → Type 0
-GoesByFront IsReply = (held reply : List ℕ) (status : ℕ) → longest < length held → IsReply (take most_taken held) reply status → IsReply held reply status
+  check_long : (certificate : List ℕ) → longest < length held → IsCheckReply (take (longest + 1) held) certificate reply status
+      → IsCheckReply held certificate reply status
+  check_long certificate more (inl refusal) = inl (refused_reply more refusal)
+  check_long certificate more (inr found) = absurd (front more found.1.short)
 
-pub search_by_front : GoesByFront IsSearchReply
+  -- and so of a tree's text
+  tree_front : most_bytes < length held → length (take (most_bytes + 1) held) ≤ most_bytes → ⊥
+  tree_front more short = omega (arith, more, short, length-take (most_bytes + 1) held)
+
+  tree_refused : (e : TreeFault) → most_bytes < length held → IsFirstFault (take (most_bytes + 1) held) e → IsFirstFault held e
+  tree_refused tree.TooLong more why = more
+  tree_refused tree.NoJson more why = absurd (tree_front more why.0)
+  tree_refused tree.Form more why = absurd (tree_front more why.0)
+  tree_refused tree.OutOfRange more why = absurd (tree_front more why.0)
+  tree_refused tree.TooDeep more why = absurd (tree_front more why.0)
+  tree_refused tree.Memory more why = absurd why
+
+  judged_long : (s : Scenario) → most_bytes < length held → RepliesCheck s (take (most_bytes + 1) held) reply status → RepliesCheck s held reply status
+  judged_long s more (inl refusal) = inl (refusal.0, tree_refused refusal.0 more refusal.1, refusal.2, refusal.3)
+  judged_long s more (inr given) =
+      absurd (tree_front more (subst (λ (bytes : List ℕ). length bytes ≤ most_bytes) given.1.spelled given.1.range.short))
+
+  tree_long : (text : List ℕ) → most_bytes < length held → IsCheckReply text (take (most_bytes + 1) held) reply status → IsCheckReply text held reply status
+  tree_long text more (inl refusal) = inl refusal
+  tree_long text more (inr found) = inr (found.0, found.1, judged_long found.0 more found.2)
+
+-- of an engine: a text that is too long has the replies of its front
+abbrev pub GoesByFront : ℕ → (List ℕ → List ℕ → ℕ → Type 0) → Type 0
+GoesByFront most IsReply =
+    (held reply : List ℕ) (status : ℕ) → most < length held → IsReply (take (most + 1) held) reply status → IsReply held reply status
+
+pub search_by_front : GoesByFront longest IsSearchReply
 search_by_front held reply status = search_long held reply status
 
-pub run_by_front : (words : List ℕ) → GoesByFront (IsRunReply words)
+pub run_by_front : (words : List ℕ) → GoesByFront longest (IsRunReply words)
 run_by_front words held reply status = run_long held reply status words
 
 -- the reply to the bytes that were read is the reply to what the source held, where it tells
-module _ (IsReply : List ℕ → List ℕ → ℕ → Type 0) (by_front : GoesByFront IsReply) where
-  from_front : (held reply : List ℕ) (status : ℕ) → IsReply (take most_taken held) reply status → IsReply held reply status
-  from_front held reply status is = elim (cases_lt longest (length held)) [
+module _ (most : ℕ) (IsReply : List ℕ → List ℕ → ℕ → Type 0) (by_front : GoesByFront most IsReply) where
+  from_front : (held reply : List ℕ) (status : ℕ) → IsReply (take (most + 1) held) reply status → IsReply held reply status
+  from_front held reply status is = elim (cases_lt most (length held)) [
     | inl more ↦ by_front held reply status more is
-    | inr few ↦ subst (λ text. IsReply text reply status) (take_all most_taken held (omega (arith, few))) is
+    | inr few ↦ subst (λ text. IsReply text reply status) (take_all (most + 1) held (omega (arith, few))) is
   ]
 
-  abbrev Whole : Option (List ℕ) → List ℕ → ℕ → Type 0
-  Whole held reply status = (whole : List ℕ) × IfSome held (λ h. whole ≡ h) × IsReply whole reply status
+  to_items : (held : Option (List ℕ)) (items reply : List ℕ) (status : ℕ) → IfSome held (λ h. items ≡ take (most + 1) h)
+      → IsReply items reply status → ToHeld IsReply held reply status
+  to_items None items reply status tells is = (items, tt, is)
+  to_items (Some h) items reply status tells is = (h, refl, from_front h reply status (subst (λ t. IsReply t reply status) tells is))
 
-  whole_text : (held : Option (List ℕ)) (text reply : List ℕ) (status : ℕ) → IfSome held (λ h. text ≡ take most_taken h)
-      → IsReply text reply status → Whole held reply status
-  whole_text None text reply status tells is = (text, tt, is)
-  whole_text (Some h) text reply status tells is = (h, refl, from_front h reply status (subst (λ t. IsReply t reply status) tells is))
+  pub to_held : (held : Option (List ℕ)) (items text reply : List ℕ) (status : ℕ) → IfSome held (λ h. items ≡ take (most + 1) h)
+      → text ≡ items → IsReply text reply status → ToHeld IsReply held reply status
+  to_held held items text reply status tells same is = to_items held items reply status tells (subst (λ t. IsReply t reply status) same is)
 
-  module _ (held old new : Option (List ℕ)) (items text reply : List ℕ) (status : ℕ)
-      (tells : IfSome held (λ h. items ≡ take most_taken h)) (same : text ≡ items) (is : IsReply text reply status) where
-    whole : Whole held reply status
-    whole = whole_text held items reply status tells (subst (λ t. IsReply t reply status) same is)
+-- the same of the two texts of a check
+pub to_both : (held other : Option (List ℕ)) (items text other_items certificate reply : List ℕ) (status : ℕ)
+    → IfSome held (λ h. items ≡ take (longest + 1) h) → text ≡ items
+    → IfSome other (λ h. other_items ≡ take (most_bytes + 1) h) → certificate ≡ other_items
+    → IsCheckReply text certificate reply status → ToBoth IsCheckReply held other reply status
+to_both held other items text other_items certificate reply status tells same tells_too same_too is =
+    to_held longest (λ t. ToHeld (IsCheckReply t) other)
+    (λ h r n more found. (found.0, found.1, check_long h r n found.0 more found.2))
+    held items text reply status tells same
+    (to_held most_bytes (IsCheckReply text) (λ h r n more found. tree_long h r n text more found) other other_items certificate reply status tells_too same_too is)
 
-    pub wrote_reply : (answered : ℕ) → answered ≡ status → Appends old new reply → WroteReply IsReply held old new answered
-    wrote_reply answered ends grown = (whole.0, reply, whole.1, subst (IsReply whole.0 reply) (sym ends) whole.2, grown)
+module _ (IsReply : List ℕ → ℕ → Type 0) (old new : Option (List ℕ)) (reply : List ℕ) (status : ℕ) (is : IsReply reply status) where
+  pub wrote_reply : (answered : ℕ) → answered ≡ status → Appends old new reply → WroteReply IsReply old new answered
+  wrote_reply answered ends grown = (reply, subst (IsReply reply) (sym ends) is, grown)
 
-    pub wrote_part : ((n : ℕ) × (n < length reply) × Appends old new (take n reply)) → WrotePart IsReply held old new
-    wrote_part some = (whole.0, reply, status, some.0, whole.1, whole.2, some.1, some.2)
+  pub wrote_part : ((n : ℕ) × (n < length reply) × Appends old new (take n reply)) → WrotePart IsReply old new
+  wrote_part some = (reply, status, some.0, is, some.1, some.2)
 
 -- what is known of an error, where one is answered
 pub known_of : {X E : Type 0} (result : Result X E) (e : E) (P : Type 0) → IfErr result (λ _. P) → result ≡ Err e → P

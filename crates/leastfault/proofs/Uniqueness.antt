@@ -1,20 +1,31 @@
 -- A text, and words, have one reply at most.
 use Rattle.std.proofs.Common.{◌≡◌, ℕ, List, not, sym, ap, ◌∙◌, subst, inl, inr}
-use Rattle.std.specs.Prelude.{◌⊎◌, Option}
+use Rattle.std.specs.Prelude.{◌⊎◌, Ok, Option}
 use Rattle.lf_faults.specs.declared.fault.Parts.{Parts}
 use Rattle.lf_faults.specs.Allowed.{IsAllowed, IsFirst}
+use Rattle.lf_faults.specs.declared.spec.Bounds.{Bounds}
 use Rattle.lf_faults.proofs.Laws.{first_is_one}
+use Rattle.lf_sim.specs.Runs.{World}
 use Rattle.lf_sim.specs.Settings.{world_of}
+use Rattle.lf_outcome.specs.declared.formula.Formula.{Formula}
 use Rattle.lf_outcome.specs.Truth.{reaches}
+use Rattle.lf_certificate.proofs.Laws.{accepted_has_none, first_fault_one}
 use Rattle.lf_scenario.specs.declared.scenario.Scenario.{Scenario}
 use Rattle.lf_scenario.specs.Sameness.{AreSame}
-use Rattle.lf_scenario.specs.Scenarios.{IsText}
 use Rattle.lf_scenario.proofs.Laws.{refusals_are_one, refused_is_no_text, scenarios_are_one, worlds_are_one}
 use Rattle.lf_trace.specs.Namings.{Names}
 use Rattle.lf_trace.specs.Traces.{trace}
+use Rattle.lf_tree.specs.declared.tree.Tree.{Tree}
+use Rattle.lf_tree.specs.FirstFaults.{IsJson}
+use Rattle.lf_tree.specs.Reading.{tree_in}
+use Rattle.lf_tree.specs.Texts.{IsInRange, tree_text}
+use Rattle.lf_tree.specs.Trees.{IsTree}
+use Rattle.lf_tree.specs.Values.{tree_value}
 use Rattle.leastfault.specs.Answers.{IsAnswer, reaches_in}
-use Rattle.leastfault.specs.Reports.{refusal, report, run_status, search_status}
-use Rattle.leastfault.specs.Replies.{HasOneReply, IsRunReply, IsSearchReply, RepliesNoSet, RepliesRefusal, RepliesReport, RepliesTrace}
+use Rattle.leastfault.specs.Reports.{no_line, refusal, report, run_status, search_status, tree_refusal}
+use Rattle.leastfault.specs.Replies.{HasOneReply, IsCheckReply, IsRunReply, IsSearchReply, RepliesCheck, RepliesNoSet, RepliesRefusal, RepliesReport}
+use Rattle.leastfault.specs.Replies.{RepliesTrace, RepliesTreeRefusal, RepliesVerdict}
+use Rattle.leastfault.proofs.TreeTexts.{tree_faults_one, tree_not_refused, trees_one}
 
 -- scenarios that are the same have one answer
 answers_one : (s t : Scenario) (x y : Option (List Parts)) → AreSame s t → IsAnswer s x → IsAnswer t y → x ≡ y
@@ -67,3 +78,45 @@ module _ (words : List ℕ) (named_one : (one other : List Parts) → Names word
   run_replies_one text one other m n (inl a) (inr b) = absurd (refused_is_no_text text a.0 b.0 a.1 b.1)
   run_replies_one text one other m n (inr a) (inl b) = absurd (refused_is_no_text text b.0 a.0 b.1 a.1)
   run_replies_one text one other m n (inr a) (inr b) = told_one a.0 b.0 (scenarios_are_one text a.0 b.0 a.1 b.1) one other m n a.2 b.2
+
+module _ {State Note Fact : Type 0} (w : World State Note Fact) (b : Bounds) (formula : Formula Fact) (tree : Tree) where
+  verdicts_one : HasOneReply (RepliesVerdict w b formula tree)
+  verdicts_one one other m n (inl x) (inl y) = (x.1 ∙ sym y.1, x.2 ∙ sym y.2)
+  verdicts_one one other m n (inl x) (inr y) = absurd (accepted_has_none w b formula tree x.0 y.0 y.1 y.2)
+  verdicts_one one other m n (inr x) (inl y) = absurd (accepted_has_none w b formula tree y.0 x.0 x.1 x.2)
+  verdicts_one one other m n (inr x) (inr y) =
+      let same = first_fault_one w b formula tree x.0 y.0 x.1 y.1 x.2 y.2 in
+      (x.3 ∙ ap (λ why. no_line why x.1) same.0 ∙ ap (no_line y.0) same.1 ∙ sym y.3, x.4 ∙ sym y.4)
+
+-- what is replied for a scenario is replied for one that is the same
+verdict_of_same : (s t : Scenario) (tree : Tree) (reply : List ℕ) (status : ℕ) → AreSame s t
+    → RepliesVerdict (world_of s.setting) s.setting.spec s.formula tree reply status
+    → RepliesVerdict (world_of t.setting) t.setting.spec t.formula tree reply status
+verdict_of_same s t tree reply status same told =
+    subst (λ f. RepliesVerdict (world_of t.setting) t.setting.spec f tree reply status) same.formula
+    (subst (λ w. RepliesVerdict w t.setting.spec s.formula tree reply status) (worlds_are_one s t same)
+    (subst (λ b. RepliesVerdict (world_of s.setting) b s.formula tree reply status) same.bounds told))
+
+tree_refusals_one : (certificate : List ℕ) → HasOneReply (RepliesTreeRefusal certificate)
+tree_refusals_one certificate one other m n a b =
+    let same = tree_faults_one certificate a.0 b.0 a.1 b.1 in
+    (a.2 ∙ ap tree_refusal same ∙ sym b.2, a.3 ∙ sym b.3)
+
+module _ (json : (t : Tree) → IsTree t → IsInRange t → IsJson (tree_text t) (tree_value t))
+    (read_back : (t : Tree) → IsTree t → IsInRange t → tree_in (tree_value t) ≡ Ok t) where
+  judged_one : (s t : Scenario) → AreSame s t → (certificate one other : List ℕ) (m n : ℕ) → RepliesCheck s certificate one m
+      → RepliesCheck t certificate other n → (one ≡ other) × (m ≡ n)
+  judged_one s t same certificate one other m n (inl a) (inl b) = tree_refusals_one certificate one other m n a b
+  judged_one s t same certificate one other m n (inl a) (inr b) = absurd (tree_not_refused json read_back certificate b.0 a.0 b.1 a.1)
+  judged_one s t same certificate one other m n (inr a) (inl b) = absurd (tree_not_refused json read_back certificate a.0 b.0 a.1 b.1)
+  judged_one s t same certificate one other m n (inr a) (inr b) =
+      let trees : a.0 ≡ b.0 = trees_one json read_back certificate a.0 b.0 a.1 b.1 in
+      verdicts_one (world_of t.setting) t.setting.spec t.formula b.0 one other m n
+      (subst (λ tree. RepliesVerdict (world_of t.setting) t.setting.spec t.formula tree one m) trees (verdict_of_same s t a.0 one m same a.2)) b.2
+
+  pub check_replies_one : (text certificate : List ℕ) → HasOneReply (IsCheckReply text certificate)
+  check_replies_one text certificate one other m n (inl a) (inl b) = refusals_one text one other m n a b
+  check_replies_one text certificate one other m n (inl a) (inr b) = absurd (refused_is_no_text text a.0 b.0 a.1 b.1)
+  check_replies_one text certificate one other m n (inr a) (inl b) = absurd (refused_is_no_text text b.0 a.0 b.1 a.1)
+  check_replies_one text certificate one other m n (inr a) (inr b) =
+      judged_one a.0 b.0 (scenarios_are_one text a.0 b.0 a.1 b.1) certificate one other m n a.2 b.2

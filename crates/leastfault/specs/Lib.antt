@@ -1,3 +1,4 @@
 pub mod Answers
 pub mod Reports
 pub mod Replies
+pub mod Given

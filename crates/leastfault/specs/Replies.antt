@@ -1,19 +1,29 @@
 -- The reply to a text, and what an engine answers.
-use Rattle.std.specs.Prelude.{◌≡◌, ◌⊎◌, ℕ, ◌+◌, ◌<◌, ◌≤◌, Bool, true, false, List, length, take, drop, Option, Some, Result, Ok, Err, IfSome}
+use Rattle.std.specs.Prelude.{◌≡◌, ◌⊎◌, ℕ, ◌<◌, ◌≤◌, Bool, true, false, List, length, take, drop, Option, Some, Result, Ok, Err, IfSome}
 use Rattle.std.specs.Io.KnownBytes.{Appends}
+use Rattle.lf_certificate.specs.declared.reason.Reason.{Reason}
+use Rattle.lf_certificate.specs.Accepted.{IsAccepted}
+use Rattle.lf_certificate.specs.Faults.{IsFirstFault}
 use Rattle.lf_faults.specs.declared.fault.Parts.{Parts}
 use Rattle.lf_faults.specs.Allowed.{IsAllowed}
+use Rattle.lf_faults.specs.declared.spec.Bounds.{Bounds}
+use Rattle.lf_outcome.specs.declared.formula.Formula.{Formula}
+use Rattle.lf_sim.specs.Runs.{World}
 use Rattle.lf_sim.specs.Settings.{world_of}
 use Rattle.lf_scenario.specs.declared.error.ScenarioError.{ScenarioError}
-use Rattle.lf_scenario.specs.Limits.{longest}
 use Rattle.lf_scenario.specs.declared.scenario.Scenario.{Scenario}
 use Rattle.lf_scenario.specs.Scenarios.{IsRefused, IsText}
 use Rattle.lf_trace.specs.Namings.{Names}
 use Rattle.lf_trace.specs.Traces.{trace}
+use Rattle.lf_tree.specs.declared.fault.TreeFault.{TreeFault}
+use Rattle.lf_tree.specs.declared.tree.Tree.{Tree}
+use Rattle.lf_tree.specs.FirstFaults as trees
+use Rattle.lf_tree.specs.Texts.{IsInRange, tree_text}
+use Rattle.lf_tree.specs.Trees.{IsTree}
 use Rattle.leastfault.specs.declared.engine.BytesFault.{BytesFault}
 use Rattle.leastfault.specs.declared.engine.BytesFault.TheVariants as faults
 use Rattle.leastfault.specs.Answers.{IsAnswer, reaches_in}
-use Rattle.leastfault.specs.Reports.{no_set_line, refusal, report, run_status, search_status}
+use Rattle.leastfault.specs.Reports.{no_line, no_set_line, refusal, report, run_status, search_status, tree_refusal, yes_line}
 
 -- the line of the refusal, where the text is refused, with status 2
 abbrev pub RepliesRefusal : List ℕ → List ℕ → ℕ → Type 0
@@ -46,30 +56,66 @@ IsRunReply words text reply status =
     RepliesRefusal text reply status
     ⊎ ((s : Scenario) × IsText s text × (RepliesNoSet words s reply status ⊎ RepliesTrace words s reply status))
 
+-- the text is that of the tree
+pub record IsTreeText (tree : Tree) (text : List ℕ) : Type 0 where
+  pub kept : IsTree tree
+  pub range : IsInRange tree
+  pub spelled : tree_text tree ≡ text
+
+-- the line of the refusal, where the text is refused as that of a tree, with status 2
+abbrev pub RepliesTreeRefusal : List ℕ → List ℕ → ℕ → Type 0
+RepliesTreeRefusal text reply status = (e : TreeFault) × trees.IsFirstFault text e × (reply ≡ tree_refusal e) × (status ≡ 2)
+
+module _ {State Note Fact : Type 0} (w : World State Note Fact) (b : Bounds) (formula : Formula Fact) where
+  -- `yes` where the tree is accepted, with status 0
+  abbrev pub RepliesYes : Tree → List ℕ → ℕ → Type 0
+  RepliesYes tree reply status = IsAccepted w b formula tree × (reply ≡ yes_line) × (status ≡ 0)
+
+  -- its first fault where it isn't, with status 1
+  abbrev pub RepliesNo : Tree → List ℕ → ℕ → Type 0
+  RepliesNo tree reply status =
+      (why : Reason) × (path : List ℕ) × IsFirstFault w b formula tree why path × (reply ≡ no_line why path) × (status ≡ 1)
+
+  abbrev pub RepliesVerdict : Tree → List ℕ → ℕ → Type 0
+  RepliesVerdict tree reply status = RepliesYes tree reply status ⊎ RepliesNo tree reply status
+
+-- the reply of a check to the scenario and the text of a tree
+abbrev pub RepliesCheck : Scenario → List ℕ → List ℕ → ℕ → Type 0
+RepliesCheck s certificate reply status =
+    RepliesTreeRefusal certificate reply status
+    ⊎ ((tree : Tree) × IsTreeText tree certificate × RepliesVerdict (world_of s.setting) s.setting.spec s.formula tree reply status)
+
+-- the reply of a check to the texts of a scenario and of a tree: the scenario's refusal comes before the tree's
+abbrev pub IsCheckReply : List ℕ → List ℕ → List ℕ → ℕ → Type 0
+IsCheckReply text certificate reply status =
+    RepliesRefusal text reply status ⊎ ((s : Scenario) × IsText s text × RepliesCheck s certificate reply status)
+
 -- there is one reply at most, with one status
 abbrev pub HasOneReply : (List ℕ → ℕ → Type 0) → Type 0
 HasOneReply IsReply = (one other : List ℕ) (m n : ℕ) → IsReply one m → IsReply other n → (one ≡ other) × (m ≡ n)
 
--- of an engine, by which replies with which statuses a text has there
-module _ (IsReply : List ℕ → List ℕ → ℕ → Type 0) where
-  -- the reply to what the source held was written: where it doesn't tell, the reply to some text
-  abbrev pub WroteReply : Option (List ℕ) → Option (List ℕ) → Option (List ℕ) → ℕ → Type 0
-  WroteReply held old new status =
-      (text : List ℕ) × (reply : List ℕ) × IfSome held (λ h. text ≡ h) × IsReply text reply status × Appends old new reply
+-- a reply to what a source held: where it doesn't tell, to some text
+abbrev pub ToHeld : (List ℕ → List ℕ → ℕ → Type 0) → Option (List ℕ) → List ℕ → ℕ → Type 0
+ToHeld IsReply held reply status = (text : List ℕ) × IfSome held (λ h. text ≡ h) × IsReply text reply status
 
-  -- a part of it was written, from its front, and not the whole
-  abbrev pub WrotePart : Option (List ℕ) → Option (List ℕ) → Option (List ℕ) → Type 0
-  WrotePart held old new =
-      (text : List ℕ) × (reply : List ℕ) × (status : ℕ) × (n : ℕ) × IfSome held (λ h. text ≡ h) × IsReply text reply status
-      × (n < length reply) × Appends old new (take n reply)
+-- the same of two sources
+abbrev pub ToBoth : (List ℕ → List ℕ → List ℕ → ℕ → Type 0) → Option (List ℕ) → Option (List ℕ) → List ℕ → ℕ → Type 0
+ToBoth IsReply held other = ToHeld (λ text. ToHeld (IsReply text) other) held
 
--- how many bytes are taken of a source at most: one past the longest text
-abbrev pub most_taken : ℕ
-most_taken = longest + 1
+-- of an engine, by which replies with which statuses there are
+module _ (IsReply : List ℕ → ℕ → Type 0) where
+  -- a reply was written
+  abbrev pub WroteReply : Option (List ℕ) → Option (List ℕ) → ℕ → Type 0
+  WroteReply old new status = (reply : List ℕ) × IsReply reply status × Appends old new reply
 
--- no more of them were taken
-abbrev pub TookLittle : Option (List ℕ) → Option (List ℕ) → Type 0
-TookLittle held left = IfSome held (λ h. (n : ℕ) × (n ≤ most_taken) × (left ≡ Some (drop n h)))
+  -- a part of one was written, from its front, and not the whole
+  abbrev pub WrotePart : Option (List ℕ) → Option (List ℕ) → Type 0
+  WrotePart old new =
+      (reply : List ℕ) × (status : ℕ) × (n : ℕ) × IsReply reply status × (n < length reply) × Appends old new (take n reply)
+
+-- no more than so many bytes of a source were taken
+abbrev pub TookAtMost : ℕ → Option (List ℕ) → Option (List ℕ) → Type 0
+TookAtMost most held left = IfSome held (λ h. (n : ℕ) × (n ≤ most) × (left ≡ Some (drop n h)))
 
 -- which answers say that the source failed, and which that the sink did
 abbrev pub tells_read : {X : Type 0} → Result X BytesFault → Bool

@@ -7,6 +7,12 @@ use Rattle.lf_scenario.specs.declared.key.Key.{Key}
 use Rattle.lf_scenario.specs.declared.error.ScenarioError.{ScenarioError}
 use Rattle.lf_scenario.specs.Keys.{key_name}
 use Rattle.lf_scenario.specs.Refusals.{number_of, key_of}
+use Rattle.lf_tree.specs.declared.fault.TreeFault.{TreeFault}
+use Rattle.lf_tree.specs.Faults.{fault_number}
+use Rattle.lf_certificate.specs.declared.reason.Reason.{Reason}
+use Rattle.lf_certificate.specs.Faults as certificates
+use Rattle.lf_check.specs.declared.verdict.Verdict.{Verdict}
+use Rattle.lf_check.specs.declared.verdict.Verdict.TheVariants as verdicts
 use Rattle.lf_trace.specs.Lines.{line}
 
 -- the faults, one on each line
@@ -41,3 +47,34 @@ key_words (Some key) = codes " " ++ key_name key
 -- `refused`, the number of the refusal, and its key
 abbrev pub refusal : ScenarioError → List ℕ
 refusal e = codes "refused " ++ (decimal (number_of e) ++ line (key_words (key_of e)))
+
+-- `refused tree`, and the number of what is wrong with the text
+abbrev pub tree_refusal : TreeFault → List ℕ
+tree_refusal fault = line (codes "refused tree " ++ decimal (fault_number fault))
+
+-- the places of kids, each after a dot
+abbrev pub dotted : List ℕ → List ℕ
+dotted [] = []
+dotted (place ∷ path) = codes "." ++ (decimal place ++ dotted path)
+
+-- the way from the root: the places of kids, from 0, with a dot between any two, or `-` for the root itself
+abbrev pub path_text : List ℕ → List ℕ
+path_text [] = codes "-"
+path_text (place ∷ path) = decimal place ++ dotted path
+
+-- a certificate is right
+abbrev pub yes_line : List ℕ
+yes_line = line (codes "yes")
+
+-- it is wrong: the number of the reason, and the way to the place
+abbrev pub no_line : Reason → List ℕ → List ℕ
+no_line why path = line (codes "no " ++ (decimal (certificates.number_of why) ++ (codes " " ++ path_text path)))
+
+abbrev pub judgement : Verdict → List ℕ
+judgement verdicts.Yes = yes_line
+judgement (verdicts.No why path) = no_line why path.items
+
+-- 0 where a certificate is right, and 1 where it is wrong
+abbrev pub check_status : Verdict → ℕ
+check_status verdicts.Yes = 0
+check_status (verdicts.No why path) = 1

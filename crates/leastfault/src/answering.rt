@@ -91,7 +91,7 @@ fn no_set(alloc: Global) -> Result<Reply, AllocError>
 }
 
 /// The reply to a text that is refused. The error is that memory has run out, here or in the reading.
-fn refused(alloc: Global, error: ScenarioError) -> Result<Reply, AllocError>
+pub(crate) fn refused(alloc: Global, error: ScenarioError) -> Result<Reply, AllocError>
     ensures { IfOk result (λ reply. (error ≢ ScenarioError.Memory)
         × (string_bytes reply.text ≡ refusal error) × (reply.status ≡ 2)) }
 {

@@ -1,13 +1,18 @@
 //! Engines: bytes in, bytes out.
 
-ghost use Rattle.std.specs.Prelude.{◌≡◌, ◌≢◌, ℕ, ◌<◌, length, take, Err, false, string_bytes, IfOk, IfErr, IfSome};
+ghost use Rattle.std.specs.Prelude.{◌≡◌, ◌≢◌, ℕ, ◌+◌, ◌<◌, ◌||◌, length, take, Err, false, string_bytes, IfOk, IfErr, IfSome};
 ghost use Rattle.std.specs.Io.KnownBytes.{Appends};
-ghost use Rattle.leastfault.specs.Replies.{IsRunReply, IsSearchReply, TookLittle, WrotePart, WroteReply, most_taken, tells_read, tells_write};
+ghost use Rattle.lf_scenario.specs.Limits.{longest};
+ghost use Rattle.lf_tree.specs.Texts.{most_bytes};
+ghost use Rattle.leastfault.specs.Replies.{IsCheckReply, IsRunReply, IsSearchReply};
+ghost use Rattle.leastfault.specs.Replies.{ToBoth, ToHeld, TookAtMost, WrotePart, WroteReply, tells_read, tells_write};
 
 use crate::answering::{Reply, run_reply, search_reply};
+use crate::checking::{check_reply, check_reply_rows};
 use lf_scenario::LONGEST;
 use lf_streams::{ReadFault, Sink, Source, read_up_to, write_all};
 use std::alloc::Global;
+use std::thread::Threads;
 use thiserror::Error;
 
 /// Why an engine gave no whole reply.
@@ -23,6 +28,9 @@ pub enum BytesFault {
     #[error("out of memory")]
     Memory,
 }
+
+/// How many bytes the text of a tree has at most.
+pub const LONGEST_TREE: usize = 16_777_216;
 
 /// What a search came to, once its reply is written.
 #[derive(Clone, Copy, Debug, PartialEq, Eq)]
@@ -45,18 +53,18 @@ pub fn search_bytes<R: Source, W: Sink>(
     requires writer { W.has_failed writer.old ≡ false }
     // The reply to what the source held was written, and the status is that of the reply.
     ensures reply { IfOk result (λ searched.
-        WroteReply IsSearchReply (R.left reader.old) (W.written writer.old) (W.written writer.new) searched.status) }
+        WroteReply (ToHeld IsSearchReply (R.left reader.old)) (W.written writer.old) (W.written writer.new) searched.status) }
     // `Write` leaves a part of the reply, and any other fault nothing.
     ensures part { result ≡ Err BytesFault.Write →
-        WrotePart IsSearchReply (R.left reader.old) (W.written writer.old) (W.written writer.new) }
+        WrotePart (ToHeld IsSearchReply (R.left reader.old)) (W.written writer.old) (W.written writer.new) }
     ensures unwritten { IfErr result (λ e. e ≢ BytesFault.Write → writer.new ≡ writer.old) }
     // `Read` says that the source failed, and `Write` that the sink did.
     ensures source { R.has_failed reader.new ≡ tells_read result }
     ensures sink { W.has_failed writer.new ≡ tells_write result }
     // No more than one byte past the longest text is taken.
-    ensures taken { TookLittle (R.left reader.old) (R.left reader.new) }
+    ensures taken { TookAtMost (longest + 1) (R.left reader.old) (R.left reader.new) }
 {
-    let text = read_text(alloc, reader)?;
+    let text = read_text(alloc, reader, LONGEST)?;
     let Ok(reply) = search_reply(alloc, text.as_slice()) else {
         return Err(BytesFault::Memory);
     };
@@ -83,34 +91,111 @@ pub fn run_bytes<R: Source, W: Sink>(
     requires writer { W.has_failed writer.old ≡ false }
     // The reply to what the source held was written, and the status is that of the reply.
     ensures reply { IfOk result (λ status.
-        WroteReply (IsRunReply faults.now) (R.left reader.old) (W.written writer.old) (W.written writer.new) status) }
+        WroteReply (ToHeld (IsRunReply faults.now) (R.left reader.old)) (W.written writer.old) (W.written writer.new) status) }
     // `Write` leaves a part of the reply, and any other fault nothing.
     ensures part { result ≡ Err BytesFault.Write →
-        WrotePart (IsRunReply faults.now) (R.left reader.old) (W.written writer.old) (W.written writer.new) }
+        WrotePart (ToHeld (IsRunReply faults.now) (R.left reader.old)) (W.written writer.old) (W.written writer.new) }
     ensures unwritten { IfErr result (λ e. e ≢ BytesFault.Write → writer.new ≡ writer.old) }
     // `Read` says that the source failed, and `Write` that the sink did.
     ensures source { R.has_failed reader.new ≡ tells_read result }
     ensures sink { W.has_failed writer.new ≡ tells_write result }
     // No more than one byte past the longest text is taken.
-    ensures taken { TookLittle (R.left reader.old) (R.left reader.new) }
+    ensures taken { TookAtMost (longest + 1) (R.left reader.old) (R.left reader.new) }
 {
-    let text = read_text(alloc, reader)?;
+    let text = read_text(alloc, reader, LONGEST)?;
     let Ok(reply) = run_reply(alloc, text.as_slice(), faults) else {
         return Err(BytesFault::Memory);
     };
     send(writer, &reply)
 }
 
-/// What the source holds, or as much of it as tells that it is too long.
-fn read_text<R: Source>(alloc: Global, reader: &mut R) -> Result<Vec<u8>, BytesFault>
+/// Reads a scenario and the text of a tree, judges the tree for the scenario, and writes the line of the verdict: `yes`, or
+/// `no REASON PATH` with the number of what is wrong first and the way from the root to where that is (the places of kids,
+/// from 0, with a dot between any two; `-` for the root). It answers the status: 0 for yes, 1 for no, 2 where a text is refused.
+///
+/// A text that is no scenario has the line of its refusal as the reply, whatever the other text; then a text that is no
+/// tree's has `refused tree NUMBER`.
+///
+/// It reads the scenario to its end and then the tree, of which it takes at most `LONGEST + 1` and `LONGEST_TREE + 1` bytes.
+/// After `Read` and `Memory` nothing was written. It runs in one thread, and waits for nobody.
+pub fn check_bytes<R: Source, S: Source, W: Sink>(
+    alloc: Global,
+    scenario_reader: &mut R,
+    tree_reader: &mut S,
+    writer: &mut W,
+) -> Result<u8, BytesFault>
+    requires scenario { R.has_failed scenario_reader.old ≡ false }
+    requires tree { S.has_failed tree_reader.old ≡ false }
+    requires writer { W.has_failed writer.old ≡ false }
+    // The reply to what the two sources held was written, and the status is that of the reply.
+    ensures reply { IfOk result (λ status.
+        WroteReply (ToBoth IsCheckReply (R.left scenario_reader.old) (S.left tree_reader.old))
+        (W.written writer.old) (W.written writer.new) status) }
+    // `Write` leaves a part of the reply, and any other fault nothing.
+    ensures part { result ≡ Err BytesFault.Write →
+        WrotePart (ToBoth IsCheckReply (R.left scenario_reader.old) (S.left tree_reader.old))
+        (W.written writer.old) (W.written writer.new) }
+    ensures unwritten { IfErr result (λ e. e ≢ BytesFault.Write → writer.new ≡ writer.old) }
+    // `Read` says that one of the sources failed, and `Write` that the sink did.
+    ensures sources { (R.has_failed scenario_reader.new || S.has_failed tree_reader.new) ≡ tells_read result }
+    ensures sink { W.has_failed writer.new ≡ tells_write result }
+    // No more than one byte past the longest text is taken of each.
+    ensures taken { TookAtMost (longest + 1) (R.left scenario_reader.old) (R.left scenario_reader.new) }
+    ensures taken_too { TookAtMost (most_bytes + 1) (S.left tree_reader.old) (S.left tree_reader.new) }
+{
+    let text = read_text(alloc, scenario_reader, LONGEST)?;
+    let certificate = read_text(alloc, tree_reader, LONGEST_TREE)?;
+    let Ok(reply) = check_reply(alloc, text.as_slice(), certificate.as_slice()) else {
+        return Err(BytesFault::Memory);
+    };
+    send(writer, &reply)
+}
+
+/// The same as `check_bytes`, where the tree is judged in as many threads as there are processors.
+pub fn check_bytes_rows<R: Source, S: Source, W: Sink>(
+    rt: &(impl Threads + Sync),
+    alloc: Global,
+    scenario_reader: &mut R,
+    tree_reader: &mut S,
+    writer: &mut W,
+) -> Result<u8, BytesFault>
+    requires scenario { R.has_failed scenario_reader.old ≡ false }
+    requires tree { S.has_failed tree_reader.old ≡ false }
+    requires writer { W.has_failed writer.old ≡ false }
+    // The reply to what the two sources held was written, and the status is that of the reply.
+    ensures reply { IfOk result (λ status.
+        WroteReply (ToBoth IsCheckReply (R.left scenario_reader.old) (S.left tree_reader.old))
+        (W.written writer.old) (W.written writer.new) status) }
+    // `Write` leaves a part of the reply, and any other fault nothing.
+    ensures part { result ≡ Err BytesFault.Write →
+        WrotePart (ToBoth IsCheckReply (R.left scenario_reader.old) (S.left tree_reader.old))
+        (W.written writer.old) (W.written writer.new) }
+    ensures unwritten { IfErr result (λ e. e ≢ BytesFault.Write → writer.new ≡ writer.old) }
+    // `Read` says that one of the sources failed, and `Write` that the sink did.
+    ensures sources { (R.has_failed scenario_reader.new || S.has_failed tree_reader.new) ≡ tells_read result }
+    ensures sink { W.has_failed writer.new ≡ tells_write result }
+    // No more than one byte past the longest text is taken of each.
+    ensures taken { TookAtMost (longest + 1) (R.left scenario_reader.old) (R.left scenario_reader.new) }
+    ensures taken_too { TookAtMost (most_bytes + 1) (S.left tree_reader.old) (S.left tree_reader.new) }
+{
+    let text = read_text(alloc, scenario_reader, LONGEST)?;
+    let certificate = read_text(alloc, tree_reader, LONGEST_TREE)?;
+    let Ok(reply) = check_reply_rows(rt, alloc, text.as_slice(), certificate.as_slice()) else {
+        return Err(BytesFault::Memory);
+    };
+    send(writer, &reply)
+}
+
+/// What the source holds, or as much of it as tells that it is longer than `limit`.
+fn read_text<R: Source>(alloc: Global, reader: &mut R, limit: usize) -> Result<Vec<u8>, BytesFault>
     requires { R.has_failed reader.old ≡ false }
     ensures text { IfOk result (λ text.
-        IfSome (R.left reader.old) (λ held. text.items ≡ take most_taken held)) }
+        IfSome (R.left reader.old) (λ held. text.items ≡ take (limit + 1) held)) }
     ensures fault { IfErr result (λ e. e ≢ BytesFault.Write) }
     ensures source { R.has_failed reader.new ≡ tells_read result }
-    ensures taken { TookLittle (R.left reader.old) (R.left reader.new) }
+    ensures taken { TookAtMost (limit + 1) (R.left reader.old) (R.left reader.new) }
 {
-    match read_up_to(alloc, reader, LONGEST) {
+    match read_up_to(alloc, reader, limit) {
         Ok(text) => Ok(text),
         Err(ReadFault::Failed) => Err(BytesFault::Read),
         Err(ReadFault::Memory) => Err(BytesFault::Memory),

@@ -3,10 +3,14 @@
 ghost use Rattle.std.specs.Prelude.{◌≡◌, ℕ, List, Option};
 ghost use Rattle.lf_faults.specs.declared.fault.Parts.{Parts};
 ghost use Rattle.lf_scenario.specs.declared.scenario.Scenario.{Scenario};
-ghost use Rattle.leastfault.specs.Answers.{IsAnswer};
-ghost use Rattle.leastfault.specs.Replies.{HasOneReply, IsRunReply, IsSearchReply};
+ghost use Rattle.lf_scenario.specs.Scenarios.{IsText};
+ghost use Rattle.lf_tree.specs.declared.tree.Tree.{Tree};
+ghost use Rattle.leastfault.specs.Answers.{IsAnswer, IsLeast};
+ghost use Rattle.leastfault.specs.Replies.{HasOneReply, IsCheckReply, IsRunReply, IsSearchReply, IsTreeText};
+ghost use Rattle.leastfault.specs.Reports.{yes_line};
 
 use lf_trace::names_are_one;
+use lf_tree::texts_are_json;
 
 /// A scenario has at most one answer.
 pub fn answers_are_one()
@@ -20,3 +24,20 @@ pub fn replies_are_one(faults: &str)
 {
     names_are_one(faults);
 }
+
+/// The texts of a scenario and of a tree have at most one reply of a check, with one status.
+pub fn check_replies_are_one()
+    ensures { (text certificate : List ℕ) → HasOneReply (IsCheckReply text certificate) }
+{
+    texts_are_json();
+}
+
+/// What `yes` says, whoever made the certificate: the texts are those of a scenario and of a tree, and the tree's answer is
+/// the answer to the scenario: it is allowed, its run misses the outcome, and every allowed set with fewer faults reaches it;
+/// or it is none, and every allowed set reaches. The status 0 says the same.
+pub fn yes_is_the_answer()
+    ensures yes { (text certificate : List ℕ) (status : ℕ) → IsCheckReply text certificate yes_line status →
+        (s : Scenario) × (tree : Tree) × IsText s text × IsTreeText tree certificate
+        × IsAnswer s tree.answer × IsLeast s tree.answer }
+    ensures zero { (text certificate reply : List ℕ) → IsCheckReply text certificate reply 0 → reply ≡ yes_line }
+{}

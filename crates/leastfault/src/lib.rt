@@ -1,18 +1,21 @@
 //! The least faults that defeat an outcome.
 //!
 //! An engine reads a scenario's text and writes a reply: the fewest faults that defeat the scenario's outcome, or that no
-//! allowed set of faults does; or the trace of one run.
+//! allowed set of faults does; or the trace of one run; or, of a certificate's text beside it, whether it is right.
 #![tactic(auto)]
 
 mod answer;
 mod answering;
+mod checking;
 mod engine;
 mod laws;
 mod replies;
 
 pub use answer::plain_answer;
-pub use engine::{BytesFault, Searched, run_bytes, search_bytes};
-pub use laws::{answers_are_one, replies_are_one};
+pub use engine::{
+    BytesFault, LONGEST_TREE, Searched, check_bytes, check_bytes_rows, run_bytes, search_bytes,
+};
+pub use laws::{answers_are_one, check_replies_are_one, replies_are_one, yes_is_the_answer};
 pub use lf_streams::{Failed, FromRead, Sink, Source, ToWrite};
 pub use lf_words::{Asked, Unasked, asked};
-pub use replies::{refusal, report};
+pub use replies::{judgement, refusal, report, tree_refusal};

@@ -1,10 +1,12 @@
 //! The lines of replies.
 
 ghost use Rattle.std.specs.Prelude.{◌≡◌, ◌++◌, IfOk, string_bytes};
-ghost use Rattle.leastfault.specs.Reports.{fault_lines, refusal, report};
+ghost use Rattle.leastfault.specs.Reports.{dotted, fault_lines, judgement, path_text, refusal, report, tree_refusal};
 
+use lf_check::Verdict;
 use lf_faults::{FaultSet, fault_text};
 use lf_scenario::ScenarioError;
+use lf_tree::TreeFault;
 use std::alloc::{AllocError, Global};
 
 /// The report of an answer: `least K` and the K faults in their order, or `none B` with the budget B, each on a line of
@@ -41,4 +43,50 @@ pub fn refusal(alloc: Global, error: ScenarioError) -> Result<String, AllocError
         Some(key) => format!(in alloc; "refused {} {}\n", error.number(), key.name()),
         None => format!(in alloc; "refused {}\n", error.number()),
     }
+}
+
+/// The line of a certificate's text that is refused: `refused tree NUMBER`.
+pub fn tree_refusal(alloc: Global, fault: TreeFault) -> Result<String, AllocError>
+    ensures { IfOk result (λ text. string_bytes text ≡ tree_refusal fault) }
+{
+    format!(in alloc; "refused tree {}\n", fault.number())
+}
+
+/// The line of a verdict: `yes`, or `no REASON PATH` with the reason's number and the way from the root to the place that is
+/// wrong.
+pub fn judgement(alloc: Global, verdict: &Verdict) -> Result<String, AllocError>
+    ensures { IfOk result (λ text. string_bytes text ≡ judgement verdict.now) }
+{
+    match verdict {
+        Verdict::Yes => String::from_str(alloc, "yes\n"),
+        Verdict::No { reason, path } => {
+            let mut text = format!(in alloc; "no {} ", reason.number())?;
+            push_path(alloc, path.as_slice(), &mut text)?;
+            text.push('\n')?;
+            Ok(text)
+        }
+    }
+}
+
+/// Adds a way from the root: the places of kids, from 0, with a dot between any two, or `-` for the root itself.
+fn push_path(alloc: Global, path: &[usize], text: &mut String) -> Result<(), AllocError>
+    ensures { IfOk result (λ _. string_bytes text.new ≡ string_bytes text.old ++ path_text path.now) }
+{
+    match path.split_first() {
+        None => text.push('-'),
+        Some((first, rest)) => {
+            text.push_str(format!(in alloc; "{first}")?.as_str())?;
+            push_dotted(alloc, rest, text)
+        }
+    }
+}
+
+/// Adds the places, each after a dot.
+fn push_dotted(alloc: Global, path: &[usize], text: &mut String) -> Result<(), AllocError>
+    ensures { IfOk result (λ _. string_bytes text.new ≡ string_bytes text.old ++ dotted path.now) }
+{
+    'places: for place in path {
+        text.push_str(format!(in alloc; ".{place}")?.as_str())?;
+    }
+    Ok(())
 }

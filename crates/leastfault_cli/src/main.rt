@@ -1,22 +1,30 @@
-//! The program `leastfault`: it reads a scenario and prints the fewest faults that defeat its outcome, or one run.
+//! The program `leastfault`: it reads a scenario and prints the fewest faults that defeat its outcome, or one run, or whether
+//! a certificate of its answer is right.
 //!
 //!     leastfault search FILE
 //!     leastfault run FILE FAULTS
+//!     leastfault check FILE TREE
 //!
-//! FILE is a scenario, and `-` is standard input. FAULTS are faults joined by single commas, and the empty word is none.
-//! With no words it is `search -`. The status is 0 where no allowed set of faults defeats the outcome, where the run
-//! reaches it, and after help or the version; 1 where a set defeats it or the run misses it; 2 where the scenario, the faults or the words
-//! are refused; and 3 where memory ran out or a device failed: standard error then has the line `memory`, `read` or `write`.
+//! FILE is a scenario, and `-` is standard input. FAULTS are faults joined by single commas, and the empty word is none. TREE
+//! is a certificate, and `-` is standard input; it can't be that of FILE and of TREE at once. With no words it is `search -`.
+//!
+//! The status is 0 where no allowed set of faults defeats the outcome, where the run reaches it, where the certificate is
+//! right, and after help or the version; 1 where a set defeats it, the run misses it, or the certificate is wrong; 2 where the
+//! scenario, the faults, the certificate's text or the words are refused; and 3 where memory ran out or a device failed:
+//! standard error then has the line `memory`, `read` or `write`.
 #![tactic(auto)]
 
-use leastfault::{Asked, BytesFault, FromRead, ToWrite, Unasked, asked, run_bytes, search_bytes};
+use leastfault::{
+    Asked, BytesFault, FromRead, ToWrite, Unasked, asked, check_bytes_rows, run_bytes, search_bytes,
+};
 use std::env;
 use std::fs::File;
 use std::io::{ErrorKind, Read};
 use std::process::ExitCode;
+use std::thread::Threads;
 
 fn main(rt: HostRuntime) -> ExitCode {
-    match status(&rt) {
+    match status(&rt, &rt) {
         Ok(status) => ExitCode::from(status),
         Err(fault) => {
             let _printed = eprintln!(rt; "{}", word(fault)).is_ok();
@@ -34,8 +42,8 @@ fn word(fault: BytesFault) -> &'static str {
     }
 }
 
-/// Does what the words ask for. The answer is the status.
-fn status(rt: &HostRuntime) -> Result<u8, BytesFault> {
+/// Does what the words ask for, in threads where that helps. The answer is the status.
+fn status(rt: &HostRuntime, threads: &(impl Threads + Sync)) -> Result<u8, BytesFault> {
     let mut words = match env::args(rt) {
         Ok(words) => words,
         Err(error) if error.kind() == ErrorKind::OutOfMemory => return Err(BytesFault::Memory),
@@ -49,12 +57,13 @@ fn status(rt: &HostRuntime) -> Result<u8, BytesFault> {
         return Err(BytesFault::Memory);
     };
     match asked(rt.alloc(), words.as_slice()) {
-        Ok(asked) => done(rt, &asked),
+        Ok(asked) => done(rt, threads, &asked),
         Err(unasked) => told(rt, &unasked),
     }
 }
 
-/// Tells why the words ask for nothing: help and the version on standard output, and anything else on standard error.
+/// Tells why the words ask for nothing: help, the version and `refused usage` on standard output, and anything else on
+/// standard error.
 fn told(rt: &HostRuntime, unasked: &Unasked) -> Result<u8, BytesFault> {
     if unasked.status() == 3 {
         return Err(BytesFault::Memory);
@@ -71,31 +80,75 @@ fn told(rt: &HostRuntime, unasked: &Unasked) -> Result<u8, BytesFault> {
 }
 
 /// Does what is asked with the scenario of a file, or of standard input where it is `-`.
-fn done(rt: &HostRuntime, asked: &Asked) -> Result<u8, BytesFault> {
+fn done(
+    rt: &HostRuntime,
+    threads: &(impl Threads + Sync),
+    asked: &Asked,
+) -> Result<u8, BytesFault> {
     let file = match asked {
-        Asked::Search { file } | Asked::Run { file, .. } => file.as_str(),
+        Asked::Search { file } | Asked::Run { file, .. } | Asked::Check { file, .. } => {
+            file.as_str()
+        }
     };
     if file == "-" {
-        return replied(rt, asked, rt.stdin());
+        replied(rt, threads, asked, rt.stdin())
+    } else {
+        replied(rt, threads, asked, opened(rt, file)?)
     }
+}
+
+/// A file that can be read.
+fn opened(rt: &HostRuntime, file: &str) -> Result<File, BytesFault> {
     match File::open(rt, file) {
-        Ok(reader) => replied(rt, asked, reader),
+        Ok(file) => Ok(file),
         Err(error) if error.kind() == ErrorKind::OutOfMemory => Err(BytesFault::Memory),
         Err(_) => Err(BytesFault::Read),
     }
 }
 
 /// Does what is asked with the scenario that a reader has, and writes the reply to standard output.
-fn replied<R: Read + Drop>(rt: &HostRuntime, asked: &Asked, reader: R) -> Result<u8, BytesFault> {
-    let mut source = FromRead::new(reader);
-    let mut sink = ToWrite::new(rt.stdout());
+fn replied<R: Read + Drop>(
+    rt: &HostRuntime,
+    threads: &(impl Threads + Sync),
+    asked: &Asked,
+    reader: R,
+) -> Result<u8, BytesFault> {
     match asked {
         Asked::Search { .. } => {
-            let searched = search_bytes(rt.alloc(), &mut source, &mut sink)?;
+            let mut source = FromRead::new(reader);
+            let searched = search_bytes(rt.alloc(), &mut source, &mut ToWrite::new(rt.stdout()))?;
             Ok(searched.status)
         }
         Asked::Run { faults, .. } => {
+            let mut source = FromRead::new(reader);
+            let mut sink = ToWrite::new(rt.stdout());
             run_bytes(rt.alloc(), &mut source, faults.as_str(), &mut sink)
         }
+        Asked::Check { tree, .. } if tree.as_str() == "-" => judged(
+            rt,
+            threads,
+            reader,
+            rt.stdin(),
+        ),
+        Asked::Check { tree, .. } => judged(rt, threads, reader, opened(rt, tree.as_str())?),
     }
+}
+
+/// Judges the certificate that the second reader has for the scenario that the first has.
+fn judged<R: Read + Drop, S: Read + Drop>(
+    rt: &HostRuntime,
+    threads: &(impl Threads + Sync),
+    reader: R,
+    tree_reader: S,
+) -> Result<u8, BytesFault> {
+    let mut source = FromRead::new(reader);
+    let mut tree_source = FromRead::new(tree_reader);
+    let mut sink = ToWrite::new(rt.stdout());
+    check_bytes_rows(
+        threads,
+        rt.alloc(),
+        &mut source,
+        &mut tree_source,
+        &mut sink,
+    )
 }

@@ -1,3 +1,4 @@
+mod Answered
 mod Parts
 mod Plain
 mod Plainly

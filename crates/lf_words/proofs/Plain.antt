@@ -42,8 +42,9 @@ is_taken (x ∷ y ∷ rest) plain = taken_other x (y ∷ rest) (not-true (x == 4
 abbrev pub named_file : Text × List Row → Text × Option Text
 named_file p = (p.0, first_of (codes "file") p.1)
 
-abbrev pub named_both : Text × List Row → Text × Option Text × Option Text
-named_both p = (p.0, first_of (codes "file") p.1, first_of (codes "faults") p.1)
+-- the same with the value of another argument
+abbrev pub named_both : Text → Text × List Row → Text × Option Text × Option Text
+named_both key p = (p.0, first_of (codes "file") p.1, first_of key p.1)
 
 pub search_fault : (file : Text) → IsTaken file → fault_of program (codes "search" ∷ file ∷ []) ≡ []
 unfolding clap_on_literals
@@ -59,10 +60,20 @@ unfolding clap_on_literals
 run_fault file faults taken taken_too = rw (taken.no_end, taken.no_long, taken.no_short, taken_too.no_end, taken_too.no_long, taken_too.no_short) refl
 
 pub run_names : (file faults : Text) → IsTaken file → IsTaken faults
-    → option_map named_both (subcommand_of program (codes "run" ∷ file ∷ faults ∷ []))
+    → option_map (named_both (codes "faults")) (subcommand_of program (codes "run" ∷ file ∷ faults ∷ []))
     ≡ Some (codes "run", Some file, Some faults)
 unfolding clap_on_literals
 run_names file faults taken taken_too = rw (taken.no_end, taken.no_long, taken.no_short, taken_too.no_end, taken_too.no_long, taken_too.no_short) refl
+
+pub check_fault : (file tree : Text) → IsTaken file → IsTaken tree → fault_of program (codes "check" ∷ file ∷ tree ∷ []) ≡ []
+unfolding clap_on_literals
+check_fault file tree taken taken_too = rw (taken.no_end, taken.no_long, taken.no_short, taken_too.no_end, taken_too.no_long, taken_too.no_short) refl
+
+pub check_names : (file tree : Text) → IsTaken file → IsTaken tree
+    → option_map (named_both (codes "tree")) (subcommand_of program (codes "check" ∷ file ∷ tree ∷ []))
+    ≡ Some (codes "check", Some file, Some tree)
+unfolding clap_on_literals
+check_names file tree taken taken_too = rw (taken.no_end, taken.no_long, taken.no_short, taken_too.no_end, taken_too.no_long, taken_too.no_short) refl
 
 pub help_fault : (words : List Text) → fault_of program (codes "--help" ∷ words) ≡ kind.DisplayHelp ∷ []
 unfolding clap_on_literals
@@ -81,6 +92,6 @@ unfolding clap_on_literals
 short_version_fault words = refl
 
 pub unknown_fault : (word : Text) (words : List Text) → IsTaken word → bytes_eq (codes "search") word ≡ false → bytes_eq (codes "run") word ≡ false
-    → fault_of program (word ∷ words) ≡ kind.UnknownArgument ∷ kind.InvalidSubcommand ∷ []
+    → bytes_eq (codes "check") word ≡ false → fault_of program (word ∷ words) ≡ kind.UnknownArgument ∷ kind.InvalidSubcommand ∷ []
 unfolding clap_on_literals
-unknown_fault word words taken no_search no_run = rw (no_search, no_run, taken.no_end, taken.no_long, taken.no_short) refl
+unknown_fault word words taken no_search no_run no_check = rw (no_search, no_run, no_check, taken.no_end, taken.no_long, taken.no_short) refl

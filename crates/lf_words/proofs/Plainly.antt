@@ -1,5 +1,5 @@
 -- Plain words ask for just what they say.
-use Rattle.std.proofs.Common.{◌≡◌, ◌<◌, ◌&&◌, ◌||◌, not, ◌∙◌, ℕ, List, [], ◌∷◌, Option, Some, None, String, Global, inl, inr, refl, sym, ap, subst}
+use Rattle.std.proofs.Common.{◌≡◌, ◌&&◌, ◌||◌, not, ◌∙◌, ℕ, List, [], ◌∷◌, Option, Some, None, String, Global, inl, inr, refl, sym, ap, subst}
 use Rattle.std.proofs.Common.{true, false, codes, map, option_map, slice_index, arith}
 use Rattle.std.specs.Prelude.{Bool, unwrap_or, ◌⊎◌}
 use Rattle.std.specs.Str.{bytes_eq}
@@ -10,30 +10,27 @@ use Rattle.clap.specs.declared.error.kind.ErrorKind.{ErrorKind}
 use Rattle.clap.specs.declared.error.kind.ErrorKind.TheVariants as kind
 use Rattle.clap.specs.Words.{Kinds, Row, Text, fault_of, subcommand_of}
 use Rattle.lf_words.specs.Commands.{program}
-use Rattle.lf_words.specs.Plain.{asks_help, asks_version, is_plain, is_plain_command, is_unknown}
-use Rattle.lf_words.specs.Statuses.{status_of}
-use Rattle.lf_words.specs.Words.{Asks, HasStatus, IsAskedIn, IsRefusal, texts_of}
+use Rattle.lf_words.specs.Plain.{asks_help, asks_version, is_plain, is_plain_command, is_unknown, takes_two}
+use Rattle.lf_words.specs.Statuses.{exit_status, status_of}
+use Rattle.lf_words.specs.Words.{Asks, HasStatus, IsAskedIn, IsRefusal, is_input, shares_input, texts_of}
 use Rattle.lf_words.specs.declared.types.Asked.{Asked}
 use Rattle.lf_words.specs.declared.types.Asked.TheVariants as asked
-use Rattle.lf_words.proofs.Plain.{IsTaken, is_taken, named_both, named_file, run_fault, run_names, search_fault, search_names, help_fault}
-use Rattle.lf_words.proofs.Plain.{short_help_fault, short_version_fault, unknown_fault, version_fault}
+use Rattle.lf_words.specs.declared.unasked.Unasked.{Unasked}
+use Rattle.lf_words.specs.declared.unasked.Unasked.TheVariants as unasked
+use Rattle.lf_words.proofs.Plain.{IsTaken, is_taken, named_both, named_file, check_fault, check_names, run_fault, run_names, search_fault, search_names}
+use Rattle.lf_words.proofs.Plain.{help_fault, short_help_fault, short_version_fault, unknown_fault, version_fault}
+use Rattle.lf_words.proofs.Reading.{apart, no_truth}
 
 abbrev Both : Type 0
 Both = Text × Option Text × Option Text
 
-apart : (m n : ℕ) → m < n → m ≡ n → ⊥
-apart m n less is = absurd (omega arith)
-
-abbrev bit : Bool → ℕ
-bit true = 1
-bit false = 0
-
-no_truth : false ≡ true → ⊥
-no_truth h = apart 0 1 (omega arith) (ap bit h)
-
 both : (x y : Bool) → (x && y) ≡ true → (x ≡ true) × (y ≡ true)
 both true y h = (refl, h)
 both false y h = absurd (no_truth h)
+
+either : (x y : Bool) → (x || y) ≡ true → (x ≡ true) ⊎ (y ≡ true)
+either true y h = inl refl
+either false y h = inr h
 
 abbrev count : {X : Type 0} → Option X → ℕ
 count None = 0
@@ -45,11 +42,18 @@ no_thing x h = apart 0 1 (omega arith) (ap count h)
 some_is : {X : Type 0} (x y : X) → Some x ≡ Some y → x ≡ y
 some_is x y h = ap (λ o. unwrap_or o x) h
 
+-- the names of the commands differ in their first letters
 abbrev first : Text → ℕ
 first text = slice_index text 0
 
-no_command : (name : Text) → name ≡ codes "search" → name ≡ codes "run" → ⊥
-no_command name is_search is_run = apart 114 115 (omega arith) (ap first (sym is_run ∙ is_search))
+run_or_search : (name : Text) → name ≡ codes "run" → name ≡ codes "search" → ⊥
+run_or_search name is_run is_search = apart 114 115 (omega arith) (ap first (sym is_run ∙ is_search))
+
+check_or_search : (name : Text) → name ≡ codes "check" → name ≡ codes "search" → ⊥
+check_or_search name is_check is_search = apart 99 115 (omega arith) (ap first (sym is_check ∙ is_search))
+
+check_or_run : (name : Text) → name ≡ codes "check" → name ≡ codes "run" → ⊥
+check_or_run name is_check is_run = apart 99 114 (omega arith) (ap first (sym is_check ∙ is_run))
 
 search_of : (words : List Text) (o : Option (Text × List Row)) (file : Text) (a : Asked) → option_map named_file o ≡ Some (codes "search", Some file)
     → IsAskedIn words o a → texts_of a ≡ codes "search" ∷ file ∷ []
@@ -60,7 +64,10 @@ search_of words (Some p) file (asked.Search own) names asked =
     ap (λ x. codes "search" ∷ x ∷ []) same
 search_of words (Some p) file (asked.Run own faults) names asked =
     let pair : named_file p ≡ (codes "search", Some file) = some_is _ _ names in
-    absurd (no_command p.0 (ap (λ (q : Text × Option Text). q.0) pair) asked.0.0)
+    absurd (run_or_search p.0 asked.0.0 (ap (λ (q : Text × Option Text). q.0) pair))
+search_of words (Some p) file (asked.Check own tree) names asked =
+    let pair : named_file p ≡ (codes "search", Some file) = some_is _ _ names in
+    absurd (check_or_search p.0 asked.0.0 (ap (λ (q : Text × Option Text). q.0) pair))
 
 asks_search : (words : List Text) (o : Option (Text × List Row)) (file : String Global)
     → option_map named_file o ≡ Some (codes "search", Some (string_bytes file))
@@ -71,40 +78,85 @@ asks_search words (Some p) file names is =
     ((ap (λ (q : Text × Option Text). q.0) pair, ap (λ (q : Text × Option Text). q.1) pair), rw (is) (inl (refl, inl (refl, tt))))
 
 run_of : (words : List Text) (o : Option (Text × List Row)) (file faults : Text) (a : Asked)
-    → option_map named_both o ≡ Some (codes "run", Some file, Some faults)
+    → option_map (named_both (codes "faults")) o ≡ Some (codes "run", Some file, Some faults)
     → IsAskedIn words o a → texts_of a ≡ codes "run" ∷ file ∷ faults ∷ []
 run_of words None file faults a names asked = elim asked [ ]
 run_of words (Some p) file faults (asked.Search own) names asked =
-    let pair : named_both p ≡ (codes "run", Some file, Some faults) = some_is _ _ names in
-    absurd (no_command p.0 asked.0.0 (ap (λ (q : Both). q.0) pair))
+    let pair : named_both (codes "faults") p ≡ (codes "run", Some file, Some faults) = some_is _ _ names in
+    absurd (run_or_search p.0 (ap (λ (q : Both). q.0) pair) asked.0.0)
 run_of words (Some p) file faults (asked.Run own own_faults) names asked =
-    let pair : named_both p ≡ (codes "run", Some file, Some faults) = some_is _ _ names in
+    let pair : named_both (codes "faults") p ≡ (codes "run", Some file, Some faults) = some_is _ _ names in
     let same : own.bytes.items ≡ file = some_is _ _ (sym asked.0.1 ∙ ap (λ (q : Both). q.1) pair) in
     let same_too : own_faults.bytes.items ≡ faults = some_is _ _ (sym asked.0.2 ∙ ap (λ (q : Both). q.2) pair) in
     rw (same, same_too) refl
+run_of words (Some p) file faults (asked.Check own tree) names asked =
+    let pair : named_both (codes "faults") p ≡ (codes "run", Some file, Some faults) = some_is _ _ names in
+    absurd (check_or_run p.0 asked.0.0 (ap (λ (q : Both). q.0) pair))
 
 asks_run : (words : List Text) (o : Option (Text × List Row)) (file faults : String Global)
-    → option_map named_both o ≡ Some (codes "run", Some (string_bytes file), Some (string_bytes faults))
+    → option_map (named_both (codes "faults")) o ≡ Some (codes "run", Some (string_bytes file), Some (string_bytes faults))
     → words ≡ codes "run" ∷ string_bytes file ∷ string_bytes faults ∷ [] → IsAskedIn words o (asked.Run file faults)
 asks_run words None file faults names is = absurd (no_thing _ names)
 asks_run words (Some p) file faults names is =
-    let pair : named_both p ≡ (codes "run", Some (string_bytes file), Some (string_bytes faults)) = some_is _ _ names in
+    let pair : named_both (codes "faults") p ≡ (codes "run", Some (string_bytes file), Some (string_bytes faults)) = some_is _ _ names in
     ((ap (λ (q : Both). q.0) pair, ap (λ (q : Both). q.1) pair, ap (λ (q : Both). q.2) pair), rw (is) (inl (refl, inl (refl, inl (refl, tt)))))
 
--- words that are taken and ask for something are refused for want of memory alone
-only_memory : (words : List Text) (a : Asked) (n : ℕ) → Asks words a → IsRefusal words n → n ≡ 3
-only_memory words a n asks (inl three) = three
-only_memory words a n asks (inr (inl kind)) = absurd (subst (λ (kinds : Kinds). HasStatus kinds n) asks.0 kind)
-only_memory words a n asks (inr (inr nothing)) = absurd (nothing.2 a asks)
+check_of : (words : List Text) (o : Option (Text × List Row)) (file tree : Text) (a : Asked)
+    → option_map (named_both (codes "tree")) o ≡ Some (codes "check", Some file, Some tree)
+    → IsAskedIn words o a → texts_of a ≡ codes "check" ∷ file ∷ tree ∷ []
+check_of words None file tree a names asked = elim asked [ ]
+check_of words (Some p) file tree (asked.Search own) names asked =
+    let pair : named_both (codes "tree") p ≡ (codes "check", Some file, Some tree) = some_is _ _ names in
+    absurd (check_or_search p.0 (ap (λ (q : Both). q.0) pair) asked.0.0)
+check_of words (Some p) file tree (asked.Run own faults) names asked =
+    let pair : named_both (codes "tree") p ≡ (codes "check", Some file, Some tree) = some_is _ _ names in
+    absurd (check_or_run p.0 (ap (λ (q : Both). q.0) pair) asked.0.0)
+check_of words (Some p) file tree (asked.Check own own_tree) names asked =
+    let pair : named_both (codes "tree") p ≡ (codes "check", Some file, Some tree) = some_is _ _ names in
+    let same : own.bytes.items ≡ file = some_is _ _ (sym asked.0.1 ∙ ap (λ (q : Both). q.1) pair) in
+    let same_too : own_tree.bytes.items ≡ tree = some_is _ _ (sym asked.0.2 ∙ ap (λ (q : Both). q.2) pair) in
+    rw (same, same_too) refl
+
+asks_check : (words : List Text) (o : Option (Text × List Row)) (file tree : String Global)
+    → option_map (named_both (codes "tree")) o ≡ Some (codes "check", Some (string_bytes file), Some (string_bytes tree))
+    → words ≡ codes "check" ∷ string_bytes file ∷ string_bytes tree ∷ [] → IsAskedIn words o (asked.Check file tree)
+asks_check words None file tree names is = absurd (no_thing _ names)
+asks_check words (Some p) file tree names is =
+    let pair : named_both (codes "tree") p ≡ (codes "check", Some (string_bytes file), Some (string_bytes tree)) = some_is _ _ names in
+    ((ap (λ (q : Both). q.0) pair, ap (λ (q : Both). q.1) pair, ap (λ (q : Both). q.2) pair), rw (is) (inl (refl, inl (refl, inl (refl, tt)))))
+
+-- words that are taken, and ask for something that can be done, are refused for want of memory alone
+only_memory : (words : List Text) (a : Asked) (u : Unasked) → Asks words a → ((b : Asked) → Asks words b → shares_input b ≡ true → ⊥)
+    → IsRefusal words u → u ≡ unasked.Memory
+only_memory words a (unasked.Told text) asks possible refusal = absurd (subst (λ (kinds : Kinds). HasStatus kinds 0) asks.0 refusal)
+only_memory words a (unasked.Wrong text) asks possible (inl kind) = absurd (subst (λ (kinds : Kinds). HasStatus kinds 2) asks.0 kind)
+only_memory words a (unasked.Wrong text) asks possible (inr nothing) = absurd (nothing.1 a asks)
+only_memory words a unasked.SharedInput asks possible shared = absurd (possible shared.0 shared.1 shared.2)
+only_memory words a unasked.Memory asks possible refusal = refl
 
 search_is : (command file : Text) → is_plain_command (command ∷ file ∷ []) ≡ true → (command ≡ codes "search") × IsTaken file
-search_is command file plain = let h = both (bytes_eq command (codes "search")) (is_plain file) plain in
+search_is command file plain =
+    let h = both (bytes_eq command (codes "search")) (is_plain file) plain in
     ((bytes_eq-Decides command (codes "search")).0 h.0, is_taken file h.1)
 
-run_is : (command file faults : Text) → is_plain_command (command ∷ file ∷ faults ∷ []) ≡ true → (command ≡ codes "run") × IsTaken file × IsTaken faults
-run_is command file faults plain = let h = both (bytes_eq command (codes "run")) (is_plain file && is_plain faults) plain in
-    let k = both (is_plain file) (is_plain faults) h.1 in
-    ((bytes_eq-Decides command (codes "run")).0 h.0, is_taken file k.0, is_taken faults k.1)
+abbrev IsOfTwo : Text → Text → Text → Type 0
+IsOfTwo command one other =
+    (command ≡ codes "run") ⊎ ((command ≡ codes "check") × (not (is_input one && is_input other) ≡ true))
+
+command_is : (command one other : Text) → takes_two command one other ≡ true → IsOfTwo command one other
+command_is command one other takes =
+    elim (either (bytes_eq command (codes "run")) (bytes_eq command (codes "check") && not (is_input one && is_input other)) takes) [
+      | inl run ↦ inl ((bytes_eq-Decides command (codes "run")).0 run)
+      | inr check ↦
+          let h = both (bytes_eq command (codes "check")) (not (is_input one && is_input other)) check in
+          inr ((bytes_eq-Decides command (codes "check")).0 h.0, h.1)
+    ]
+
+two_are : (command one other : Text) → is_plain_command (command ∷ one ∷ other ∷ []) ≡ true → IsOfTwo command one other × IsTaken one × IsTaken other
+two_are command one other plain =
+    let h = both (takes_two command one other) (is_plain one && is_plain other) plain in
+    let k = both (is_plain one) (is_plain other) h.1 in
+    (command_is command one other h.0, is_taken one k.0, is_taken other k.1)
 
 pub asks_plainly : (words : List Text) (a : Asked) → is_plain_command words ≡ true → Asks words a → texts_of a ≡ words
 asks_plainly [] a plain asks = absurd (no_truth plain)
@@ -113,34 +165,136 @@ asks_plainly (command ∷ file ∷ []) a plain asks =
     let is = search_is command file plain in
     subst (λ c. Asks (c ∷ file ∷ []) a → texts_of a ≡ c ∷ file ∷ []) (sym is.0)
     (λ h. search_of _ (subcommand_of program (codes "search" ∷ file ∷ [])) file a (search_names file is.1) h.1) asks
-asks_plainly (command ∷ file ∷ faults ∷ []) a plain asks =
-    let is = run_is command file faults plain in
-    subst (λ c. Asks (c ∷ file ∷ faults ∷ []) a → texts_of a ≡ c ∷ file ∷ faults ∷ []) (sym is.0)
-    (λ h. run_of _ (subcommand_of program (codes "run" ∷ file ∷ faults ∷ [])) file faults a (run_names file faults is.1 is.2) h.1) asks
-asks_plainly (command ∷ file ∷ faults ∷ more ∷ rest) a plain asks = absurd (no_truth plain)
+asks_plainly (command ∷ one ∷ other ∷ []) a plain asks =
+    let is = two_are command one other plain in
+    elim is.0 [
+      | inl run ↦ subst (λ c. Asks (c ∷ one ∷ other ∷ []) a → texts_of a ≡ c ∷ one ∷ other ∷ []) (sym run)
+          (λ h. run_of _ (subcommand_of program (codes "run" ∷ one ∷ other ∷ [])) one other a (run_names one other is.1 is.2) h.1) asks
+      | inr check ↦ subst (λ c. Asks (c ∷ one ∷ other ∷ []) a → texts_of a ≡ c ∷ one ∷ other ∷ []) (sym check.0)
+          (λ h. check_of _ (subcommand_of program (codes "check" ∷ one ∷ other ∷ [])) one other a (check_names one other is.1 is.2) h.1) asks
+    ]
+asks_plainly (command ∷ one ∷ other ∷ more ∷ rest) a plain asks = absurd (no_truth plain)
 
-pub refused_plainly : (ws : List (String Global)) (n : ℕ) → is_plain_command (map string_bytes ws) ≡ true → IsRefusal (map string_bytes ws) n → n ≡ 3
-refused_plainly [] n plain refusal = absurd (no_truth plain)
-refused_plainly (command ∷ []) n plain refusal = absurd (no_truth plain)
-refused_plainly (command ∷ file ∷ []) n plain refusal =
+-- what shares standard input isn't asked for by plain words
+shared_not_plain : (a : Asked) → shares_input a ≡ true → is_plain_command (texts_of a) ≡ true → ⊥
+shared_not_plain (asked.Search file) shared plain = no_truth shared
+shared_not_plain (asked.Run file faults) shared plain = no_truth shared
+shared_not_plain (asked.Check file tree) shared plain =
+    elim (two_are (codes "check") file.bytes.items tree.bytes.items plain).0 [
+      | inl run ↦ check_or_run (codes "check") refl run
+      | inr check ↦ no_truth (sym (not-true _ check.1) ∙ shared)
+    ]
+
+can_be_done : (words : List Text) → is_plain_command words ≡ true → (a : Asked) → Asks words a → shares_input a ≡ true → ⊥
+can_be_done words plain a asks shared =
+    shared_not_plain a shared (subst (λ ws. is_plain_command ws ≡ true) (sym (asks_plainly words a plain asks)) plain)
+
+asks_some : (ws : List (String Global)) → is_plain_command (map string_bytes ws) ≡ true → (a : Asked) × Asks (map string_bytes ws) a
+asks_some [] plain = absurd (no_truth plain)
+asks_some (command ∷ []) plain = absurd (no_truth plain)
+asks_some (command ∷ file ∷ []) plain =
     let is = search_is (string_bytes command) (string_bytes file) plain in
     let words = codes "search" ∷ string_bytes file ∷ [] in
-    only_memory words (asked.Search file) n
-    (search_fault (string_bytes file) is.1, asks_search words (subcommand_of program words) file (search_names (string_bytes file) is.1) refl)
-    (subst (λ c. IsRefusal (c ∷ string_bytes file ∷ []) n) is.0 refusal)
-refused_plainly (command ∷ file ∷ faults ∷ []) n plain refusal =
-    let is = run_is (string_bytes command) (string_bytes file) (string_bytes faults) plain in
-    let words = codes "run" ∷ string_bytes file ∷ string_bytes faults ∷ [] in
-    only_memory words (asked.Run file faults) n (
-      run_fault (string_bytes file) (string_bytes faults) is.1 is.2,
-      asks_run words (subcommand_of program words) file faults (run_names (string_bytes file) (string_bytes faults) is.1 is.2) refl,
+    subst (λ c. (a : Asked) × Asks (c ∷ string_bytes file ∷ []) a) (sym is.0) (
+      asked.Search file,
+      (
+        search_fault (string_bytes file) is.1,
+        asks_search words (subcommand_of program words) file (search_names (string_bytes file) is.1) refl,
+      ),
     )
-    (subst (λ c. IsRefusal (c ∷ string_bytes file ∷ string_bytes faults ∷ []) n) is.0 refusal)
-refused_plainly (command ∷ file ∷ faults ∷ more ∷ rest) n plain refusal = absurd (no_truth plain)
+asks_some (command ∷ one ∷ other ∷ []) plain =
+    let is = two_are (string_bytes command) (string_bytes one) (string_bytes other) plain in
+    elim is.0 [
+      | inl run ↦
+          let words = codes "run" ∷ string_bytes one ∷ string_bytes other ∷ [] in
+          subst (λ c. (a : Asked) × Asks (c ∷ string_bytes one ∷ string_bytes other ∷ []) a) (sym run) (
+            asked.Run one other,
+            (
+              run_fault (string_bytes one) (string_bytes other) is.1 is.2,
+              asks_run words (subcommand_of program words) one other (run_names (string_bytes one) (string_bytes other) is.1 is.2) refl,
+            ),
+          )
+      | inr check ↦
+          let words = codes "check" ∷ string_bytes one ∷ string_bytes other ∷ [] in
+          subst (λ c. (a : Asked) × Asks (c ∷ string_bytes one ∷ string_bytes other ∷ []) a) (sym check.0) (
+            asked.Check one other,
+            (
+              check_fault (string_bytes one) (string_bytes other) is.1 is.2,
+              asks_check words (subcommand_of program words) one other (check_names (string_bytes one) (string_bytes other) is.1 is.2) refl,
+            ),
+          )
+    ]
+asks_some (command ∷ one ∷ other ∷ more ∷ rest) plain = absurd (no_truth plain)
 
-either : (x y : Bool) → (x || y) ≡ true → (x ≡ true) ⊎ (y ≡ true)
-either true y h = inl refl
-either false y h = inr h
+pub refused_plainly : (ws : List (String Global)) (u : Unasked) → is_plain_command (map string_bytes ws) ≡ true → IsRefusal (map string_bytes ws) u
+    → u ≡ unasked.Memory
+refused_plainly ws u plain refusal =
+    let some = asks_some ws plain in
+    only_memory (map string_bytes ws) some.0 u some.1 (can_be_done (map string_bytes ws) plain) refusal
+
+-- `check - -`
+abbrev shared_words : List Text
+shared_words = codes "check" ∷ codes "-" ∷ codes "-" ∷ []
+
+minus_is_taken : IsTaken (codes "-")
+minus_is_taken = is_taken (codes "-") refl
+
+abbrev head : List Text → Text
+head [] = []
+head (x ∷ rest) = x
+
+abbrev second : List Text → Text
+second (x ∷ y ∷ rest) = y
+second _ = []
+
+abbrev third : List Text → Text
+third (x ∷ y ∷ z ∷ rest) = z
+third _ = []
+
+abbrev size : List Text → ℕ
+size [] = 0
+size (x ∷ []) = 1
+size (x ∷ y ∷ []) = 2
+size (x ∷ y ∷ z ∷ []) = 3
+size (x ∷ y ∷ z ∷ more ∷ rest) = 4
+
+shared_is : (a : Asked) → texts_of a ≡ shared_words → shares_input a ≡ true
+shared_is (asked.Search file) is = absurd (apart 2 3 (omega arith) (ap size is))
+shared_is (asked.Run file faults) is = absurd (check_or_run (codes "check") refl (sym (ap head is)))
+shared_is (asked.Check file tree) is =
+    let one : is_input file.bytes.items ≡ true = (bytes_eq-Decides file.bytes.items (codes "-")).1 (ap second is) in
+    let other : is_input tree.bytes.items ≡ true = (bytes_eq-Decides tree.bytes.items (codes "-")).1 (ap third is) in
+    rw (one, other) refl
+
+pub shared_is_refused : (words : List Text) (a : Asked) → words ≡ shared_words → Asks words a → shares_input a ≡ false → ⊥
+shared_is_refused words a is asks possible =
+    let texts : texts_of a ≡ shared_words = check_of _ (subcommand_of program shared_words) (codes "-") (codes "-") a
+    (check_names (codes "-") (codes "-") minus_is_taken minus_is_taken) (subst (λ ws. Asks ws a) is asks).1 in
+    no_truth (sym possible ∙ shared_is a texts)
+
+only_shared : (a : Asked) (u : Unasked) → Asks shared_words a → IsRefusal shared_words u → (u ≡ unasked.SharedInput) ⊎ (u ≡ unasked.Memory)
+only_shared a (unasked.Told text) asks refusal = absurd (subst (λ (kinds : Kinds). HasStatus kinds 0) asks.0 refusal)
+only_shared a (unasked.Wrong text) asks (inl kind) = absurd (subst (λ (kinds : Kinds). HasStatus kinds 2) asks.0 kind)
+only_shared a (unasked.Wrong text) asks (inr nothing) = absurd (nothing.1 a asks)
+only_shared a unasked.SharedInput asks refusal = inl refl
+only_shared a unasked.Memory asks refusal = inr refl
+
+pub shared_refusal : (ws : List (String Global)) (u : Unasked) → map string_bytes ws ≡ shared_words → IsRefusal (map string_bytes ws) u
+    → (u ≡ unasked.SharedInput) ⊎ (u ≡ unasked.Memory)
+shared_refusal [] u is refusal = absurd (apart 0 3 (omega arith) (ap size is))
+shared_refusal (command ∷ []) u is refusal = absurd (apart 1 3 (omega arith) (ap size is))
+shared_refusal (command ∷ file ∷ []) u is refusal = absurd (apart 2 3 (omega arith) (ap size is))
+shared_refusal (command ∷ file ∷ tree ∷ []) u is refusal =
+    let names : option_map (named_both (codes "tree")) (subcommand_of program shared_words)
+    ≡ Some (codes "check", Some (string_bytes file), Some (string_bytes tree)) =
+    rw (ap second is, ap third is) (check_names (codes "-") (codes "-") minus_is_taken minus_is_taken) in
+    let words : shared_words ≡ codes "check" ∷ string_bytes file ∷ string_bytes tree ∷ [] = rw (ap second is, ap third is) refl in
+    only_shared (asked.Check file tree) u (
+      check_fault (codes "-") (codes "-") minus_is_taken minus_is_taken,
+      asks_check shared_words (subcommand_of program shared_words) file tree names words,
+    )
+    (subst (λ words. IsRefusal words u) is refusal)
+shared_refusal (command ∷ file ∷ tree ∷ more ∷ rest) u is refusal = absurd (apart 3 4 (omega arith) (sym (ap size is)))
 
 pub help_is : (words : List Text) → asks_help words ≡ true → fault_of program words ≡ kind.DisplayHelp ∷ []
 help_is [] help = absurd (no_truth help)
@@ -159,9 +313,11 @@ version_is (word ∷ words) version = elim (either (bytes_eq word (codes "--vers
 pub unknown_is : (words : List Text) → is_unknown words ≡ true → fault_of program words ≡ kind.UnknownArgument ∷ kind.InvalidSubcommand ∷ []
 unknown_is [] unknown = absurd (no_truth unknown)
 unknown_is (word ∷ words) unknown =
-    let h = both (is_plain word) (not (bytes_eq (codes "search") word) && not (bytes_eq (codes "run") word)) unknown in
-    let k = both (not (bytes_eq (codes "search") word)) (not (bytes_eq (codes "run") word)) h.1 in
-    unknown_fault word words (is_taken word h.0) (not-true _ k.0) (not-true _ k.1)
+    let no_run = not (bytes_eq (codes "run") word) && not (bytes_eq (codes "check") word) in
+    let h = both (is_plain word) (not (bytes_eq (codes "search") word) && no_run) unknown in
+    let k = both (not (bytes_eq (codes "search") word)) no_run h.1 in
+    let l = both (not (bytes_eq (codes "run") word)) (not (bytes_eq (codes "check") word)) k.1 in
+    unknown_fault word words (is_taken word h.0) (not-true _ k.0) (not-true _ l.0) (not-true _ l.1)
 
 abbrev kinds_count : Kinds → ℕ
 kinds_count [] = 0
@@ -170,22 +326,31 @@ kinds_count (kind ∷ kinds) = 1
 pub takes_none : (k : ErrorKind) (ks : Kinds) (kinds : Kinds) → kinds ≡ k ∷ ks → kinds ≡ [] → ⊥
 takes_none k ks kinds some none = apart 0 1 (omega arith) (ap kinds_count (sym none ∙ some))
 
--- words that are refused for one thing alone have its status
-pub one_status : (words : List Text) (k : ErrorKind) (n : ℕ) → fault_of program words ≡ k ∷ [] → IsRefusal words n → (n ≡ status_of k) ⊎ (n ≡ 3)
-one_status words k n alone (inl three) = inr three
-one_status words k n alone (inr (inl kind)) = elim (subst (λ (kinds : Kinds). HasStatus kinds n) alone kind) [
-  | inl is ↦ inl is
-  | inr none ↦ absurd none
-]
-one_status words k n alone (inr (inr nothing)) = absurd (takes_none _ _ _ alone nothing.1)
+-- the kinds of a refusal have one status alone
+abbrev HaveOne : Kinds → ℕ → Type 0
+HaveOne kinds status = (n : ℕ) → HasStatus kinds n → n ≡ status
 
-pub unknown_status : (words : List Text) (n : ℕ) → is_unknown words ≡ true → IsRefusal words n → (n ≡ 2) ⊎ (n ≡ 3)
-unknown_status words n unknown (inl three) = inr three
-unknown_status words n unknown (inr (inl kind)) = elim (subst (λ (kinds : Kinds). HasStatus kinds n) (unknown_is words unknown) kind) [
-  | inl is ↦ inl is
-  | inr more ↦ elim more [
-    | inl is ↦ inl is
-    | inr none ↦ absurd none
-  ]
-]
-unknown_status words n unknown (inr (inr nothing)) = absurd (takes_none _ _ _ (unknown_is words unknown) nothing.1)
+one_has : (k : ErrorKind) → HaveOne (k ∷ []) (status_of k)
+one_has k n (inl is) = is
+one_has k n (inr none) = absurd none
+
+unknown_has : HaveOne (kind.UnknownArgument ∷ kind.InvalidSubcommand ∷ []) 2
+unknown_has n (inl is) = is
+unknown_has n (inr (inl is)) = is
+unknown_has n (inr (inr none)) = absurd none
+
+-- so words that are refused have this status
+has_one : (words : List Text) (k : ErrorKind) (ks : Kinds) (status : ℕ) (u : Unasked) → fault_of program words ≡ k ∷ ks → HaveOne (k ∷ ks) status
+    → IsRefusal words u → (exit_status u ≡ status) ⊎ (u ≡ unasked.Memory)
+has_one words k ks status (unasked.Told text) are one refusal = inl (one 0 (subst (λ (kinds : Kinds). HasStatus kinds 0) are refusal))
+has_one words k ks status (unasked.Wrong text) are one (inl kind) = inl (one 2 (subst (λ (kinds : Kinds). HasStatus kinds 2) are kind))
+has_one words k ks status (unasked.Wrong text) are one (inr nothing) = absurd (takes_none _ _ _ are nothing.0)
+has_one words k ks status unasked.SharedInput are one shared = absurd (takes_none _ _ _ are shared.1.0)
+has_one words k ks status unasked.Memory are one refusal = inr refl
+
+pub one_status : (words : List Text) (k : ErrorKind) (u : Unasked) → fault_of program words ≡ k ∷ [] → IsRefusal words u
+    → (exit_status u ≡ status_of k) ⊎ (u ≡ unasked.Memory)
+one_status words k u alone refusal = has_one words k [] (status_of k) u alone (one_has k) refusal
+
+pub unknown_status : (words : List Text) (u : Unasked) → is_unknown words ≡ true → IsRefusal words u → (exit_status u ≡ 2) ⊎ (u ≡ unasked.Memory)
+unknown_status words u unknown refusal = has_one words _ _ 2 u (unknown_is words unknown) unknown_has refusal

@@ -1,5 +1,6 @@
 -- From what `clap` answers to what words ask for.
-use Rattle.std.proofs.Common.{◌≡◌, ◌∙◌, ◌⊎◌, ℕ, List, [], ◌∷◌, Option, Some, None, inl, inr, refl, sym, ap, subst, true}
+use Rattle.std.proofs.Common.{◌≡◌, ◌∙◌, ◌⊎◌, ◌<◌, ℕ, List, [], ◌∷◌, Option, Some, None, inl, inr, refl, sym, ap, subst, true, false, arith}
+use Rattle.std.specs.Prelude.{Bool}
 use Rattle.clap.specs.Words.{App, HasKind, HasMatchesOf, IsAmong, Kinds, Row, Text, fault_of, is_simple, is_simple_and_free, subcommand_of, subcommand_rows_of}
 use Rattle.clap.specs.declared.error.Error.{Error}
 use Rattle.clap.specs.declared.error.kind.ErrorKind.{ErrorKind}
@@ -7,9 +8,21 @@ use Rattle.clap.specs.declared.error.kind.ErrorKind.TheVariants as kind
 use Rattle.clap.specs.declared.parser.matches.ArgMatches.{ArgMatches}
 use Rattle.clap.proofs.OnLiterals.{clap_on_literals}
 use Rattle.lf_words.specs.Commands.{program}
-use Rattle.lf_words.specs.Statuses.{status_of}
-use Rattle.lf_words.specs.Words.{Asks, HasStatus, IsAnswer, IsAskedIn, IsRefusal}
+use Rattle.lf_words.specs.Statuses.{exit_status, goes_to_error, status_of}
+use Rattle.lf_words.specs.Words.{Asks, HasStatus, IsAnswer, IsAskedIn, IsRefusal, IsToldFor}
 use Rattle.lf_words.specs.declared.types.Asked.{Asked}
+use Rattle.lf_words.specs.declared.unasked.Unasked.{Unasked}
+use Rattle.lf_words.specs.declared.unasked.Unasked.TheVariants as unasked
+
+pub apart : (m n : ℕ) → m < n → m ≡ n → ⊥
+apart m n less is = absurd (omega arith)
+
+abbrev bit : Bool → ℕ
+bit true = 1
+bit false = 0
+
+pub no_truth : false ≡ true → ⊥
+no_truth h = apart 0 1 (omega arith) (ap bit h)
 
 pub program_is_simple : is_simple program ≡ true
 unfolding clap_on_literals
@@ -24,10 +37,23 @@ has_status [] k n among status = elim among [ ]
 has_status (x ∷ xs) k n (inl is) status = inl (status ∙ ap status_of is)
 has_status (x ∷ xs) k n (inr later) status = inr (has_status xs k n later status)
 
-pub is_refusal : (words : List Text) (k : ErrorKind) (n : ℕ) → n ≡ status_of k
-    → (k ≡ kind.OutOfMemory) ⊎ IsAmong k (fault_of program words) → IsRefusal words n
-is_refusal words k n status (inl memory) = inl (status ∙ ap status_of memory)
-is_refusal words k n status (inr among) = inr (inl (has_status (fault_of program words) k n among status))
+-- what is told of a refusal, by its kind
+pub is_refusal : (words : List Text) (k : ErrorKind) (u : Unasked) → IsToldFor k u
+    → (k ≡ kind.OutOfMemory) ⊎ IsAmong k (fault_of program words) → IsRefusal words u
+is_refusal words k (unasked.Told text) told (inl memory) = absurd (apart 0 3 (omega arith) (sym told ∙ ap status_of memory))
+is_refusal words k (unasked.Told text) told (inr among) = has_status (fault_of program words) k 0 among (sym told)
+is_refusal words k (unasked.Wrong text) told (inl memory) = absurd (apart 2 3 (omega arith) (sym told ∙ ap status_of memory))
+is_refusal words k (unasked.Wrong text) told (inr among) = inl (has_status (fault_of program words) k 2 among (sym told))
+is_refusal words k unasked.SharedInput told among = absurd told
+is_refusal words k unasked.Memory told among = tt
+
+-- the same of words that are taken and ask for nothing
+pub is_unread : (words : List Text) (u : Unasked) → exit_status u ≡ 2 → goes_to_error u ≡ true → fault_of program words ≡ []
+    → ((a : Asked) → Asks words a → ⊥) → IsRefusal words u
+is_unread words (unasked.Told text) status error taken nothing = absurd (apart 0 2 (omega arith) status)
+is_unread words (unasked.Wrong text) status error taken nothing = inr (taken, nothing)
+is_unread words unasked.SharedInput status error taken nothing = absurd (no_truth error)
+is_unread words unasked.Memory status error taken nothing = tt
 
 pub fault_is_none : (app : App) (words : List Text) (m : ArgMatches) → app ≡ program
     → (is_simple_and_free app ≡ true → fault_of app words ≡ []) → fault_of program words ≡ []

@@ -19,6 +19,14 @@ faults = record (new_rule (codes "faults")) { required = true; value_names = 1 }
 abbrev pub run : App
 run = with_rule (with_rule (new_app (codes "run")) file) faults
 
+-- the argument TREE
+abbrev pub tree : Rule
+tree = record (new_rule (codes "tree")) { required = true; value_names = 1 }
+
+-- check FILE TREE
+abbrev pub check : App
+check = with_rule (with_rule (new_app (codes "check")) file) tree
+
 -- the words are all after the program's name, there is a version and no command `help`, and one command has to be named
 abbrev pub plain : App
 plain = on_top (λ s. record s {
@@ -29,4 +37,4 @@ plain = on_top (λ s. record s {
 }) (new_app (codes "leastfault"))
 
 abbrev pub program : App
-program = with_subcommand (with_subcommand plain search.top) run.top
+program = with_subcommand (with_subcommand (with_subcommand plain search.top) run.top) check.top

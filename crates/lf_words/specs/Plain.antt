@@ -2,6 +2,7 @@
 use Rattle.std.specs.Prelude.{◌==◌, ◌&&◌, ◌||◌, Bool, true, false, not, List, [], ◌∷◌, codes}
 use Rattle.std.specs.Str.{bytes_eq}
 use Rattle.clap.specs.Words.{Text}
+use Rattle.lf_words.specs.Words.{is_input}
 
 -- the word is `-`, which is 45, or doesn't begin with it
 abbrev pub is_plain : Text → Bool
@@ -9,10 +10,15 @@ is_plain [] = true
 is_plain (x ∷ []) = true
 is_plain (x ∷ y ∷ rest) = not (x == 45)
 
--- search FILE, or run FILE FAULTS
+-- the command takes two words, and these: `check` takes standard input for one of them at most
+abbrev pub takes_two : Text → Text → Text → Bool
+takes_two command one other =
+    bytes_eq command (codes "run") || (bytes_eq command (codes "check") && not (is_input one && is_input other))
+
+-- search FILE, run FILE FAULTS, or check FILE TREE
 abbrev pub is_plain_command : List Text → Bool
 is_plain_command (command ∷ file ∷ []) = bytes_eq command (codes "search") && is_plain file
-is_plain_command (command ∷ file ∷ faults ∷ []) = bytes_eq command (codes "run") && (is_plain file && is_plain faults)
+is_plain_command (command ∷ one ∷ other ∷ []) = takes_two command one other && (is_plain one && is_plain other)
 is_plain_command _ = false
 
 -- the first word asks for help
@@ -28,4 +34,5 @@ asks_version (word ∷ words) = bytes_eq word (codes "--version") || bytes_eq wo
 -- the first word is no command, and is plain
 abbrev pub is_unknown : List Text → Bool
 is_unknown [] = false
-is_unknown (word ∷ words) = is_plain word && (not (bytes_eq (codes "search") word) && not (bytes_eq (codes "run") word))
+is_unknown (word ∷ words) =
+    is_plain word && (not (bytes_eq (codes "search") word) && (not (bytes_eq (codes "run") word) && not (bytes_eq (codes "check") word)))

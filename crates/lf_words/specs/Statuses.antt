@@ -1,11 +1,23 @@
 -- The statuses of command lines that ask for nothing.
-use Rattle.std.specs.Prelude.{◌==◌, ◌||◌, ℕ, Bool}
+use Rattle.std.specs.Prelude.{ℕ, Bool, true, false}
 use Rattle.clap.specs.declared.error.kind.ErrorKind.{ErrorKind}
 use Rattle.clap.specs.declared.error.kind.ErrorKind.TheVariants as kind
+use Rattle.lf_words.specs.declared.unasked.Unasked.{Unasked}
+use Rattle.lf_words.specs.declared.unasked.Unasked.TheVariants as unasked
 
 -- help or the version, wrong words, want of memory
-abbrev pub is_status : ℕ → Bool
-is_status n = n == 0 || n == 2 || n == 3
+abbrev pub exit_status : Unasked → ℕ
+exit_status (unasked.Told text) = 0
+exit_status (unasked.Wrong text) = 2
+exit_status unasked.SharedInput = 2
+exit_status unasked.Memory = 3
+
+-- what is told of wrong words is an error
+abbrev pub goes_to_error : Unasked → Bool
+goes_to_error (unasked.Told text) = false
+goes_to_error (unasked.Wrong text) = true
+goes_to_error unasked.SharedInput = false
+goes_to_error unasked.Memory = true
 
 -- the status for a kind of `clap`'s refusals
 abbrev pub status_of : ErrorKind → ℕ

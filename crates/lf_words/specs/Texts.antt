@@ -1,8 +1,11 @@
 -- What is told.
-use Rattle.std.specs.Prelude.{List, [], ℕ}
-use Rattle.std.specs.Option.{option_map_or}
+use Rattle.std.specs.Prelude.{List, [], ℕ, codes}
 use Rattle.lf_words.specs.declared.unasked.Unasked.{Unasked}
+use Rattle.lf_words.specs.declared.unasked.Unasked.TheVariants as unasked
 
 -- nothing for want of memory
 abbrev pub text_of : Unasked → List ℕ
-text_of u = option_map_or (λ t. t.bytes.items) u.text []
+text_of (unasked.Told text) = text.bytes.items
+text_of (unasked.Wrong text) = text.bytes.items
+text_of unasked.SharedInput = codes "refused usage\n"
+text_of unasked.Memory = []

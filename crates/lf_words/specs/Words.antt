@@ -1,10 +1,14 @@
 -- What words ask for.
-use Rattle.std.specs.Prelude.{◌≡◌, ◌⊎◌, ⊤, ℕ, List, [], ◌∷◌, Option, Some, None, IsSomeAnd, codes}
+use Rattle.std.specs.Prelude.{◌≡◌, ◌⊎◌, ◌&&◌, ⊤, Bool, true, false, ℕ, List, [], ◌∷◌, Option, Some, None, IsSomeAnd, codes}
+use Rattle.std.specs.Str.{bytes_eq}
+use Rattle.clap.specs.declared.error.kind.ErrorKind.{ErrorKind}
 use Rattle.clap.specs.Words.{Kinds, Row, Text, fault_of, first_of, subcommand_of}
 use Rattle.lf_words.specs.Commands.{program}
 use Rattle.lf_words.specs.Statuses.{status_of}
 use Rattle.lf_words.specs.declared.types.Asked.{Asked}
 use Rattle.lf_words.specs.declared.types.Asked.TheVariants as asked
+use Rattle.lf_words.specs.declared.unasked.Unasked.{Unasked}
+use Rattle.lf_words.specs.declared.unasked.Unasked.TheVariants as unasked
 
 -- the texts are among the words, in their order
 abbrev pub IsPartOf : List Text → List Text → Type 0
@@ -16,12 +20,25 @@ IsPartOf (text ∷ texts) (word ∷ words) = ((text ≡ word) × IsPartOf texts 
 abbrev pub texts_of : Asked → List Text
 texts_of (asked.Search file) = codes "search" ∷ file.bytes.items ∷ []
 texts_of (asked.Run file faults) = codes "run" ∷ file.bytes.items ∷ faults.bytes.items ∷ []
+texts_of (asked.Check file tree) = codes "check" ∷ file.bytes.items ∷ tree.bytes.items ∷ []
+
+-- the file is standard input
+abbrev pub is_input : Text → Bool
+is_input file = bytes_eq file (codes "-")
+
+-- two texts are to be read from standard input
+abbrev pub shares_input : Asked → Bool
+shares_input (asked.Search file) = false
+shares_input (asked.Run file faults) = false
+shares_input (asked.Check file tree) = is_input file.bytes.items && is_input tree.bytes.items
 
 -- the command of this name with these matches asks for this
 abbrev pub IsMatched : Text → List Row → Asked → Type 0
 IsMatched name rows (asked.Search file) = (name ≡ codes "search") × (first_of (codes "file") rows ≡ Some file.bytes.items)
 IsMatched name rows (asked.Run file faults) = (name ≡ codes "run") × (first_of (codes "file") rows ≡ Some file.bytes.items)
     × (first_of (codes "faults") rows ≡ Some faults.bytes.items)
+IsMatched name rows (asked.Check file tree) = (name ≡ codes "check") × (first_of (codes "file") rows ≡ Some file.bytes.items)
+    × (first_of (codes "tree") rows ≡ Some tree.bytes.items)
 
 -- it asks for this, and of words that are there
 abbrev pub IsAskedBy : List Text → Text → List Row → Asked → Type 0
@@ -45,8 +62,18 @@ abbrev pub IsAnswer : (Asked → Type 0) → Option Asked → Type 0
 IsAnswer P (Some a) = P a
 IsAnswer P None = (a : Asked) → P a → ⊥
 
--- the status of a refusal: for want of memory, as `clap` refuses the words, or of words that it takes and that ask for
--- nothing
-abbrev pub IsRefusal : List Text → ℕ → Type 0
-IsRefusal words n = (n ≡ 3) ⊎ (HasStatus (fault_of program words) n
-    ⊎ ((n ≡ 2) × (fault_of program words ≡ []) × ((a : Asked) → Asks words a → ⊥)))
+-- a refusal of `clap`'s of this kind is told like this
+abbrev pub IsToldFor : ErrorKind → Unasked → Type 0
+IsToldFor kind (unasked.Told text) = status_of kind ≡ 0
+IsToldFor kind (unasked.Wrong text) = status_of kind ≡ 2
+IsToldFor kind unasked.SharedInput = ⊥
+IsToldFor kind unasked.Memory = ⊥
+
+-- why the words ask for nothing that can be done: `clap` refuses them so, or takes them and they ask for nothing; or they ask
+-- for two texts from standard input. Memory may be wanting for any words
+abbrev pub IsRefusal : List Text → Unasked → Type 0
+IsRefusal words (unasked.Told text) = HasStatus (fault_of program words) 0
+IsRefusal words (unasked.Wrong text) =
+    HasStatus (fault_of program words) 2 ⊎ ((fault_of program words ≡ []) × ((a : Asked) → Asks words a → ⊥))
+IsRefusal words unasked.SharedInput = (a : Asked) × Asks words a × (shares_input a ≡ true)
+IsRefusal words unasked.Memory = ⊤

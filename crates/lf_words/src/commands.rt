@@ -3,7 +3,7 @@
 ghost use Rattle.std.specs.Prelude.{◌≡◌, IfOk, false};
 ghost use Rattle.clap.specs.Words.{app_of, rule_of};
 ghost use Rattle.clap.specs.declared.builder.command.Command.TheViews.{out-Command};
-ghost use Rattle.lf_words.specs.Commands.{file, plain, program, run, search};
+ghost use Rattle.lf_words.specs.Commands.{check, file, plain, program, run, search, tree};
 
 use clap::{Arg, Command};
 use std::alloc::{AllocError, Global};
@@ -20,11 +20,12 @@ With no words it reads a scenario from standard input and searches, as `search -
 const WORDS: &str = "Words:
   FILE    a file with a scenario in TOML, or - for standard input
   FAULTS  faults joined by commas, as in 'omit 0>1 @2,crash 2 @3'; the empty word '' for none
+  TREE    a file with a certificate, or - for standard input; not both FILE and TREE can be -
 
 Exit status:
-  0  no allowed set of faults misses the outcome, or the run reaches it, or help or the version was asked for
-  1  a set of faults that misses the outcome was found, or the run misses it
-  2  the scenario or the faults were refused, or the words were wrong
+  0  no allowed set of faults misses the outcome, the run reaches it, or the certificate is right; also help and the version
+  1  a set of faults that misses the outcome was found, the run misses it, or the certificate is wrong
+  2  the scenario, the faults or the certificate's text were refused, or the words were wrong
   3  memory was wanting, or a device failed";
 
 /// The command line of the program, with the program's name in help.
@@ -40,7 +41,8 @@ fn unnamed<'a>(alloc: Global) -> Result<Command<'a>, AllocError>
 {
     plain(alloc)
         .subcommand(search(alloc)?)?
-        .subcommand(run(alloc)?)
+        .subcommand(run(alloc)?)?
+        .subcommand(check(alloc)?)
 }
 
 /// The command line without its commands.
@@ -79,6 +81,28 @@ fn run<'a>(alloc: Global) -> Result<Command<'a>, AllocError>
         .about("Runs the scenario FILE once under the faults FAULTS, and prints what happens")
         .arg(file(alloc))?
         .arg(faults)
+}
+
+/// The command `check FILE TREE`.
+fn check<'a>(alloc: Global) -> Result<Command<'a>, AllocError>
+    ensures { IfOk result (λ c. (app_of c ≡ check) × ((out-Command c).has_globals ≡ false)) }
+{
+    Command::new(alloc, "check")
+        .about(
+            "Judges the certificate TREE of an answer to the scenario FILE: prints yes, or why not",
+        )
+        .arg(file(alloc))?
+        .arg(tree(alloc))
+}
+
+/// The argument TREE.
+fn tree<'a>(alloc: Global) -> Arg<'a>
+    ensures { (rule_of result ≡ tree) × (result.global ≡ false) }
+{
+    Arg::new(alloc, "tree")
+        .required(true)
+        .value_name("TREE")
+        .help("A file with a certificate, or - for standard input")
 }
 
 /// The argument FILE.

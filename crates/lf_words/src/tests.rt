@@ -33,6 +33,14 @@ fn run(alloc: Global, file: &str, faults: &str) -> Result<Asked, AllocError> {
     })
 }
 
+/// A check of a certificate for a file.
+fn check(alloc: Global, file: &str, tree: &str) -> Result<Asked, AllocError> {
+    Ok(Asked::Check {
+        file: String::from_str(alloc, file)?,
+        tree: String::from_str(alloc, tree)?,
+    })
+}
+
 #[test]
 fn no_words_search_standard_input(rt: HostRuntime) -> Result<(), Fail> {
     let alloc = rt.alloc();
@@ -88,6 +96,42 @@ fn a_run_names_its_file_and_its_faults(rt: HostRuntime) -> Result<(), Fail> {
 }
 
 #[test]
+fn a_check_names_its_file_and_its_tree(rt: HostRuntime) -> Result<(), Fail> {
+    let alloc = rt.alloc();
+    for (words, file, tree) in [
+        (["check", "a.toml", "a.json"].as_slice(), "a.toml", "a.json"),
+        (["check", "-", "a.json"].as_slice(), "-", "a.json"),
+        (["check", "a.toml", "-"].as_slice(), "a.toml", "-"),
+        (["check", "check", ""].as_slice(), "check", ""),
+        (["check", "--", "-a", "-"].as_slice(), "-a", "-"),
+    ] {
+        assert_eq!(rt;
+            read(alloc, words).ok(),
+            Some(check(alloc, file, tree)?),
+            "of {file}"
+        );
+    }
+    Ok(())
+}
+
+#[test]
+fn two_texts_from_one_input_are_refused(rt: HostRuntime) {
+    for words in [
+        ["check", "-", "-"].as_slice(),
+        ["check", "--", "-", "-"].as_slice(),
+    ] {
+        match read(rt.alloc(), words) {
+            Ok(asked) => assert!(rt; false, "{words:?} ask for {asked:?}"),
+            Err(unasked) => {
+                assert_eq!(rt; unasked.status(), 2, "of {words:?}");
+                assert!(rt; !unasked.is_error());
+                assert_eq!(rt; unasked.text(), "refused usage\n");
+            }
+        }
+    }
+}
+
+#[test]
 fn wrong_words_are_refused(rt: HostRuntime) {
     for words in [
         ["search"].as_slice(),
@@ -105,6 +149,9 @@ fn wrong_words_are_refused(rt: HostRuntime) {
         ["run", "a"].as_slice(),
         ["run", "a", "crash 0 @1", "crash 1 @1"].as_slice(),
         ["run", "a", "-x"].as_slice(),
+        ["check", "a"].as_slice(),
+        ["check", "a", "b", "c"].as_slice(),
+        ["check", "-", "-", "-"].as_slice(),
         ["search", "--file", "a"].as_slice(),
         ["search", "a", "--workers", "2"].as_slice(),
         ["search", "--version"].as_slice(),
@@ -131,6 +178,7 @@ fn help_is_no_error(rt: HostRuntime) {
         ["search", "-h"].as_slice(),
         ["search", "a", "--help"].as_slice(),
         ["run", "--help"].as_slice(),
+        ["check", "--help"].as_slice(),
         ["--help", "run"].as_slice(),
     ] {
         match read(rt.alloc(), words) {

@@ -1,5 +1,8 @@
 //! What a command line asks for.
 
+ghost use Rattle.std.specs.Prelude.{◌≡◌};
+ghost use Rattle.lf_words.specs.Words.{shares_input};
+
 /// What a command line asks for. A file stands here as it was written; `-` is standard input.
 #[derive(Debug, PartialEq, Eq, Drop)]
 pub enum Asked {
@@ -15,4 +18,23 @@ pub enum Asked {
         /// The faults, as they were written.
         faults: String,
     },
+    /// To judge a certificate of a scenario's answer.
+    Check {
+        /// The file of the scenario.
+        file: String,
+        /// The file of the certificate.
+        tree: String,
+    },
+}
+
+impl Asked {
+    /// Whether two texts are to be read from standard input.
+    pub(crate) fn shares_input(&self) -> bool
+        ensures { result ≡ shares_input self.now }
+    {
+        match self {
+            Asked::Check { file, tree } => file.as_str() == "-" && tree.as_str() == "-",
+            Asked::Search { .. } | Asked::Run { .. } => false,
+        }
+    }
 }

@@ -1,56 +1,65 @@
 //! Why a command line asks for nothing.
 
-ghost use Rattle.std.specs.Prelude.{◌≡◌, ◌≢◌, ◌==◌, ◌↔◌, IsTrue, is_some, not, [], true};
-ghost use Rattle.lf_words.specs.Statuses.{is_status};
+ghost use Rattle.std.specs.Prelude.{◌≡◌};
+ghost use Rattle.lf_words.specs.Statuses.{exit_status, goes_to_error};
+ghost use Rattle.lf_words.specs.Texts.{text_of};
 
 use std::alloc::AllocError;
 
 /// Why a command line asks for nothing that can be done.
 #[derive(Debug, Drop)]
-pub struct Unasked {
-    pub(crate) status: u8,
-    pub(crate) text: Option<String>,
-    ghost known: { is_status status ≡ true },
-    ghost told: { is_some text ≡ not (status == 3) },
+pub enum Unasked {
+    /// Help or the version was asked for: what to tell.
+    Told(String),
+    /// The words are wrong: what to tell.
+    Wrong(String),
+    /// Both texts of a check were to come from standard input.
+    SharedInput,
+    /// Memory ran out.
+    Memory,
 }
 
 impl Unasked {
-    ghost use Rattle.lf_words.specs.Texts.{text_of};
-
-    /// The status to exit with: 0 where help or the version was asked for, 2 for wrong words, 3 for want of memory.
+    /// The status to exit with: 0 where help or the version was asked for, 2 where the words are wrong or both texts of a
+    /// check were to come from standard input, 3 for want of memory.
     pub fn status(&self) -> u8
-        ensures value { result ≡ self.now.status }
-        ensures known { is_status result ≡ true }
+        ensures { result ≡ exit_status self.now }
     {
-        self.status
+        match self {
+            Unasked::Told(_) => 0,
+            Unasked::Wrong(_) | Unasked::SharedInput => 2,
+            Unasked::Memory => 3,
+        }
     }
 
     /// What to tell the user, with its last line feed. Empty for want of memory.
     pub fn text(&self) -> &str
-        ensures value { result.now ≡ text_of self.now }
-        ensures memory { self.now.status ≡ 3 → result.now ≡ [] }
+        ensures { result.now ≡ text_of self.now }
     {
-        match &self.text {
-            Some(text) => text.as_str(),
-            None => "",
+        match self {
+            Unasked::Told(text) | Unasked::Wrong(text) => text.as_str(),
+            Unasked::SharedInput => "refused usage\n",
+            Unasked::Memory => "",
         }
     }
 
-    /// Whether the text goes to standard error. Help and the version go to standard output.
+    /// Whether the text goes to standard error. Help, the version and the line of a refusal go to standard output.
     pub fn is_error(&self) -> bool
-        ensures { IsTrue result ↔ (self.now.status ≢ 0) }
+        ensures { result ≡ goes_to_error self.now }
     {
-        self.status != 0
+        match self {
+            Unasked::Told(_) | Unasked::SharedInput => false,
+            Unasked::Wrong(_) | Unasked::Memory => true,
+        }
     }
 }
 
 impl From<AllocError> for Unasked {
-    ghost from_gives = { λ _ u. u.status ≡ 3 };
+    ghost use Rattle.lf_words.specs.declared.unasked.Unasked.TheVariants.{Memory};
+
+    ghost from_gives = { λ _ u. u ≡ Memory };
 
     fn from(_error: AllocError) -> Unasked {
-        Unasked {
-            status: 3,
-            text: None,
-        }
+        Unasked::Memory
     }
 }

@@ -1,11 +1,11 @@
 //! The reading of a command line.
 
-ghost use Rattle.std.specs.Prelude.{◌≡◌, ◌≢◌, ◌↔◌, ◌⊎◌, IsTrue, IfOk, IfErr, IsErrAnd, MatchResult, [], ◌∷◌, map, option_map, codes, true};
+ghost use Rattle.std.specs.Prelude.{◌≡◌, ◌≢◌, ◌↔◌, ◌⊎◌, IsTrue, IfOk, IsErrAnd, MatchResult, [], ◌∷◌, map, option_map, codes, false, true};
 ghost use Rattle.std.specs.String.{string_bytes};
 ghost use Rattle.clap.specs.Words.{first_of, found_of, kind_of, rows_of, subcommand_rows_of};
 ghost use Rattle.lf_words.specs.Plain.{asks_help, asks_version, is_plain_command, is_unknown};
-ghost use Rattle.lf_words.specs.Statuses.{is_status, status_of};
-ghost use Rattle.lf_words.specs.Words.{Asks, IsAnswer, IsAskedBy, IsAskedIn, IsPartOf, IsRefusal, texts_of};
+ghost use Rattle.lf_words.specs.Statuses.{exit_status, goes_to_error};
+ghost use Rattle.lf_words.specs.Words.{Asks, IsAnswer, IsAskedBy, IsAskedIn, IsPartOf, IsRefusal, IsToldFor, shares_input, texts_of};
 
 use crate::commands::program;
 use crate::{Asked, Unasked};
@@ -15,22 +15,24 @@ use std::alloc::{AllocError, Global};
 
 /// What the words after the program's name ask for. No words ask for `search -`.
 ///
-/// Plain words, which are `-` or don't begin with it, ask for just what they say. Of other words, as where an option or
-/// `--` is among them, `clap` decides. The status 3 comes only where memory has run out.
+/// Plain words, which are `-` or don't begin with it, ask for just what they say; but `check - -`, which would have to read
+/// both its texts from standard input, is refused. Of other words, as where an option or `--` is among them, `clap` decides.
+/// `Memory` comes only where memory has run out.
 pub fn asked(alloc: Global, words: &[String]) -> Result<Asked, Unasked>
     ensures no_words { words.now ≡ [] → MatchResult result
-        (λ a. texts_of a ≡ codes "search" ∷ codes "-" ∷ []) (λ u. u.status ≡ 3) }
+        (λ a. texts_of a ≡ codes "search" ∷ codes "-" ∷ []) (λ u. u ≡ Unasked.Memory) }
     ensures plain { is_plain_command (map string_bytes words.now) ≡ true → MatchResult result
-        (λ a. texts_of a ≡ map string_bytes words.now) (λ u. u.status ≡ 3) }
+        (λ a. texts_of a ≡ map string_bytes words.now) (λ u. u ≡ Unasked.Memory) }
+    ensures shared { map string_bytes words.now ≡ codes "check" ∷ codes "-" ∷ codes "-" ∷ [] → IsErrAnd result
+        (λ u. (u ≡ Unasked.SharedInput) ⊎ (u ≡ Unasked.Memory)) }
     ensures help { asks_help (map string_bytes words.now) ≡ true → IsErrAnd result
-        (λ u. (u.status ≡ 0) ⊎ (u.status ≡ 3)) }
+        (λ u. (exit_status u ≡ 0) ⊎ (u ≡ Unasked.Memory)) }
     ensures version { asks_version (map string_bytes words.now) ≡ true → IsErrAnd result
-        (λ u. (u.status ≡ 0) ⊎ (u.status ≡ 3)) }
+        (λ u. (exit_status u ≡ 0) ⊎ (u ≡ Unasked.Memory)) }
     ensures unknown { is_unknown (map string_bytes words.now) ≡ true → IsErrAnd result
-        (λ u. (u.status ≡ 2) ⊎ (u.status ≡ 3)) }
-    ensures words { words.now ≢ [] → MatchResult result (Asks (map string_bytes words.now))
-        (λ u. IsRefusal (map string_bytes words.now) u.status) }
-    ensures status { IfErr result (λ u. is_status u.status ≡ true) }
+        (λ u. (exit_status u ≡ 2) ⊎ (u ≡ Unasked.Memory)) }
+    ensures words { words.now ≢ [] → MatchResult result
+        (λ a. Asks (map string_bytes words.now) a × (shares_input a ≡ false)) (IsRefusal (map string_bytes words.now)) }
 {
     if words.is_empty() {
         return Ok(Asked::Search {
@@ -39,10 +41,22 @@ pub fn asked(alloc: Global, words: &[String]) -> Result<Asked, Unasked>
     }
     match program(alloc)?.try_get_matches_from(words) {
         Ok(matches) => match command(alloc, words, &matches)? {
-            Some(asked) => Ok(asked),
+            Some(asked) => possible(asked),
             None => Err(unread(alloc)?),
         },
         Err(error) => Err(refused(alloc, &error)?),
+    }
+}
+
+/// What is asked for, where it can be done.
+fn possible(asked: Asked) -> Result<Asked, Unasked>
+    ensures { MatchResult result (λ a. (a ≡ asked) × (shares_input asked ≡ false))
+        (λ u. (u ≡ Unasked.SharedInput) × (shares_input asked ≡ true)) }
+{
+    if asked.shares_input() {
+        Err(Unasked::SharedInput)
+    } else {
+        Ok(asked)
     }
 }
 
@@ -58,6 +72,7 @@ fn command(
     match matches.subcommand() {
         Some((name, rest)) if name == "search" => search(alloc, words, rest),
         Some((name, rest)) if name == "run" => run(alloc, words, rest),
+        Some((name, rest)) if name == "check" => check(alloc, words, rest),
         _ => Ok(None),
     }
 }
@@ -106,6 +121,30 @@ fn run(
     }))
 }
 
+/// What the matches of `check` ask for. None where they ask for nothing that is among the words.
+fn check(
+    alloc: Global,
+    words: &[String],
+    matches: &ArgMatches<'_>,
+) -> Result<Option<Asked>, AllocError>
+    ensures { IfOk result (IsAnswer (IsAskedBy (map string_bytes words.now) (codes "check")
+        (rows_of (found_of matches.now)))) }
+{
+    let Some(file) = value(matches, "file") else {
+        return Ok(None);
+    };
+    let Some(tree) = value(matches, "tree") else {
+        return Ok(None);
+    };
+    if !are_part_of(&["check", file, tree], words) {
+        return Ok(None);
+    }
+    Ok(Some(Asked::Check {
+        file: String::from_str(alloc, file)?,
+        tree: String::from_str(alloc, tree)?,
+    }))
+}
+
 /// The value of an argument.
 fn value<'a>(matches: &ArgMatches<'a>, argument: &str) -> Option<&'a str>
     ensures { option_map (λ s. s.now) result
@@ -114,29 +153,24 @@ fn value<'a>(matches: &ArgMatches<'a>, argument: &str) -> Option<&'a str>
     matches.get_str(argument)
 }
 
-/// The refusal of words that `clap` takes and that ask for nothing.
+/// What to tell of words that `clap` takes and that ask for nothing.
 fn unread(alloc: Global) -> Result<Unasked, AllocError>
-    ensures { IfOk result (λ u. u.status ≡ 2) }
+    ensures { IfOk result (λ u. (exit_status u ≡ 2) × (goes_to_error u ≡ true)) }
 {
-    Ok(Unasked {
-        status: 2,
-        text: Some(String::from_str(alloc, "error: the words ask for nothing\n")?),
-    })
+    Ok(Unasked::Wrong(String::from_str(alloc, "error: the words ask for nothing\n")?))
 }
 
-/// Why `clap` refuses the words.
+/// What to tell of words that `clap` refuses.
 fn refused(alloc: Global, error: &Error) -> Result<Unasked, AllocError>
-    ensures { IfOk result (λ u. u.status ≡ status_of (kind_of error.now)) }
+    ensures { IfOk result (IsToldFor (kind_of error.now)) }
 {
-    let status = match error.kind() {
-        ErrorKind::OutOfMemory => return Err(AllocError),
-        ErrorKind::DisplayHelp | ErrorKind::DisplayVersion => 0,
-        _ => 2,
-    };
-    Ok(Unasked {
-        status,
-        text: Some(error.to_string(alloc)?),
-    })
+    match error.kind() {
+        ErrorKind::OutOfMemory => Err(AllocError),
+        ErrorKind::DisplayHelp | ErrorKind::DisplayVersion => {
+            Ok(Unasked::Told(error.to_string(alloc)?))
+        }
+        _ => Ok(Unasked::Wrong(error.to_string(alloc)?)),
+    }
 }
 
 /// Whether the texts are all among the words, in their order.

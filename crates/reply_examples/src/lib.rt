@@ -4,6 +4,10 @@
 #![tactic(auto)]
 
 #[cfg(test)]
+mod check_devices;
+#[cfg(test)]
+mod checks;
+#[cfg(test)]
 mod devices;
 #[cfg(test)]
 mod formulas;

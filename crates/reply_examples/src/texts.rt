@@ -1,10 +1,11 @@
 //! The texts of examples, and how the replies to them are compared.
 
-use leastfault::{run_bytes, search_bytes};
+use leastfault::{check_bytes, check_bytes_rows, run_bytes, search_bytes};
 use lf_streams::{FromRead, ToWrite};
 use std::alloc::{AllocError, Global};
 use std::process::Abort;
 use std::test::Fail;
+use std::thread::Threads;
 
 /// Three nodes, of which node 0 sends the value once.
 pub(crate) const ONCE: &str =
@@ -83,6 +84,71 @@ pub(crate) fn run_replies(
     let mut source = FromRead::new(text);
     let status = run_bytes(alloc, &mut source, faults, &mut ToWrite::new(&mut out))?;
     is_reply(rt, alloc, out.as_slice(), status, row, name)
+}
+
+/// The check of the tree's text for the scenario's has this status and this reply, in one thread and in several.
+pub(crate) fn check_replies(
+    rt: &(impl Abort + Threads + Sync),
+    alloc: Global,
+    text: &[u8],
+    tree: &[u8],
+    row: &str,
+    name: &str,
+) -> Result<(), Fail> {
+    let mut out = Vec::new(alloc);
+    let mut source = FromRead::new(text);
+    let mut tree_source = FromRead::new(tree);
+    let status = check_bytes(
+        alloc,
+        &mut source,
+        &mut tree_source,
+        &mut ToWrite::new(&mut out),
+    )?;
+    is_reply(rt, alloc, out.as_slice(), status, row, name)?;
+    check_rows_replies(rt, alloc, text, tree, row, name)
+}
+
+/// The same, in several threads alone.
+fn check_rows_replies(
+    rt: &(impl Abort + Threads + Sync),
+    alloc: Global,
+    text: &[u8],
+    tree: &[u8],
+    row: &str,
+    name: &str,
+) -> Result<(), Fail> {
+    let mut out = Vec::new(alloc);
+    let mut source = FromRead::new(text);
+    let mut tree_source = FromRead::new(tree);
+    let status = check_bytes_rows(
+        rt,
+        alloc,
+        &mut source,
+        &mut tree_source,
+        &mut ToWrite::new(&mut out),
+    )?;
+    is_reply(rt, alloc, out.as_slice(), status, row, name)
+}
+
+/// For each line of the table, a tree's text, a status and a reply: the check of that text for the scenario has this reply.
+pub(crate) fn checks(
+    rt: &(impl Abort + Threads + Sync),
+    alloc: Global,
+    scenario: &str,
+    table: &str,
+) -> Result<(), Fail> {
+    for row in table.lines() {
+        let (tree, expected) = columns(row);
+        check_replies(
+            rt,
+            alloc,
+            scenario.as_bytes(),
+            tree.as_bytes(),
+            expected,
+            row,
+        )?;
+    }
+    Ok(())
 }
 
 /// For each line of the table, bounds, further lines, a status and a reply: the search of that scenario has this reply.

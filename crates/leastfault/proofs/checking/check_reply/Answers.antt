@@ -1,0 +1,18 @@
+use Rattle.std.proofs.Common.{◌≡◌, string_bytes, subst}
+use Rattle.std.proofs.lemmas.Result.{IfOk-weaker}
+use Rattle.leastfault.specs.Given.{IsGiven}
+use Rattle.leastfault.specs.Replies.{IsCheckReply}
+use Rattle.leastfault.specs.Reports.{check_status, judgement}
+use Rattle.leastfault.proofs.ReplyLemmas.{check_of_verdict}
+use Rattle.leastfault.proofs.checking.check_reply.Goals as goal
+
+pub returns-in_ok-check-in-Both : goal.returns-in_ok-check-in-Both
+returns-in_ok-check-in-Both c =
+    let text = c.args.text.now in
+    let certificate = c.args.certificate.now in
+    let verdict = c.in_ok-check-in-Both.field-0 in
+    IfOk-weaker c.judged.result (λ reply. (string_bytes reply.text ≡ judgement verdict) × (reply.status ≡ check_status verdict))
+    (λ reply. IsCheckReply text certificate (string_bytes reply.text) reply.status)
+    (λ reply told. check_of_verdict text certificate (string_bytes reply.text) reply.status c.in-Both.scenario c.in-Both.tree verdict
+    (subst (IsGiven text certificate) c.in-Both.is c.in_ok-scenario.ensures) c.in_ok-check-in-Both.ensures told.0 told.1)
+    c.judged.ensures

@@ -1,0 +1,49 @@
+-- What an answer says, from what is known of it for all words.
+use Rattle.std.proofs.Common.{◌≡◌, List, String, Global, map, true, false, codes, [], ◌∷◌, subst, sym}
+use Rattle.std.specs.Prelude.{◌⊎◌, Result, Ok, Err, MatchResult, IsErrAnd}
+use Rattle.std.specs.String.{string_bytes}
+use Rattle.clap.specs.Words.{Text}
+use Rattle.clap.specs.declared.error.kind.ErrorKind.TheVariants as kind
+use Rattle.lf_words.specs.Plain.{asks_help, asks_version, is_plain_command, is_unknown}
+use Rattle.lf_words.specs.Statuses.{exit_status}
+use Rattle.lf_words.specs.Words.{Asks, IsRefusal, shares_input, texts_of}
+use Rattle.lf_words.specs.declared.types.Asked.{Asked}
+use Rattle.lf_words.specs.declared.unasked.Unasked.{Unasked}
+use Rattle.lf_words.specs.declared.unasked.Unasked.TheVariants as unasked
+use Rattle.lf_words.proofs.Plainly.{asks_plainly, refused_plainly, shared_is_refused, shared_refusal}
+use Rattle.lf_words.proofs.Plainly.{help_is, one_status, takes_none, unknown_is, unknown_status, version_is}
+
+-- the clause `words` of an answer
+abbrev pub Answers : List Text → Result Asked Unasked → Type 0
+Answers words r = MatchResult r (λ a. Asks words a × (shares_input a ≡ false)) (IsRefusal words)
+
+pub answers_possible : (words : List Text) (a : Asked) (r : Result Asked Unasked)
+    → MatchResult r (λ b. (b ≡ a) × (shares_input a ≡ false)) (λ u. (u ≡ unasked.SharedInput) × (shares_input a ≡ true))
+    → Asks words a → Answers words r
+answers_possible words a (Ok b) told asks = subst (λ x. Asks words x × (shares_input x ≡ false)) (sym told.0) (asks, told.1)
+answers_possible words a (Err u) told asks = subst (IsRefusal words) (sym told.0) (a, asks, told.1)
+
+module _ (ws : List (String Global)) where
+  pub plain_of : (r : Result Asked Unasked) → is_plain_command (map string_bytes ws) ≡ true → Answers (map string_bytes ws) r
+      → MatchResult r (λ a. texts_of a ≡ map string_bytes ws) (λ u. u ≡ unasked.Memory)
+  plain_of (Ok a) plain asks = asks_plainly (map string_bytes ws) a plain asks.0
+  plain_of (Err u) plain refusal = refused_plainly ws u plain refusal
+
+  pub shared_of : (r : Result Asked Unasked) → map string_bytes ws ≡ codes "check" ∷ codes "-" ∷ codes "-" ∷ [] → Answers (map string_bytes ws) r
+      → IsErrAnd r (λ u. (u ≡ unasked.SharedInput) ⊎ (u ≡ unasked.Memory))
+  shared_of (Ok a) is asks = absurd (shared_is_refused (map string_bytes ws) a is asks.0 asks.1)
+  shared_of (Err u) is refusal = shared_refusal ws u is refusal
+
+module _ (words : List Text) where
+  pub help_of : (r : Result Asked Unasked) → asks_help words ≡ true → Answers words r → IsErrAnd r (λ u. (exit_status u ≡ 0) ⊎ (u ≡ unasked.Memory))
+  help_of (Ok a) help asks = absurd (takes_none _ _ _ (help_is words help) asks.0.0)
+  help_of (Err u) help refusal = one_status words kind.DisplayHelp u (help_is words help) refusal
+
+  pub version_of : (r : Result Asked Unasked) → asks_version words ≡ true → Answers words r
+      → IsErrAnd r (λ u. (exit_status u ≡ 0) ⊎ (u ≡ unasked.Memory))
+  version_of (Ok a) version asks = absurd (takes_none _ _ _ (version_is words version) asks.0.0)
+  version_of (Err u) version refusal = one_status words kind.DisplayVersion u (version_is words version) refusal
+
+  pub unknown_of : (r : Result Asked Unasked) → is_unknown words ≡ true → Answers words r → IsErrAnd r (λ u. (exit_status u ≡ 2) ⊎ (u ≡ unasked.Memory))
+  unknown_of (Ok a) unknown asks = absurd (takes_none _ _ _ (unknown_is words unknown) asks.0.0)
+  unknown_of (Err u) unknown refusal = unknown_status words u unknown refusal
