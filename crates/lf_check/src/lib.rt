@@ -18,8 +18,3 @@ mod walk;
 pub use judging::judge;
 pub use scenarios::{check, check_rows};
 pub use verdict::Verdict;
-
-#[cfg(test)]
-mod rows_tests;
-#[cfg(test)]
-mod tests;

@@ -19,6 +19,3 @@ pub use order::next_set;
 pub use set::FaultSet;
 pub use spec::{Bounds, FaultSpec};
 pub use text::{fault_text, read_fault};
-
-#[cfg(test)]
-mod tests;

@@ -5,8 +5,6 @@
 
 mod links;
 mod network;
-#[cfg(test)]
-mod tests;
 mod words;
 
 pub use links::{Links, is_pair, link};

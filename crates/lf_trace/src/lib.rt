@@ -9,6 +9,3 @@ mod telling;
 
 pub use naming::{names_are_one, read_faults};
 pub use telling::trace;
-
-#[cfg(test)]
-mod tests;

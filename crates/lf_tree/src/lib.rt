@@ -22,8 +22,3 @@ pub use read::read_tree;
 pub use size::text_length;
 pub use tree::{Edges, Kids, Node, Tree};
 pub use write::to_text;
-
-#[cfg(test)]
-mod read_tests;
-#[cfg(test)]
-mod tests;

@@ -9,6 +9,3 @@ mod words;
 pub use types::Asked;
 pub use unasked::Unasked;
 pub use words::asked;
-
-#[cfg(test)]
-mod tests;

@@ -3,7 +3,7 @@
 use crate::same::are_same;
 use lf_faults::Fault;
 use lf_outcome::Reach;
-use lf_tree::{Edges, Kids, Node, Tree, read_tree, to_text};
+use lf_tree::{Edges, Kids, Node, Tree, TreeFault, read_tree, text_length, to_text};
 use std::alloc::Global;
 use std::test::Fail;
 
@@ -28,7 +28,7 @@ fn wide(alloc: Global, count: u32, reach: &[u32]) -> Result<Tree, Fail> {
 fn the_longest_text_reads_back(rt: HostRuntime) -> Result<(), Fail> {
     let tree = wide(rt.alloc(), 1_118_476, &[10, 0, 0, 0, 0])?;
     let text = to_text(rt.alloc(), &tree).map_err(|_| "no text")?;
-    assert_eq!(rt; text.len(), 16_777_216);
+    assert!(rt; (text.len(), text_length(&tree)) == (16_777_216, 16_777_216));
     let found = read_tree(rt.alloc(), text.as_slice()).map_err(|_| "no tree")?;
     assert!(rt; are_same(&found, &tree));
     Ok(())
@@ -37,11 +37,7 @@ fn the_longest_text_reads_back(rt: HostRuntime) -> Result<(), Fail> {
 #[test]
 fn a_text_longer_by_a_byte_is_refused(rt: HostRuntime) -> Result<(), Fail> {
     let tree = wide(rt.alloc(), 1_118_476, &[10, 10, 0, 0, 0])?;
-    match to_text(rt.alloc(), &tree) {
-        Ok(_) => Err("written".into()),
-        Err(fault) => {
-            assert_eq!(rt; fault.number(), 1);
-            Ok(())
-        }
-    }
+    let refused = to_text(rt.alloc(), &tree).err();
+    assert!(rt; refused == Some(TreeFault::TooLong) && text_length(&tree) == 16_777_217);
+    Ok(())
 }

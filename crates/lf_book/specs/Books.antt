@@ -1,0 +1,103 @@
+-- What a book is, and what its calls do, in the words of searches.
+use Rattle.std.specs.Prelude.{◌≡◌, ℕ, ◌+◌, ◌≤◌, List, Some}
+use Rattle.std.specs.Arc.{arc_value}
+use Rattle.lf_marks.specs.Marks.{mark_at, level_of}
+use Rattle.lf_marks.specs.Answers.{mark_for}
+use Rattle.lf_marks.specs.Steps.{Marking, IsMarked, IsUnmarked, kids_above}
+use Rattle.lf_marks.specs.Steps as mark
+use Rattle.lf_scenario.specs.declared.scenario.Scenario.{Scenario}
+use Rattle.lf_scenario.specs.Sameness.{AreSame}
+use Rattle.lf_sim.specs.Settings.{world_of}
+use Rattle.lf_work.specs.declared.finding.Finding.{Finding}
+use Rattle.lf_work.specs.declared.job.Job.{Job}
+use Rattle.lf_search.specs.Closed.{IsClosed}
+use Rattle.lf_search.specs.Events.{TakesSet, FindsBusy, FindsLevelDone, FindsFinished, FindsSpent, Claims, FilesMark, GivesBack}
+use Rattle.lf_search.specs.Events.{IsNotDone, FindsAnswer, FindsNone, FindsFull, GoesDown}
+use Rattle.lf_search.specs.States.{State}
+use Rattle.lf_search.specs.Tasks.{Task, task_at}
+use Rattle.lf_book.specs.declared.book.Book.{Book}
+use Rattle.lf_book.specs.declared.taking.Taken.{Taken}
+use Rattle.lf_book.specs.declared.taking.Taken.TheVariants as taken
+use Rattle.lf_book.specs.declared.filing.Refusal.{Refusal}
+use Rattle.lf_book.specs.declared.filing.Refusal.TheVariants as refusal
+use Rattle.lf_book.specs.declared.deepening.Deepened.{Deepened}
+use Rattle.lf_book.specs.declared.deepening.Deepened.TheVariants as deepened
+
+-- the scenario that it searches, and the state of the search
+abbrev pub scenario_of : Book → Scenario
+scenario_of book = arc_value book.scenario
+
+abbrev pub state_of : Book → State
+state_of book = record { level = level_of book.marks; next = book.next; finished = book.finished; marks = mark_at book.marks }
+
+-- a state of a search of the scenario is closed
+abbrev pub IsClosedFor : Scenario → State → Type 0
+IsClosedFor s = IsClosed (world_of s.setting) s.setting.spec s.formula s.max_sets
+
+-- what a job's set is worked with, and that of a finding
+abbrev pub task_of_job : Job → Task
+task_of_job job = record { faults = job.set; excluded = job.excluded.items }
+
+abbrev pub task_of_finding : Finding → Task
+task_of_finding finding = record { faults = finding.set; excluded = finding.excluded.items }
+
+-- the job of the set at a path of a book, by a ticket
+pub record IsJobFor (book : Book) (p : List ℕ) (t : ℕ) (job : Job) : Type 0 where
+  pub scenario : arc_value job.scenario ≡ scenario_of book
+  pub path : job.path.items ≡ p
+  pub ticket : job.ticket ≡ t
+  pub works : task_at (state_of book).marks p ≡ Some (task_of_job job)
+
+-- a take's answer: a job of the scenario, whose set is claimed now, or why there is none
+abbrev pub IsTaken : Book → Book → Taken → Type 0
+IsTaken old new (taken.Job job) =
+    (arc_value job.scenario ≡ scenario_of old) × TakesSet job.path.items job.ticket (task_of_job job) (state_of old) (state_of new)
+IsTaken old new taken.Busy = FindsBusy (state_of old) (state_of new)
+IsTaken old new taken.LevelDone = FindsLevelDone (state_of old) (state_of new)
+IsTaken old new taken.Finished = FindsFinished (state_of old) (state_of new)
+IsTaken old new taken.Spent = FindsSpent (state_of old) (state_of new)
+
+-- a take was near what it took: the steps are at most one more than the kids of the sets above, and at most one where there is no job
+abbrev pub IsNear : Marking → Taken → ℕ → ℕ → Type 0
+IsNear at (taken.Job job) old new = new ≤ old + 1 + kids_above at job.path.items
+IsNear at taken.Busy old new = new ≤ old + 1
+IsNear at taken.LevelDone old new = new ≤ old + 1
+IsNear at taken.Finished old new = new ≤ old + 1
+IsNear at taken.Spent old new = new ≤ old + 1
+
+-- the numbers of refusals
+abbrev pub number_of : Refusal → ℕ
+number_of refusal.NoClaim = 1
+number_of refusal.OtherScenario = 2
+number_of refusal.OtherSet = 3
+
+-- why something that names a ticket, a scenario, a path and a task is refused: no claim stands with the ticket, or the scenario is
+-- another, or the claim is of another set
+abbrev pub IsRefusedFor : Book → ℕ → Scenario → List ℕ → Task → Refusal → Type 0
+IsRefusedFor book t s path task refusal.NoClaim = IsUnmarked (state_of book).marks (mark.Claimed t)
+IsRefusedFor book t s path task refusal.OtherScenario = IsMarked (state_of book).marks (mark.Claimed t) × (¬ AreSame (scenario_of book) s)
+IsRefusedFor book t s path task refusal.OtherSet =
+    IsMarked (state_of book).marks (mark.Claimed t) × AreSame (scenario_of book) s × (¬ Claims path t task (state_of book).marks)
+
+-- a finding is filed: its mark is that of the set that its ticket claims
+abbrev pub IsFiled : Finding → Book → Book → Type 0
+IsFiled finding old new =
+    FilesMark finding.path.items finding.ticket (task_of_finding finding) (mark_for finding.answer) (state_of old) (state_of new)
+
+-- a job is given back: the set that its ticket claims is open
+abbrev pub IsGivenBack : Job → Book → Book → Type 0
+IsGivenBack job old new = GivesBack job.path.items job.ticket (task_of_job job) (state_of old) (state_of new)
+
+-- the job or the finding names a claim of the book
+pub record IsClaimOf (book : Book) (t : ℕ) (s : Scenario) (path : List ℕ) (task : Task) : Type 0 where
+  pub same : AreSame (scenario_of book) s
+  pub claims : Claims path t task (state_of book).marks
+
+-- what a call of deepen did
+abbrev pub IsDeepened : Book → Book → Deepened → Type 0
+IsDeepened old new deepened.NotDone = IsNotDone (state_of old) (state_of new)
+IsDeepened old new deepened.Answer = FindsAnswer (state_of old) (state_of new)
+IsDeepened old new deepened.NoneWithin = FindsNone (scenario_of old).setting.spec (state_of old) (state_of new)
+IsDeepened old new (deepened.Full count) =
+    FindsFull (scenario_of old).setting.spec (scenario_of old).max_sets count (state_of old) (state_of new)
+IsDeepened old new deepened.Down = GoesDown (scenario_of old).setting.spec (scenario_of old).max_sets (state_of old) (state_of new)

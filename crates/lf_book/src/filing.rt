@@ -1,0 +1,205 @@
+//! What becomes of claims.
+
+ghost use Rattle.std.specs.Prelude.{◌≡◌, ◌≢◌, ℕ, true, false, List, Some, OnOk, OnErr, IfErr, MatchOption};
+ghost use Rattle.std.specs.Arc.{arc_value};
+ghost use Rattle.lf_book.specs.Books.{scenario_of, state_of, task_of_job, task_of_finding, number_of, IsRefusedFor, IsFiled, IsGivenBack, IsClaimOf};
+ghost use Rattle.lf_faults.specs.Faults.{set_is_before};
+ghost use Rattle.lf_marks.specs.Answers.{mark_for};
+ghost use Rattle.lf_marks.specs.Marks.{mark_at, level_of};
+ghost use Rattle.lf_marks.specs.Steps.{Answered, GaveBack, Reclaimed, IsMarked, IsShape};
+ghost use Rattle.lf_marks.specs.Steps as marking;
+ghost use Rattle.lf_search.specs.Events.{Reclaims};
+ghost use Rattle.lf_search.specs.States.{IsSameState};
+
+use crate::book::Book;
+use lf_faults::{Fault, FaultSet};
+use lf_marks::{Answer, Marks};
+use lf_scenario::Scenario;
+use lf_work::{Finding, Job};
+
+/// Why a finding is refused.
+#[derive(Clone, Copy, Debug, PartialEq, Eq)]
+pub enum Refusal {
+    /// No claim stands with its ticket.
+    NoClaim,
+    /// It is of another scenario.
+    OtherScenario,
+    /// It is of another set, another path or other exclusions than the claim.
+    OtherSet,
+}
+
+impl Refusal {
+    /// The number by which a reply names the refusal, 1..=3.
+    pub fn number(self) -> u32
+        ensures { result ≡ number_of self }
+    {
+        match self {
+            Refusal::NoClaim => 1,
+            Refusal::OtherScenario => 2,
+            Refusal::OtherSet => 3,
+        }
+    }
+}
+
+impl Book {
+    /// Files a finding: its set is answered, and what is required beneath it waits for the next level. It is refused, and handed back, where
+    /// it is of no claim of the book: the refusals are tested in their order. It takes no memory.
+    pub fn file(&mut self, finding: Finding) -> Result<(), (Refusal, Finding)>
+        ensures ok { OnOk result (IsClaimOf self.old finding.ticket (arc_value finding.scenario) finding.path.items (task_of_finding finding)) }
+        ensures filed { OnOk result (IsFiled finding self.old self.new) }
+        ensures refused { IfErr result (λ back. IsRefusedFor self.old finding.ticket (arc_value finding.scenario) finding.path.items
+            (task_of_finding finding) back.0) }
+        ensures back { IfErr result (λ back. back.1 ≡ finding) }
+        ensures same { OnErr result (IsSameState (state_of self.old) (state_of self.new)) }
+        ensures scenario { scenario_of self.new ≡ scenario_of self.old }
+    {
+        let refusal = self.refusal(
+            finding.ticket(),
+            finding.scenario(),
+            finding.path(),
+            &finding.set(),
+            finding.excluded(),
+        );
+        if let Some(refusal) = refusal {
+            return Err((refusal, finding));
+        }
+        self.file_claimed(finding);
+        Ok(())
+    }
+
+    /// Files a finding of a claim of the book.
+    fn file_claimed(&mut self, finding: Finding)
+        requires { IsClaimOf self.old finding.ticket (arc_value finding.scenario) finding.path.items (task_of_finding finding) }
+        ensures filed { IsFiled finding self.old self.new }
+        ensures scenario { scenario_of self.new ≡ scenario_of self.old }
+    {
+        let ticket = finding.ticket();
+        let set = finding.set();
+        let answer = finding.into_answer();
+        self.least = lowered(self.least, set, &answer);
+        mark_answered(&mut self.marks, ticket, answer);
+    }
+
+    /// Gives a job back: its set is open again. It is refused, and handed back, where no claim with its ticket, scenario, path, set and
+    /// exclusions stands. It takes no memory.
+    pub fn give_back(&mut self, job: Job) -> Result<(), Job>
+        ensures ok { OnOk result (IsClaimOf self.old job.ticket (arc_value job.scenario) job.path.items (task_of_job job)) }
+        ensures given { OnOk result (IsGivenBack job self.old self.new) }
+        ensures refused { OnErr result (¬ IsClaimOf self.old job.ticket (arc_value job.scenario) job.path.items (task_of_job job)) }
+        ensures back { IfErr result (λ back. back ≡ job) }
+        ensures same { OnErr result (IsSameState (state_of self.old) (state_of self.new)) }
+        ensures scenario { scenario_of self.new ≡ scenario_of self.old }
+    {
+        let refusal = self.refusal(
+            job.ticket(),
+            job.scenario(),
+            job.path(),
+            &job.set(),
+            job.excluded(),
+        );
+        if let Some(_refusal) = refusal {
+            return Err(job);
+        }
+        self.open_claimed(job);
+        Ok(())
+    }
+
+    /// Gives a job of a claim of the book back.
+    fn open_claimed(&mut self, job: Job)
+        requires { IsClaimOf self.old job.ticket (arc_value job.scenario) job.path.items (task_of_job job) }
+        ensures given { IsGivenBack job self.old self.new }
+        ensures scenario { scenario_of self.new ≡ scenario_of self.old }
+    {
+        mark_open(&mut self.marks, job.ticket());
+    }
+
+    /// Opens all sets again that are claimed. It takes no memory.
+    pub fn reclaim(&mut self)
+        ensures reclaimed { Reclaims (state_of self.old) (state_of self.new) }
+        ensures scenario { scenario_of self.new ≡ scenario_of self.old }
+    {
+        mark_unclaimed(&mut self.marks);
+    }
+
+    /// Why what names these is of no claim of the book. None where it is of one.
+    fn refusal(
+        &self,
+        ticket: u64,
+        scenario: &Scenario,
+        path: &[usize],
+        set: &FaultSet,
+        excluded: &[Fault],
+    ) -> Option<Refusal>
+        ensures { MatchOption result
+            (IsClaimOf self.now ticket scenario.now path.now (record { faults = set.now; excluded = excluded.now }))
+            (IsRefusedFor self.now ticket scenario.now path.now (record { faults = set.now; excluded = excluded.now })) }
+    {
+        if !self.marks.has_claim(ticket) {
+            return Some(Refusal::NoClaim);
+        }
+        if !self.scenario.same(scenario) {
+            return Some(Refusal::OtherScenario);
+        }
+        if !self.marks.is_claimed_at(ticket, path) {
+            return Some(Refusal::OtherSet);
+        }
+        if !self.is_task(path, set, excluded) {
+            return Some(Refusal::OtherSet);
+        }
+        None
+    }
+}
+
+/// Answers the set that the ticket claims.
+fn mark_answered(marks: &mut Marks, ticket: u64, answer: Answer)
+    requires { IsMarked (mark_at marks.old) (marking.Claimed ticket) }
+    ensures answered { (p : List ℕ) → mark_at marks.old p ≡ Some (marking.Claimed ticket)
+        → Answered p ticket (mark_for answer) (mark_at marks.old) (mark_at marks.new) }
+    ensures level { level_of marks.new ≡ level_of marks.old }
+    ensures shape { IsShape (level_of marks.new) (mark_at marks.new) }
+{
+    marks.answer(ticket, answer);
+    let _level = marks.level();
+}
+
+/// Opens the set again that the ticket claims.
+fn mark_open(marks: &mut Marks, ticket: u64)
+    requires { IsMarked (mark_at marks.old) (marking.Claimed ticket) }
+    ensures gave_back { (p : List ℕ) → mark_at marks.old p ≡ Some (marking.Claimed ticket) → GaveBack p ticket (mark_at marks.old) (mark_at marks.new) }
+    ensures level { level_of marks.new ≡ level_of marks.old }
+    ensures shape { IsShape (level_of marks.new) (mark_at marks.new) }
+{
+    marks.give_back(ticket);
+    let _level = marks.level();
+}
+
+/// Opens all sets again that are claimed.
+fn mark_unclaimed(marks: &mut Marks)
+    ensures reclaimed { Reclaimed (mark_at marks.old) (mark_at marks.new) }
+    ensures level { level_of marks.new ≡ level_of marks.old }
+    ensures shape { IsShape (level_of marks.new) (mark_at marks.new) }
+{
+    marks.reclaim();
+    let _level = marks.level();
+}
+
+/// The first of the sets that miss, now that a set is answered. `first` was the first so far.
+fn lowered(first: Option<FaultSet>, set: FaultSet, answer: &Answer) -> Option<FaultSet>
+    ensures reaches { mark_for answer.now ≢ marking.Misses → result ≡ first }
+    ensures misses { mark_for answer.now ≡ marking.Misses → MatchOption first (result ≡ Some set) (λ least.
+        (set_is_before set least ≡ true → result ≡ Some set) × (set_is_before set least ≡ false → result ≡ Some least)) }
+{
+    let Answer::Misses = answer else {
+        return first;
+    };
+    match first {
+        Some(least) => {
+            if set.is_before(&least) {
+                Some(set)
+            } else {
+                first
+            }
+        }
+        None => Some(set),
+    }
+}

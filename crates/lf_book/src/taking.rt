@@ -1,0 +1,125 @@
+//! Taking a set to work it.
+
+ghost use Rattle.std.specs.Prelude.{◌≡◌, ◌<◌, false, IsSome, IfOk, OnErr};
+ghost use Rattle.lf_book.specs.Books.{scenario_of, state_of, IsTaken, IsNear, IsJobFor};
+ghost use Rattle.lf_book.specs.declared.taking.Taken.TheVariants as taken;
+ghost use Rattle.lf_marks.specs.Steps.{IsUnmarked};
+ghost use Rattle.lf_marks.specs.Steps as mark;
+ghost use Rattle.lf_search.specs.States.{IsSameState, last_ticket};
+
+use crate::book::Book;
+use lf_marks::Steps;
+use lf_work::Job;
+use std::alloc::AllocError;
+use std::marker::Brand;
+use std::sync::Arc;
+use std::sync::ledger::{Blank, Ledger};
+
+/// The ticket that is never given.
+const LAST_TICKET: u64 = u64::MAX;
+
+/// What a take gives.
+#[derive(Drop)]
+pub enum Taken {
+    /// A set to work, which its ticket claims now.
+    Job(Job),
+    /// No set is open, but some are worked: when they are filed or given back there may be more to do.
+    Busy,
+    /// Each set of the level is answered: `deepen` tells what is next.
+    LevelDone,
+    /// The search has ended.
+    Finished,
+    /// A set is open, but all tickets were given.
+    Spent,
+}
+
+impl Book {
+    /// Claims an open set of the level, if there is one, for whoever works it. The error is that memory has run out. After it, and after
+    /// any answer but a job, the book is as it was.
+    pub fn take(&mut self) -> Result<Taken, AllocError>
+        ensures taken { IfOk result (IsTaken self.old self.new) }
+        ensures err { OnErr result (IsSameState (state_of self.old) (state_of self.new)) }
+        ensures scenario { scenario_of self.new ≡ scenario_of self.old }
+    {
+        self.take_from::<Brand>(Blank::new(1))
+    }
+
+    /// The same, with steps of its own.
+    fn take_from<L: Ledger>(&mut self, blank: Blank) -> Result<Taken, AllocError>
+        requires name { blank.name ≡ L.name }
+        requires parts { blank.parts ≡ L.parts }
+        requires some { 0 < blank.parts }
+        ensures taken { IfOk result (IsTaken self.old self.new) }
+        ensures err { OnErr result (IsSameState (state_of self.old) (state_of self.new)) }
+        ensures scenario { scenario_of self.new ≡ scenario_of self.old }
+    {
+        let mut steps = Steps::<L>::new(blank);
+        self.take_counted(&mut steps)
+    }
+
+    /// The same, with its steps counted: a step is a look at a set on the way to an open one. For a job there are at most one, and one for
+    /// each kid of the sets above its own; for any other answer there is at most one.
+    pub fn take_counted<L: Ledger>(&mut self, steps: &mut Steps<L>) -> Result<Taken, AllocError>
+        ensures taken { IfOk result (IsTaken self.old self.new) }
+        ensures steps { IfOk result (λ taken. IsNear (state_of self.old).marks taken steps.old steps.new) }
+        ensures err { OnErr result (IsSameState (state_of self.old) (state_of self.new)) }
+        ensures scenario { scenario_of self.new ≡ scenario_of self.old }
+    {
+        if self.finished {
+            return Ok(Taken::Finished);
+        }
+        let counts = self.marks.counts();
+        if counts.ready == 0 {
+            if counts.claimed == 0 {
+                return Ok(Taken::LevelDone);
+            }
+            return Ok(Taken::Busy);
+        }
+        if self.next == LAST_TICKET {
+            return Ok(Taken::Spent);
+        }
+        Ok(Taken::Job(self.claim(steps)?))
+    }
+
+    /// Claims an open set, and tells its job.
+    fn claim<L: Ledger>(&mut self, steps: &mut Steps<L>) -> Result<Job, AllocError>
+        requires going { (state_of self.old).finished ≡ false }
+        requires ready { ¬ IsUnmarked (state_of self.old).marks mark.Open }
+        requires room { (state_of self.old).next < last_ticket }
+        ensures taken { IfOk result (λ job. IsTaken self.old self.new (taken.Job job)) }
+        ensures steps { IfOk result (λ job. IsNear (state_of self.old).marks (taken.Job job) steps.old steps.new) }
+        ensures err { OnErr result (IsSameState (state_of self.old) (state_of self.new)) }
+        ensures scenario { scenario_of self.new ≡ scenario_of self.old }
+    {
+        let ticket = self.next;
+        let claimed = self.marks.take_counted(ticket, steps)?;
+        let Some(path) = claimed else {
+            unreachable!()
+        };
+        let _level = self.marks.level();
+        self.next += 1;
+        match self.job(path, ticket) {
+            Ok(job) => Ok(job),
+            Err(error) => {
+                self.marks.give_back(ticket);
+                self.next = ticket;
+                Err(error)
+            }
+        }
+    }
+
+    /// The job of a set that was claimed.
+    fn job(&self, path: Vec<usize>, ticket: u64) -> Result<Job, AllocError>
+        requires { IsSome ((state_of self.now).marks path.items) }
+        ensures { IfOk result (IsJobFor self.now path.items ticket) }
+    {
+        let task = self.task(*path.allocator(), path.as_slice())?;
+        Ok(Job::new(
+            Arc::try_clone(&self.scenario)?,
+            task.set,
+            task.excluded,
+            path,
+            ticket,
+        ))
+    }
+}

@@ -1,0 +1,10 @@
+pub mod Answers
+pub mod Arena
+pub mod Branches
+pub mod Building
+pub mod Claims
+pub mod Counting
+pub mod Marks
+pub mod Nodes
+pub mod Steps
+pub mod Walks

@@ -1,0 +1,4 @@
+mod EdgeLemmas
+mod FoundLemmas
+pub mod Laws
+mod MereLemmas

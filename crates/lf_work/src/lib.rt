@@ -1,0 +1,12 @@
+//! Working one set of faults: its run, what the outcome rests on in it, and the faults that are to be tried beneath it.
+//!
+//! It needs no search: a job is worked by itself, wherever that is.
+#![tactic(auto)]
+
+mod finding;
+mod job;
+mod working;
+
+pub use finding::Finding;
+pub use job::Job;
+pub use working::{Spent, work, work_reusing};

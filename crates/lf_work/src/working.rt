@@ -1,0 +1,144 @@
+//! Working a job.
+
+ghost use Rattle.std.specs.Prelude.{◌≡◌, ◌≤◌, IfOk, length};
+ghost use Rattle.std.specs.Arc.{arc_value};
+ghost use Rattle.lf_marks.specs.Answers.{mark_for, reach_of, edges_of};
+ghost use Rattle.lf_sim.specs.Settings.{IsRun, set_of, world_of};
+ghost use Rattle.lf_search.specs.Found.{IsFound};
+ghost use Rattle.lf_work.specs.Jobs.{IsOfJob};
+
+use crate::finding::Finding;
+use crate::job::Job;
+use lf_cone::{put_edges, sharp};
+use lf_faults::{Fault, FaultSet};
+use lf_list::Listed;
+use lf_marks::{Answer, Grown};
+use lf_outcome::{Formula, Point, Reach, evidence, holds};
+use lf_protocols::Protocol;
+use lf_sim::{Machine, Run, Setting, run, run_reusing};
+use std::alloc::{AllocError, Global};
+use std::sync::Arc;
+
+/// Memory that working a job leaves, and the next takes.
+#[derive(Drop)]
+pub struct Spent {
+    /// The run of the last set.
+    run: Option<Run<Protocol>>,
+    /// Memory for required edges.
+    edges: Vec<Fault>,
+}
+
+impl Spent {
+    /// No memory: the first job that is worked takes it.
+    pub fn new(alloc: Global) -> Spent {
+        Spent {
+            run: None,
+            edges: Vec::new(alloc),
+        }
+    }
+}
+
+/// Runs the set of a job, and tells what its run shows. The error is that memory has run out.
+pub fn work(job: &Job) -> Result<Finding, AllocError>
+    ensures { IfOk result (IsOfJob job.now) }
+{
+    let mut spent = Spent::new(*job.excluded.allocator());
+    work_reusing(job, &mut spent)
+}
+
+/// The same, in the memory of the job that was worked last. It takes memory for what the finding holds, and else only where the memory
+/// that it is given doesn't suffice.
+pub fn work_reusing(job: &Job, spent: &mut Spent) -> Result<Finding, AllocError>
+    ensures { IfOk result (IsOfJob job.now) }
+{
+    let alloc = *job.excluded.allocator();
+    let scenario = job.scenario();
+    let setting = scenario.setting();
+    let played = played(alloc, setting, &job.set, spent.run.take())?;
+    let answer = found(
+        alloc,
+        setting,
+        scenario.formula(),
+        &played,
+        job.excluded.as_slice(),
+        &mut spent.edges,
+    )?;
+    spent.run = Some(played);
+    finding_of(job, answer)
+}
+
+/// What is found of a job's set, with what it is found of.
+fn finding_of(job: &Job, answer: Answer) -> Result<Finding, AllocError>
+    requires { IsFound (world_of (arc_value job.now.scenario).setting) (arc_value job.now.scenario).setting.spec
+        (arc_value job.now.scenario).formula job.now.set job.now.excluded.items (mark_for answer) }
+    ensures { IfOk result (IsOfJob job.now) }
+{
+    let alloc = *job.excluded.allocator();
+    let mut excluded = Vec::with_capacity(alloc, job.excluded.len())?;
+    excluded.extend_from_slice(job.excluded.as_slice())?;
+    let mut path = Vec::with_capacity(alloc, job.path.len())?;
+    path.extend_from_slice(job.path.as_slice())?;
+    Ok(Finding {
+        scenario: Arc::try_clone(&job.scenario)?,
+        set: job.set,
+        excluded,
+        path,
+        ticket: job.ticket,
+        answer,
+    })
+}
+
+/// The run of a set, in the memory of one that is no longer needed, if there is one.
+fn played<M: Machine>(
+    alloc: Global,
+    setting: &Setting<M>,
+    set: &FaultSet,
+    spent: Option<Run<M>>,
+) -> Result<Run<M>, AllocError>
+    ensures run { IfOk result (IsRun (world_of setting.now)) }
+    ensures set { IfOk result (λ run. set_of run ≡ set.now) }
+{
+    match spent {
+        Some(spent) => Ok(run_reusing(setting, set, spent)),
+        None => run(alloc, setting, set),
+    }
+}
+
+/// What a run shows of its set, where some faults are excluded. The list of edges is used as memory.
+fn found<M: Machine>(
+    alloc: Global,
+    setting: &Setting<M>,
+    formula: &Formula<M::Fact>,
+    run: &Run<M>,
+    excluded: &[Fault],
+    required: &mut Vec<Fault>,
+) -> Result<Answer, AllocError>
+    requires { IsRun (world_of setting.now) run.now }
+    ensures { IfOk result (λ answer. IsFound (world_of setting.now) setting.now.spec formula.now (set_of run.now) excluded.now (mark_for answer)) }
+{
+    if run.set().len() >= setting.spec.budget() as usize {
+        return Ok(if holds(setting, formula, run) {
+            Answer::Reaches
+        } else {
+            Answer::Misses
+        });
+    }
+    let Some(points) = evidence(alloc, setting, formula, run)? else {
+        return Ok(Answer::Misses);
+    };
+    let reach = sharp(setting, run, points.as_slice());
+    put_edges(setting, run, &reach, excluded, required)?;
+    let edges = required.as_slice();
+    Ok(Answer::Branch(grown(alloc, reach, edges)?))
+}
+
+/// A branch with these edges, in memory of its own.
+fn grown(alloc: Global, reach: Reach, edges: &[Fault]) -> Result<Grown, AllocError>
+    requires { length edges.now ≤ 65535 }
+    ensures reach { IfOk result (λ g. reach_of g ≡ reach) }
+    ensures edges { IfOk result (λ g. edges_of g ≡ edges.now) }
+{
+    let mut own = Vec::with_capacity(alloc, edges.len())?;
+    own.extend_from_slice(edges)?;
+    Grown::new(alloc, reach, Listed::from_vec(own))
+}

@@ -1,0 +1,5 @@
+//! Worked examples of traces, and of names of sets.
+#![tactic(auto)]
+
+#[cfg(test)]
+mod traces;

@@ -1,0 +1,140 @@
+//! Command lines, and what they ask for.
+//!
+//! In a table each line is a command line, `|`, and what it asks for. Before each word stands `;`.
+
+use lf_words::{Asked, Unasked, asked};
+use std::alloc::{AllocError, Global};
+use std::process::Abort;
+use std::test::Fail;
+
+/// The words as they come from the system.
+fn owned(alloc: Global, words: &str) -> Result<Vec<String>, AllocError> {
+    let mut owned = Vec::new(alloc);
+    for word in words.split(';').skip(1) {
+        owned.push(String::from_str(alloc, word)?)?;
+    }
+    Ok(owned)
+}
+
+/// Why words ask for nothing, by the status, by where the text goes, and by the text.
+fn why(unasked: &Unasked) -> &'static str {
+    let text = unasked.text();
+    match (unasked.status(), unasked.is_error()) {
+        (0, false) if text == "leastfault 0.1.0\n" => "version",
+        (0, false) if text.contains("Usage: leastfault ") => "help",
+        (2, false) if text == "refused usage\n" => "shared",
+        (2, true) if text.starts_with("error: ") && text.ends_with("\n") => "wrong",
+        _ => "something else",
+    }
+}
+
+/// What the words ask for, as a table says it.
+fn said(alloc: Global, words: &str) -> Result<String, AllocError> {
+    match asked(alloc, owned(alloc, words)?.as_slice()) {
+        Ok(Asked::Search { file }) => format!(in alloc; ";search;{file}"),
+        Ok(Asked::Run { file, faults }) => format!(in alloc; ";run;{file};{faults}"),
+        Ok(Asked::Check { file, tree }) => format!(in alloc; ";check;{file};{tree}"),
+        Err(unasked) => String::from_str(alloc, why(&unasked)),
+    }
+}
+
+/// Each command line of a table asks for what stands behind it.
+fn check_lines(rt: &impl Abort, alloc: Global, table: &str) -> Result<(), Fail> {
+    for line in table.lines() {
+        let (words, expected) = line.split_once('|').ok_or("a line in two columns")?;
+        let found = said(alloc, words)?;
+        assert!(rt; found.as_str() == expected, "{words} ask for {found}");
+    }
+    Ok(())
+}
+
+#[test]
+fn searches_name_their_file(rt: HostRuntime) -> Result<(), Fail> {
+    let table = concat!(
+        "|;search;-\n",
+        ";search;a.toml|;search;a.toml\n",
+        ";search;-|;search;-\n",
+        ";search;--;-x|;search;-x\n",
+        ";search;--;--help|;search;--help\n",
+        ";search;search|;search;search\n",
+        ";search;|;search;\n",
+        ";search;two words.toml|;search;two words.toml\n",
+        ";search; grün/日本.toml|;search; grün/日本.toml\n",
+    );
+    check_lines(&rt, rt.alloc(), table)
+}
+
+#[test]
+fn runs_name_their_file_and_their_faults(rt: HostRuntime) -> Result<(), Fail> {
+    let table = concat!(
+        ";run;a.toml;|;run;a.toml;\n",
+        ";run;-;omit 0>1 @2,crash 2 @3|;run;-;omit 0>1 @2,crash 2 @3\n",
+        ";run;run;run|;run;run;run\n",
+        ";run;;|;run;;\n",
+        ";run;ü b; é,日本 |;run;ü b; é,日本 \n",
+        ";run;a;--;-h|;run;a;-h\n",
+        ";run;--;-a;--help|;run;-a;--help\n",
+    );
+    check_lines(&rt, rt.alloc(), table)
+}
+
+#[test]
+fn checks_name_their_file_and_their_tree(rt: HostRuntime) -> Result<(), Fail> {
+    let table = concat!(
+        ";check;a.toml;a.json|;check;a.toml;a.json\n",
+        ";check;-;a.json|;check;-;a.json\n",
+        ";check;a.toml;-|;check;a.toml;-\n",
+        ";check;check;|;check;check;\n",
+        ";check;--;-a;-|;check;-a;-\n",
+        ";check;-;-|shared\n",
+        ";check;--;-;-|shared\n",
+    );
+    check_lines(&rt, rt.alloc(), table)
+}
+
+#[test]
+fn wrong_words_are_refused(rt: HostRuntime) -> Result<(), Fail> {
+    let table = concat!(
+        ";search|wrong\n",
+        ";|wrong\n",
+        ";--|wrong\n",
+        ";find|wrong\n",
+        ";a.toml|wrong\n",
+        ";help|wrong\n",
+        ";search;a;b|wrong\n",
+        ";search;-x|wrong\n",
+        ";search;--tree|wrong\n",
+        ";--;search;a|wrong\n",
+        ";Search;a|wrong\n",
+        ";run|wrong\n",
+        ";run;a|wrong\n",
+        ";run;a;crash 0 @1;crash 1 @1|wrong\n",
+        ";run;a;-x|wrong\n",
+        ";check;a|wrong\n",
+        ";check;a;b;c|wrong\n",
+        ";check;-;-;-|wrong\n",
+        ";search;--file;a|wrong\n",
+        ";search;a;--workers;2|wrong\n",
+        ";search;--version|wrong\n",
+        ";run;-V|wrong\n",
+    );
+    check_lines(&rt, rt.alloc(), table)
+}
+
+#[test]
+fn help_and_the_version_are_no_errors(rt: HostRuntime) -> Result<(), Fail> {
+    let table = concat!(
+        ";--help|help\n",
+        ";-h|help\n",
+        ";search;--help|help\n",
+        ";search;-h|help\n",
+        ";search;a;--help|help\n",
+        ";run;--help|help\n",
+        ";check;--help|help\n",
+        ";--help;run|help\n",
+        ";--version|version\n",
+        ";-V|version\n",
+        ";--version;search|version\n",
+    );
+    check_lines(&rt, rt.alloc(), table)
+}
