@@ -1,7 +1,7 @@
 //! Trees, judged in several threads.
 
-use lf_check::{Verdict, check_rows};
 use lf_certificate::Reason;
+use lf_check::{Verdict, check_rows};
 use lf_scenario::read;
 use lf_tree::{Tree, read_tree};
 use std::alloc::Global;

@@ -78,7 +78,6 @@ module _ {Local Note Fact : Type 0} (w : World Local Note Fact) (b : Bounds) (fo
   filed-first (mark.Branch reach edges) least next e shape same is =
       kept-first (mark.Branch reach edges) least next e shape (λ k. absurd cc) same
 
-
 -- a finding is filed, and a job is given back, by the ticket that they name
 pub files : (path : List ℕ) (t u : ℕ) (task : Task) (m n : Mark) (old new : State) → t ≡ u → m ≡ n → Claims path u task old.marks
     → ((p : List ℕ) → old.marks p ≡ Some (mark.Claimed t) → Answered p t m old.marks new.marks) → KeepsTurn old new
@@ -119,7 +118,7 @@ filed-keeps s r old new path ticket set task m least next alike closed first e s
     (λ found. (set_is_before fs found ≡ true → next ≡ Some fs) × (set_is_before fs found ≡ false → next ≡ Some found))) same (misses k) in (
       ∥∥₁_map closed (λ h. file_closed w b s.formula s.max_sets old new path ticket task m h e here shape),
       ∥∥₁_elim closed ∥∥₁_prop (λ h. ∥∥₁_map first
-      (filed-first w b s.formula s.max_sets old new h path ticket task m least next e shape reaches one)),
+          (filed-first w b s.formula s.max_sets old new h path ticket task m least next e shape reaches one)),
     )
 
 -- a claimed set is given back

@@ -93,9 +93,7 @@ impl Book {
     {
         let ticket = self.next;
         let claimed = self.marks.take_counted(ticket, steps)?;
-        let Some(path) = claimed else {
-            unreachable!()
-        };
+        let Some(path) = claimed else { unreachable!() };
         let _level = self.marks.level();
         self.next += 1;
         match self.job(path, ticket) {

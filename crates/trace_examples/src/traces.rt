@@ -1,11 +1,11 @@
 //! Traces of small runs, and names of sets.
 
-use lf_trace::{read_faults, trace};
 use lf_faults::{FaultSet, FaultSpec, fault_text};
 use lf_latency::{Links, Network};
 use lf_outcome::{Outcome, named};
 use lf_protocols::Protocol;
 use lf_sim::{Setting, run};
+use lf_trace::{read_faults, trace};
 use std::alloc::{AllocError, Global};
 use std::process::Abort;
 use std::test::Fail;

@@ -1,9 +1,9 @@
 //! Trees, their texts to the byte, and their rows.
 
-use lf_tree::{Node, Tree, TreeFault, count, rows, text_length, to_text};
 use lf_faults::{Fault, FaultSet};
 use lf_list::Listed;
 use lf_outcome::Reach;
+use lf_tree::{Node, Tree, TreeFault, count, rows, text_length, to_text};
 use std::alloc::{AllocError, Global};
 use std::process::Abort;
 use std::test::Fail;
@@ -37,7 +37,10 @@ fn only(fault: Fault) -> Result<FaultSet, Fail> {
 fn assert_text(rt: &impl Abort, alloc: Global, tree: &Tree, wanted: &str) -> Result<(), Fail> {
     let text = to_text(alloc, tree).map_err(|_| "no text")?;
     let length = text_length(tree) as usize;
-    assert!(rt; text.as_slice() == wanted.as_bytes() && length == wanted.len(), "not {wanted}");
+    assert!(rt;
+        text.as_slice() == wanted.as_bytes() && length == wanted.len(),
+        "not {wanted}"
+    );
     Ok(())
 }
 
@@ -198,7 +201,9 @@ fn a_million_leaves(rt: HostRuntime) -> Result<(), Fail> {
     assert!(rt; (count(&tree), text_length(&tree)) == (1_000_001, 16_000_069));
     let rows = rows(alloc, &tree)?;
     let last = rows.last().ok_or("no row")?;
-    assert!(rt; (rows.len(), last.parent, last.kid, last.depth) == (1_000_001, Some(0), 999_999, 1));
+    assert!(rt;
+        (rows.len(), last.parent, last.kid, last.depth) == (1_000_001, Some(0), 999_999, 1)
+    );
     Ok(())
 }
 

@@ -35,8 +35,7 @@ path-preserved c =
     let excluded = c.args.excluded.now in
     let at = c.path.at in
     let begun = c.begins_with.ensures.0 c.if-not-begins_with.false in
-    let more = taken-more at excluded c.step-larger.result.0.now begun.0 c.path.invariant.0 (sym (rest_whole c.path.at excluded) ∙ begun.1) in
-    (
+    let more = taken-more at excluded c.step-larger.result.0.now begun.0 c.path.invariant.0 (sym (rest_whole c.path.at excluded) ∙ begun.1) in (
       more.0,
       other-excluded (mark_at c.args.self.now.marks) (take (c.path.depth + 1) c.args.path.now) c.step-larger.result.1
           (take at excluded ++ c.step-larger.result.0.now) (take (at + length c.step-larger.result.0.now) excluded) more.1
