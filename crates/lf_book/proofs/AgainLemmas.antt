@@ -2,11 +2,11 @@
 use mathlib.Core.List.{is_set}
 use mathlib.Core.Logic.{∥∥₁_elim, ∥∥₁_map}
 use mathlib.Core.Sum.{⊎_set}
-use Rattle.std.proofs.Common.{◌≡◌, ℕ, Bool, true, false, not, List, [], ◌∷◌, length, refl, sym, ap, ◌∙◌, subst, inl, inr}
+use Rattle.std.proofs.Common.{◌≡◌, ℕ, Bool, true, false, List, [], ◌∷◌, length, refl, sym, ◌∙◌, subst, inl, inr}
 use Rattle.std.proofs.Math.Bool.{Bool-set}
 use Rattle.std.proofs.Math.Nat.{ℕ_set}
 use Rattle.std.specs.Coded.{le_prop}
-use Rattle.std.specs.Prelude.{◌⊎◌, ◌↔◌, Option, None, Some}
+use Rattle.std.specs.Prelude.{◌⊎◌, Option, None, Some}
 use Rattle.std.specs.List.{Contains}
 use Rattle.lf_list.proofs.Laws.{none-in, Contains-first, Contains-more, cases_in}
 use Rattle.lf_faults.specs.declared.fault.Parts.{Parts}

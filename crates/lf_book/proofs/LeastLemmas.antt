@@ -1,10 +1,9 @@
 -- The sets of paths: each once, also in another order, and in order where they are sorted.
-use Rattle.std.proofs.Common.{◌≡◌, ◌≢◌, ℕ, zero, suc, ◌+◌, ◌<◌, ◌≤◌, true, false, List, [], ◌∷◌, length, get_or, refl, sym, ap, ◌∙◌, subst}
-use Rattle.std.proofs.Common.{arith, inl, inr, map, swap, IsPermutation, IsSome, is_some}
-use Rattle.std.specs.Prelude.{◌⊎◌, ◌↔◌, Option, None, Some}
-use Rattle.std.specs.Option.{option_map}
+use Rattle.std.proofs.Common.{◌≡◌, ◌≢◌, ℕ, suc, ◌<◌, true, false, List, [], ◌∷◌, length, get_or, refl, sym, ap, ◌∙◌}
+use Rattle.std.proofs.Common.{arith, inl, inr, swap, IsPermutation}
+use Rattle.std.specs.Prelude.{◌⊎◌, ◌↔◌}
 use Rattle.std.specs.Cmp.{IsStrictWeakOrder}
-use Rattle.std.specs.List.{All, AllByRecursion, Contains}
+use Rattle.std.specs.List.{Contains}
 use Rattle.std.specs.List.Sorted.{IsSortedBy}
 use Rattle.std.proofs.lemmas.Bool.{cases_eq}
 use Rattle.std.proofs.lemmas.List.Edits.{swapped_from_swap, length-swap}
@@ -13,8 +12,6 @@ use Rattle.std.proofs.lemmas.List.Sorted.{IsPermutation-keeps, IsPermutation-sym
 use Rattle.lf_faults.specs.declared.fault.Parts.{Parts}
 use Rattle.lf_faults.specs.Faults.{set_is_before}
 use Rattle.lf_faults.proofs.Laws.{cases_sets}
-use Rattle.lf_list.proofs.Laws.{none-in, Contains-first, Contains-more, cases_in, each-in}
-use Rattle.lf_marks.specs.Counting.{IsApart}
 use Rattle.lf_search.specs.Levels.{AreAscending}
 use Rattle.lf_book.specs.Finished.{AreDifferent}
 

@@ -1,10 +1,13 @@
 mod AgainLemmas
 mod CountLemmas
+mod DriveLemmas
 mod EndedLemmas
 mod FilingLemmas
+mod HeldLemmas
 pub mod Laws
 mod LeastLemmas
 mod MissingLemmas
+mod ReplyLemmas
 mod SameLemmas
 mod StateLemmas
 mod TaskLemmas

@@ -20,10 +20,11 @@ use Rattle.lf_marks.specs.Steps.{Mark, Marking, IsShape, IsSame, Took, GaveBack,
 use Rattle.lf_marks.specs.Steps as mark
 use Rattle.lf_marks.proofs.Laws.{none-ready, none-claimed}
 use Rattle.lf_search.specs.Closed.{IsClosed, IsFirstMissing, MissesAt}
-use Rattle.lf_search.specs.Events.{TakesSet, IsDone}
+use Rattle.lf_search.specs.Events.{TakesSet, IsDone, FindsFull}
+use Rattle.lf_search.specs.Levels.{IsFullAt}
 use Rattle.lf_search.specs.States.{State, IsSameState, last_ticket}
 use Rattle.lf_search.specs.Tasks.{Task, task_at}
-use Rattle.lf_search.proofs.Laws.{take_closed, take_first, take_tasks, task_stands, stands_once, finds_answer}
+use Rattle.lf_search.proofs.Laws.{take_closed, take_first, take_tasks, task_stands, stands_once, finds_answer, finds_full}
 use Rattle.lf_book.proofs.CountLemmas.{count-most}
 
 -- a state in which nothing changed is the same
@@ -203,3 +204,15 @@ module _ {Local Note Fact : Type 0} (w : World Local Note Fact) (b : Bounds) (fo
   pub answer-again : IsBounded w b → s.finished ≡ true → (answer : Option (List Parts)) → ∥ IsFirstMissing s.marks answer ∥₁ → IsAnswer w b formula answer
   answer-again bounded finished answer first = answer_by answer (∥∥₁_elim mere ∥∥₁_prop (λ closed. ∥∥₁_map first (λ f.
       finds_answer w b formula most s bounded closed finished answer f)))
+
+  -- where the next level has more sets than may be kept, it is the first such level, and all smaller sets reach
+  pub full-again : IsBounded w b → (count : ℕ) (new : State) → FindsFull b most count s new → IsFullAt w b formula most (s.level + 1) count
+  full-again bounded count new full =
+      let shows = λ (closed : IsClosed w b formula most s). finds_full w b formula most s bounded closed count new full in
+      record {
+        within = ∥∥₁_elim mere le_prop (λ closed. (shows closed).within);
+        size = ∥∥₁_elim mere ∥∥₁_prop (λ closed. (shows closed).size);
+        many = full.many;
+        fits = λ j n low sized. ∥∥₁_elim mere le_prop (λ closed. (shows closed).fits j n low sized);
+        reaching = λ faults allowed few. ∥∥₁_elim mere (hlevel Bool-set) (λ closed. (shows closed).reaching faults allowed few);
+      }

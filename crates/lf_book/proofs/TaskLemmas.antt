@@ -60,7 +60,8 @@ task-kid at p i t leads =
 kid_excludes : (at : Marking) (i : ℕ) (path : List ℕ) (t u : Task) (o : Option Parts)
     → ((kid : Task) → task_from at kid path ≡ Some u → (more : List Parts) × (u.excluded ≡ kid.excluded ++ more))
     → (edges : List Parts)
-    → option_and_then (λ kid. task_from at kid path) (option_map (λ edge. record { faults = inserted edge t.faults; excluded = t.excluded ++ take i edges }) o) ≡ Some u
+    → option_and_then (λ kid. task_from at kid path)
+    (option_map (λ edge. record { faults = inserted edge t.faults; excluded = t.excluded ++ take i edges }) o) ≡ Some u
     → (more : List Parts) × (u.excluded ≡ t.excluded ++ more)
 kid_excludes at i path t u None next edges leads = let no : None ≡ Some u = leads in absurd cc
 kid_excludes at i path t u (Some edge) next edges leads =
@@ -111,7 +112,8 @@ way_by at path depth (mark.Branch reach edges) is few = record { reach = reach; 
 
 pub way : (level : ℕ) (at : Marking) → IsShape level at → (path : List ℕ) → IsSome (at path) → (depth : ℕ) → depth < length path → IsWay at path depth
 way level at shape path stands depth within =
-    let front = front-stands level at shape (take (depth + 1) path) (drop (depth + 1) path) (subst (λ q. IsSome (at q)) (sym (take-append-drop (depth + 1) path)) stands) in
+    let front = front-stands level at shape (take (depth + 1) path) (drop (depth + 1) path)
+    (subst (λ q. IsSome (at q)) (sym (take-append-drop (depth + 1) path)) stands) in
     let above = shape.parents (take depth path) (get_or path depth 0) (subst (λ q. IsSome (at q)) (take_more path depth 0 within) front) in
     way_by at path depth above.0 above.1 above.2
 

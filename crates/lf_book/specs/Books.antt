@@ -1,5 +1,5 @@
 -- What a book is, and what its calls do, in the words of searches.
-use Rattle.std.specs.Prelude.{◌≡◌, ℕ, ◌+◌, ◌≤◌, List, Some}
+use Rattle.std.specs.Prelude.{◌≡◌, ℕ, ◌+◌, ◌≤◌, List, Some, ⊤}
 use Rattle.std.specs.Arc.{arc_value}
 use Rattle.lf_marks.specs.Marks.{mark_at, level_of}
 use Rattle.lf_marks.specs.Answers.{mark_for}
@@ -13,6 +13,8 @@ use Rattle.lf_work.specs.declared.job.Job.{Job}
 use Rattle.lf_search.specs.Closed.{IsClosed}
 use Rattle.lf_search.specs.Events.{TakesSet, FindsBusy, FindsLevelDone, FindsFinished, FindsSpent, Claims, FilesMark, GivesBack}
 use Rattle.lf_search.specs.Events.{IsNotDone, FindsAnswer, FindsNone, FindsFull, GoesDown}
+use Rattle.lf_search.specs.Found.{IsFound}
+use Rattle.lf_search.specs.Levels.{IsFullAt}
 use Rattle.lf_search.specs.States.{State}
 use Rattle.lf_search.specs.Tasks.{Task, task_at}
 use Rattle.lf_book.specs.declared.book.Book.{Book}
@@ -84,6 +86,12 @@ abbrev pub IsFiled : Finding → Book → Book → Type 0
 IsFiled finding old new =
     FilesMark finding.path.items finding.ticket (task_of_finding finding) (mark_for finding.answer) (state_of old) (state_of new)
 
+-- and it is what the run of the finding's set shows
+abbrev pub IsFoundOf : Finding → Type 0
+IsFoundOf finding =
+    IsFound (world_of (arc_value finding.scenario).setting) (arc_value finding.scenario).setting.spec (arc_value finding.scenario).formula
+    finding.set finding.excluded.items (mark_for finding.answer)
+
 -- a job is given back: the set that its ticket claims is open
 abbrev pub IsGivenBack : Job → Book → Book → Type 0
 IsGivenBack job old new = GivesBack job.path.items job.ticket (task_of_job job) (state_of old) (state_of new)
@@ -93,11 +101,21 @@ pub record IsClaimOf (book : Book) (t : ℕ) (s : Scenario) (path : List ℕ) (t
   pub same : AreSame (scenario_of book) s
   pub claims : Claims path t task (state_of book).marks
 
--- what a call of deepen did
+-- what a call of deepen answers, and what it made of the state of a search of the scenario
+abbrev pub Deepens : Scenario → Deepened → State → State → Type 0
+Deepens s deepened.NotDone old new = IsNotDone old new
+Deepens s deepened.Answer old new = FindsAnswer old new
+Deepens s deepened.NoneWithin old new = FindsNone s.setting.spec old new
+Deepens s (deepened.Full count) old new = FindsFull s.setting.spec s.max_sets count old new
+Deepens s deepened.Down old new = GoesDown s.setting.spec s.max_sets old new
+
 abbrev pub IsDeepened : Book → Book → Deepened → Type 0
-IsDeepened old new deepened.NotDone = IsNotDone (state_of old) (state_of new)
-IsDeepened old new deepened.Answer = FindsAnswer (state_of old) (state_of new)
-IsDeepened old new deepened.NoneWithin = FindsNone (scenario_of old).setting.spec (state_of old) (state_of new)
-IsDeepened old new (deepened.Full count) =
-    FindsFull (scenario_of old).setting.spec (scenario_of old).max_sets count (state_of old) (state_of new)
-IsDeepened old new deepened.Down = GoesDown (scenario_of old).setting.spec (scenario_of old).max_sets (state_of old) (state_of new)
+IsDeepened old new d = Deepens (scenario_of old) d (state_of old) (state_of new)
+
+-- where a search is full, the next level is the first that is too full, it has so many sets, and all smaller allowed sets reach
+abbrev pub ShowsFull : Scenario → State → Deepened → Type 0
+ShowsFull s state deepened.NotDone = ⊤
+ShowsFull s state deepened.Answer = ⊤
+ShowsFull s state deepened.NoneWithin = ⊤
+ShowsFull s state (deepened.Full count) = IsFullAt (world_of s.setting) s.setting.spec s.formula s.max_sets (state.level + 1) count
+ShowsFull s state deepened.Down = ⊤

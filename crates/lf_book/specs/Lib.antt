@@ -1,3 +1,5 @@
 pub mod Books
+pub mod Drives
 pub mod Finished
+pub mod Holding
 pub mod Ways

@@ -1,12 +1,13 @@
 //! The next level, or the end of a search.
 
 ghost use Rattle.std.specs.Prelude.{◌≡◌, ℕ, ◌+◌, ◌^◌, ◌<◌};
-ghost use Rattle.lf_book.specs.Books.{scenario_of, state_of, IsDeepened};
+ghost use Rattle.lf_book.specs.Books.{scenario_of, state_of, IsDeepened, ShowsFull};
 ghost use Rattle.lf_marks.specs.Marks.{mark_at, level_of, waiting_of};
 ghost use Rattle.lf_marks.specs.Steps.{IsShape, IsUnmarked, WentDown};
 ghost use Rattle.lf_marks.specs.Steps as mark;
 
 use crate::book::Book;
+use lf_certificate::settings_are_bounded;
 use lf_marks::Marks;
 
 /// What comes after a level.
@@ -29,9 +30,11 @@ pub enum Deepened {
 
 impl Book {
     /// Ends the search, or goes on to the sets with one fault more, once each set of the level is answered. Only `Down` and the first
-    /// `Answer` or `NoneWithin` change the book. It takes no memory.
+    /// `Answer` or `NoneWithin` change the book. `Full` tells that the next level is the first that is too full, and that every allowed set
+    /// with fewer faults reaches. It takes no memory.
     pub fn deepen(&mut self) -> Deepened
         ensures deepened { IsDeepened self.old self.new result }
+        ensures full { ShowsFull (scenario_of self.old) (state_of self.old) result }
         ensures scenario { scenario_of self.new ≡ scenario_of self.old }
     {
         let counts = self.marks.counts();
@@ -50,6 +53,7 @@ impl Book {
             return Deepened::NoneWithin;
         }
         if counts.waiting > u64::from(self.scenario.max_sets()) {
+            settings_are_bounded(self.scenario.setting());
             return Deepened::Full {
                 count: counts.waiting,
             };

@@ -2,7 +2,8 @@
 
 ghost use Rattle.std.specs.Prelude.{◌≡◌, ◌≢◌, ℕ, true, false, List, Some, OnOk, OnErr, IfErr, MatchOption};
 ghost use Rattle.std.specs.Arc.{arc_value};
-ghost use Rattle.lf_book.specs.Books.{scenario_of, state_of, task_of_job, task_of_finding, number_of, IsRefusedFor, IsFiled, IsGivenBack, IsClaimOf};
+ghost use Rattle.lf_book.specs.Books.{scenario_of, state_of, task_of_job, task_of_finding, number_of};
+ghost use Rattle.lf_book.specs.Books.{IsRefusedFor, IsFiled, IsFoundOf, IsGivenBack, IsClaimOf};
 ghost use Rattle.lf_faults.specs.Faults.{set_is_before};
 ghost use Rattle.lf_marks.specs.Answers.{mark_for};
 ghost use Rattle.lf_marks.specs.Marks.{mark_at, level_of};
@@ -47,6 +48,7 @@ impl Book {
     pub fn file(&mut self, finding: Finding) -> Result<(), (Refusal, Finding)>
         ensures ok { OnOk result (IsClaimOf self.old finding.ticket (arc_value finding.scenario) finding.path.items (task_of_finding finding)) }
         ensures filed { OnOk result (IsFiled finding self.old self.new) }
+        ensures found { OnOk result (IsFoundOf finding) }
         ensures refused { IfErr result (λ back. IsRefusedFor self.old finding.ticket (arc_value finding.scenario) finding.path.items
             (task_of_finding finding) back.0) }
         ensures back { IfErr result (λ back. back.1 ≡ finding) }
@@ -71,6 +73,7 @@ impl Book {
     fn file_claimed(&mut self, finding: Finding)
         requires { IsClaimOf self.old finding.ticket (arc_value finding.scenario) finding.path.items (task_of_finding finding) }
         ensures filed { IsFiled finding self.old self.new }
+        ensures found { IsFoundOf finding }
         ensures scenario { scenario_of self.new ≡ scenario_of self.old }
     {
         let ticket = finding.ticket();

@@ -4,6 +4,7 @@
 
 mod book;
 mod deepening;
+mod driving;
 mod filing;
 mod finishing;
 mod taking;
@@ -11,6 +12,7 @@ mod tasks;
 
 pub use book::Book;
 pub use deepening::Deepened;
+pub use driving::{Event, Reply};
 pub use filing::Refusal;
 pub use finishing::Unfinished;
 pub use lf_marks::{Counts, Steps};

@@ -1,6 +1,7 @@
 use Rattle.std.proofs.Common.{◌∙◌, refl, sym, arith, true}
 use Rattle.std.specs.Arc.{arc_value}
 use mathlib.Core.Logic.{∥∥₁_elim, ∥∥₁_map, ∥∥₁_prop}
+use Rattle.lf_certificate.specs.Accepted.{IsBounded}
 use Rattle.lf_marks.specs.Marks.{mark_at, level_of}
 use Rattle.lf_sim.specs.Settings.{world_of}
 use Rattle.lf_search.specs.Events.{FindsAnswer, FindsNone, GoesDown}
@@ -8,7 +9,7 @@ use Rattle.lf_search.specs.States.{State}
 use Rattle.lf_search.proofs.Laws.{answer_closed, none_closed, down_closed, down_first}
 use Rattle.lf_book.specs.Books.{state_of}
 use Rattle.lf_book.proofs.CountLemmas.{some-ready, some-claimed}
-use Rattle.lf_book.proofs.StateLemmas.{all-done, few-waiting, none-misses, some-misses, level-within}
+use Rattle.lf_book.proofs.StateLemmas.{all-done, few-waiting, full-again, none-misses, some-misses, level-within}
 use Rattle.lf_book.proofs.book.Book.deepen.Goals as goal
 
 pub returns-then-counts-gt0-clause-deepened : goal.returns-then-counts-gt0-clause-deepened
@@ -41,7 +42,8 @@ invariant_of-self c =
     let new : State = record { level = level_of m.marks; next = m.next; finished = true; marks = mark_at m.marks } in
     let e : FindsAnswer (state_of m) new = record {
       done = done;
-      missing = some-misses (world_of s.setting) s.setting.spec s.formula s.max_sets (state_of m) m.closed m.least m.first (sym c.is_some.ensures ∙ c.if-is_some.true);
+      missing = some-misses (world_of s.setting) s.setting.spec s.formula s.max_sets (state_of m) m.closed m.least m.first
+          (sym c.is_some.ensures ∙ c.if-is_some.true);
       ends = record { level = refl; next = refl; finished = refl; marks = λ q. refl };
     } in
     record {
@@ -60,7 +62,8 @@ returns-then-is_some-clause-deepened c =
     let new : State = record { level = level_of m.marks; next = m.next; finished = true; marks = mark_at m.marks } in
     let e : FindsAnswer (state_of m) new = record {
       done = done;
-      missing = some-misses (world_of s.setting) s.setting.spec s.formula s.max_sets (state_of m) m.closed m.least m.first (sym c.is_some.ensures ∙ c.if-is_some.true);
+      missing = some-misses (world_of s.setting) s.setting.spec s.formula s.max_sets (state_of m) m.closed m.least m.first
+          (sym c.is_some.ensures ∙ c.if-is_some.true);
       ends = record { level = refl; next = refl; finished = refl; marks = λ q. refl };
     } in
     e
@@ -77,7 +80,8 @@ invariant_of-self-then-level-budget c =
     let within = level-within (world_of s.setting) s.setting.spec s.formula s.max_sets (state_of m) (state_of m) m.closed in
     let e : FindsNone s.setting.spec (state_of m) new = record {
       done = done;
-      reaching = none-misses (world_of s.setting) s.setting.spec s.formula s.max_sets (state_of m) m.closed m.least m.first (sym c.is_some.ensures ∙ c.if-is_some.false);
+      reaching = none-misses (world_of s.setting) s.setting.spec s.formula s.max_sets (state_of m) m.closed m.least m.first
+          (sym c.is_some.ensures ∙ c.if-is_some.false);
       last = omega (arith, limit, within, c.level.ensures.value, c.if-level-budget.true);
       ends = record { level = refl; next = refl; finished = refl; marks = λ q. refl };
     } in
@@ -99,7 +103,8 @@ returns-then-level-budget-clause-deepened c =
     let within = level-within (world_of s.setting) s.setting.spec s.formula s.max_sets (state_of m) (state_of m) m.closed in
     let e : FindsNone s.setting.spec (state_of m) new = record {
       done = done;
-      reaching = none-misses (world_of s.setting) s.setting.spec s.formula s.max_sets (state_of m) m.closed m.least m.first (sym c.is_some.ensures ∙ c.if-is_some.false);
+      reaching = none-misses (world_of s.setting) s.setting.spec s.formula s.max_sets (state_of m) m.closed m.least m.first
+          (sym c.is_some.ensures ∙ c.if-is_some.false);
       last = omega (arith, limit, within, c.level.ensures.value, c.if-level-budget.true);
       ends = record { level = refl; next = refl; finished = refl; marks = λ q. refl };
     } in
@@ -116,12 +121,22 @@ returns-then-counts-from-clause-deepened c =
     let most = rw c.deref-2.ensures at c.max_sets.ensures.value in
     record {
       done = done;
-      reaching = none-misses (world_of s.setting) s.setting.spec s.formula s.max_sets (state_of m) m.closed m.least m.first (sym c.is_some.ensures ∙ c.if-is_some.false);
+      reaching = none-misses (world_of s.setting) s.setting.spec s.formula s.max_sets (state_of m) m.closed m.least m.first
+          (sym c.is_some.ensures ∙ c.if-is_some.false);
       above = omega (arith, limit, c.level.ensures.value, c.if-level-budget.false);
       waiting = c.counts-counts.ensures.counts.waiting;
       many = omega (arith, most, c.from.ensures, c.if-counts-from.true);
       same = record { level = refl; next = refl; finished = refl; marks = λ q. refl };
     }
+
+pub returns-then-counts-from-clause-full : goal.returns-then-counts-from-clause-full
+returns-then-counts-from-clause-full c =
+    let m = c.args.self.now in
+    let s = arc_value m.scenario in
+    let bounded : IsBounded (world_of s.setting) s.setting.spec =
+    rw (c.setting-then-counts-from.ensures, c.deref-then-counts-from.ensures) at c.settings_are_bounded.ensures in
+    full-again (world_of s.setting) s.setting.spec s.formula s.max_sets (state_of m) m.closed bounded c.counts-counts.result.waiting (state_of m)
+    (returns-then-counts-from-clause-deepened c)
 
 pub lower-requires-clause-done : goal.lower-requires-clause-done
 lower-requires-clause-done c =
@@ -151,7 +166,8 @@ invariant_of-self-2 c =
     let most = rw c.deref-2.ensures at c.max_sets.ensures.value in
     let e : GoesDown s.setting.spec s.max_sets (state_of m) new = record {
       done = done;
-      reaching = none-misses (world_of s.setting) s.setting.spec s.formula s.max_sets (state_of m) m.closed m.least m.first (sym c.is_some.ensures ∙ c.if-is_some.false);
+      reaching = none-misses (world_of s.setting) s.setting.spec s.formula s.max_sets (state_of m) m.closed m.least m.first
+          (sym c.is_some.ensures ∙ c.if-is_some.false);
       above = omega (arith, limit, c.level.ensures.value, c.if-level-budget.false);
       few = few-waiting at n.ready n.claimed n.answered n.waiting s.max_sets c.counts-counts.ensures.counts
           (omega (arith, most, c.from.ensures, c.if-counts-from.false));
@@ -179,7 +195,8 @@ returns-clause-deepened c =
     let most = rw c.deref-2.ensures at c.max_sets.ensures.value in
     let e : GoesDown s.setting.spec s.max_sets (state_of m) new = record {
       done = done;
-      reaching = none-misses (world_of s.setting) s.setting.spec s.formula s.max_sets (state_of m) m.closed m.least m.first (sym c.is_some.ensures ∙ c.if-is_some.false);
+      reaching = none-misses (world_of s.setting) s.setting.spec s.formula s.max_sets (state_of m) m.closed m.least m.first
+          (sym c.is_some.ensures ∙ c.if-is_some.false);
       above = omega (arith, limit, c.level.ensures.value, c.if-level-budget.false);
       few = few-waiting at n.ready n.claimed n.answered n.waiting s.max_sets c.counts-counts.ensures.counts
           (omega (arith, most, c.from.ensures, c.if-counts-from.false));

@@ -1,4 +1,4 @@
-use Rattle.std.proofs.Common.{◌≡◌, ℕ, ◌+◌, List, map, take, subst, sym, Some, IsSome}
+use Rattle.std.proofs.Common.{◌≡◌, ◌+◌, List, map, take, subst, sym, Some, IsSome}
 use Rattle.std.specs.Arc.{arc_value}
 use Rattle.lf_faults.specs.declared.fault.Parts.{Parts}
 use Rattle.lf_marks.specs.Marks.{mark_at, level_of}
