@@ -1,9 +1,10 @@
 -- The reply to a text, and to the bytes at its front.
-use Rattle.std.proofs.Common.{◌≡◌, ℕ, ◌+◌, ◌<◌, ◌≤◌, List, length, take, refl, sym, ap, ◌∙◌, subst, inl, inr, arith}
-use Rattle.std.specs.Prelude.{Option, None, Some, IfSome, Result, Ok, Err, IfErr}
+use Rattle.std.proofs.Common.{◌≡◌, ℕ, ◌+◌, ◌<◌, ◌≤◌, List, length, take, refl, sym, ap, ◌∙◌, subst, inl, inr, arith, string_bytes}
+use Rattle.std.specs.Prelude.{◌⊎◌, Option, None, Some, IfSome, Result, Ok, Err, IfErr}
 use Rattle.std.specs.Io.KnownBytes.{Appends}
 use Rattle.std.proofs.lemmas.Bool.{cases_lt}
 use Rattle.std.proofs.lemmas.List.{take_all, length-take}
+use Rattle.lf_alone.specs.Ends.{IsNeverFull}
 use Rattle.lf_faults.specs.declared.fault.Parts.{Parts}
 use Rattle.lf_faults.specs.Allowed.{IsAllowed}
 use Rattle.lf_faults.specs.declared.spec.Bounds.{Bounds}
@@ -22,15 +23,39 @@ use Rattle.lf_tree.specs.declared.fault.TreeFault.{TreeFault}
 use Rattle.lf_tree.specs.declared.fault.TreeFault.TheVariants as tree
 use Rattle.lf_tree.specs.FirstFaults.{IsFirstFault}
 use Rattle.lf_tree.specs.Texts.{most_bytes}
-use Rattle.leastfault.specs.Answers.{IsAnswer, reaches_in}
+use Rattle.leastfault.specs.declared.answering.Found.{Found}
+use Rattle.leastfault.specs.Answers.{reaches_in}
+use Rattle.leastfault.specs.Searches.{IsFoundFor}
 use Rattle.leastfault.specs.Reports.{check_status, judgement, no_set_line, report, run_status, search_status}
 use Rattle.leastfault.specs.Replies.{IsCheckReply, IsRunReply, IsSearchReply, RepliesCheck, RepliesRefusal, ToBoth, ToHeld, WrotePart, WroteReply}
-use Rattle.leastfault.specs.Replies.{IsTreeText}
+use Rattle.leastfault.specs.Replies.{HandsOut, IsSearched, IsTreeFor, IsTreeText, RepliesFull, RepliesReport}
 
-pub search_from_report : (text reply : List ℕ) (status budget : ℕ) (s : Scenario) (answer : Option (List Parts)) → IsText s text → IsAnswer s answer
-    → budget ≡ s.setting.spec.budget → reply ≡ report budget answer → status ≡ search_status answer → IsSearchReply text reply status
-search_from_report text reply status budget s answer reads answers within is ends =
-    inr (s, answer, reads, answers, is ∙ ap (λ b. report b answer) within, ends)
+-- the reply of a search, from what it came to for the scenario
+replied : (text reply : List ℕ) (status : ℕ) (tree : Option Tree) (s : Scenario) → IsText s text
+    → (RepliesFull s reply status × (tree ≡ None))
+    ⊎ (RepliesReport s reply status × ((t : Tree) × (tree ≡ Some t) × IsTreeFor s t × (status ≡ search_status t.answer)))
+    → IsSearched tree text reply status
+replied text reply status tree s reads (inl full) =
+    (inr (s, reads, inl full.0), subst (λ t. HandsOut text t status) (sym full.1) full.0.4)
+replied text reply status tree s reads (inr report) = (
+  inr (s, reads, inr report.0),
+  subst (λ t. HandsOut text t status) (sym report.1.1) (s, reads, report.1.2, report.1.3),
+)
+
+pub search_found : (text : List ℕ) (s : Scenario) (found : Found) → IsText s text → IsFoundFor s found
+    → IsSearched found.tree text (string_bytes found.reply.text) found.reply.status
+search_found text s found reads is = replied text (string_bytes found.reply.text) found.reply.status found.tree s reads is
+
+-- what a search comes to that has ended, with its tree
+pub found_for : (s t : Scenario) (tree : Tree) (found : Found) (budget : ℕ) → t ≡ s → IsNeverFull t → IsTreeFor t tree
+    → budget ≡ s.setting.spec.budget → found.tree ≡ Some tree → string_bytes found.reply.text ≡ report budget tree.answer
+    → found.reply.status ≡ search_status tree.answer → IsFoundFor s found
+found_for s t tree found budget same never is within hands told ends =
+    let for_s = subst (λ x. IsTreeFor x tree) same is in
+    inr (
+      (tree.answer, subst IsNeverFull same never, for_s.search.answer, told ∙ ap (λ b. report b tree.answer) within, ends),
+      (tree, hands, for_s, ends),
+    )
 
 -- the allowed set that the words name, from the set that they name
 abbrev IsChoice : List ℕ → Bounds → Option (List Parts) → Type 0
@@ -102,7 +127,15 @@ module _ (held reply : List ℕ) (status : ℕ) where
 
   search_long : longest < length held → IsSearchReply (take (longest + 1) held) reply status → IsSearchReply held reply status
   search_long more (inl refusal) = inl (refused_reply more refusal)
-  search_long more (inr found) = absurd (front more found.2.short)
+  search_long more (inr found) = absurd (front more found.1.short)
+
+  hands_long : (tree : Option Tree) → longest < length held → HandsOut (take (longest + 1) held) tree status → HandsOut held tree status
+  hands_long None more is = is
+  hands_long (Some t) more is = absurd (front more is.1.short)
+
+  searched_long : (tree : Option Tree) → longest < length held → IsSearched tree (take (longest + 1) held) reply status
+      → IsSearched tree held reply status
+  searched_long tree more is = (search_long more is.0, hands_long tree more is.1)
 
   run_long : (words : List ℕ) → longest < length held → IsRunReply words (take (longest + 1) held) reply status → IsRunReply words held reply status
   run_long words more (inl refusal) = inl (refused_reply more refusal)
@@ -142,6 +175,9 @@ GoesByFront most IsReply =
 pub search_by_front : GoesByFront longest IsSearchReply
 search_by_front held reply status = search_long held reply status
 
+pub searched_by_front : (tree : Option Tree) → GoesByFront longest (IsSearched tree)
+searched_by_front tree held reply status = searched_long held reply status tree
+
 pub run_by_front : (words : List ℕ) → GoesByFront longest (IsRunReply words)
 run_by_front words held reply status = run_long held reply status words
 
@@ -171,7 +207,8 @@ to_both held other items text other_items certificate reply status tells same te
     to_held longest (λ t. ToHeld (IsCheckReply t) other)
     (λ h r n more found. (found.0, found.1, check_long h r n found.0 more found.2))
     held items text reply status tells same
-    (to_held most_bytes (IsCheckReply text) (λ h r n more found. tree_long h r n text more found) other other_items certificate reply status tells_too same_too is)
+    (to_held most_bytes (IsCheckReply text) (λ h r n more found. tree_long h r n text more found) other other_items certificate reply status
+    tells_too same_too is)
 
 module _ (IsReply : List ℕ → ℕ → Type 0) (old new : Option (List ℕ)) (reply : List ℕ) (status : ℕ) (is : IsReply reply status) where
   pub wrote_reply : (answered : ℕ) → answered ≡ status → Appends old new reply → WroteReply IsReply old new answered

@@ -1,6 +1,6 @@
 -- A text, and words, have one reply at most.
-use Rattle.std.proofs.Common.{◌≡◌, ℕ, List, not, sym, ap, ◌∙◌, subst, inl, inr}
-use Rattle.std.specs.Prelude.{◌⊎◌, Ok, Option}
+use Rattle.std.proofs.Common.{◌≡◌, ℕ, List, not, refl, sym, ap, ◌∙◌, subst, inl, inr, arith}
+use Rattle.std.specs.Prelude.{◌⊎◌, Ok, Option, None, Some}
 use Rattle.lf_faults.specs.declared.fault.Parts.{Parts}
 use Rattle.lf_faults.specs.Allowed.{IsAllowed, IsFirst}
 use Rattle.lf_faults.specs.declared.spec.Bounds.{Bounds}
@@ -9,10 +9,14 @@ use Rattle.lf_sim.specs.Runs.{World}
 use Rattle.lf_sim.specs.Settings.{world_of}
 use Rattle.lf_outcome.specs.declared.formula.Formula.{Formula}
 use Rattle.lf_outcome.specs.Truth.{reaches}
-use Rattle.lf_certificate.proofs.Laws.{accepted_has_none, first_fault_one}
+use Rattle.lf_alone.specs.Ends.{IsFull}
+use Rattle.lf_alone.proofs.Laws.{full_is_one}
+use Rattle.lf_certificate.specs.Grown.{IsTreeOf}
+use Rattle.lf_certificate.proofs.Laws.{accepted_has_none, first_fault_one, tree_one}
 use Rattle.lf_scenario.specs.declared.scenario.Scenario.{Scenario}
 use Rattle.lf_scenario.specs.Sameness.{AreSame}
 use Rattle.lf_scenario.proofs.Laws.{refusals_are_one, refused_is_no_text, scenarios_are_one, worlds_are_one}
+use Rattle.lf_search.specs.Levels.{IsFullAt}
 use Rattle.lf_trace.specs.Namings.{Names}
 use Rattle.lf_trace.specs.Traces.{trace}
 use Rattle.lf_tree.specs.declared.tree.Tree.{Tree}
@@ -22,9 +26,9 @@ use Rattle.lf_tree.specs.Texts.{IsInRange, tree_text}
 use Rattle.lf_tree.specs.Trees.{IsTree}
 use Rattle.lf_tree.specs.Values.{tree_value}
 use Rattle.leastfault.specs.Answers.{IsAnswer, reaches_in}
-use Rattle.leastfault.specs.Reports.{no_line, refusal, report, run_status, search_status, tree_refusal}
-use Rattle.leastfault.specs.Replies.{HasOneReply, IsCheckReply, IsRunReply, IsSearchReply, RepliesCheck, RepliesNoSet, RepliesRefusal, RepliesReport}
-use Rattle.leastfault.specs.Replies.{RepliesTrace, RepliesTreeRefusal, RepliesVerdict}
+use Rattle.leastfault.specs.Reports.{full_line, no_line, refusal, report, run_status, search_status, tree_refusal}
+use Rattle.leastfault.specs.Replies.{HandsOut, HasOneReply, IsCheckReply, IsRunReply, IsSearchReply, IsTreeFor, RepliesCheck, RepliesNoSet}
+use Rattle.leastfault.specs.Replies.{RepliesRefusal, RepliesSearch, RepliesTrace, RepliesTreeRefusal, RepliesVerdict}
 use Rattle.leastfault.proofs.TreeTexts.{tree_faults_one, tree_not_refused, trees_one}
 
 -- scenarios that are the same have one answer
@@ -41,19 +45,62 @@ refusals_one text one other m n a b =
     let same = refusals_are_one text a.0 b.0 a.1 b.1 in
     (a.2 ∙ ap refusal same ∙ sym b.2, a.3 ∙ sym b.3)
 
-reports_one : (text : List ℕ) → HasOneReply (RepliesReport text)
-reports_one text one other m n a b =
-    let same = scenarios_are_one text a.0 b.0 a.2 b.2 in
-    let answers = answers_one a.0 b.0 a.1 b.1 same a.3 b.3 in (
-      a.4 ∙ ap (λ bounds. report bounds.budget a.1) same.bounds ∙ ap (report b.0.setting.spec.budget) answers ∙ sym b.4,
-      a.5 ∙ ap search_status answers ∙ sym b.5,
+-- scenarios that are the same have one first level that is too full
+full_of_same : (s t : Scenario) → AreSame s t → (k count : ℕ) → IsFull s k count → IsFull t k count
+full_of_same s t same k count full =
+    subst (λ most. IsFullAt (world_of t.setting) t.setting.spec t.formula most k count) same.max_sets
+    (subst (λ f. IsFullAt (world_of t.setting) t.setting.spec f s.max_sets k count) same.formula
+    (subst (λ w. IsFullAt w t.setting.spec s.formula s.max_sets k count) (worlds_are_one s t same)
+    (subst (λ b. IsFullAt (world_of s.setting) b s.formula s.max_sets k count) same.bounds full)))
+
+back : (s t : Scenario) → AreSame s t → AreSame t s
+back s t same = record {
+  protocol = sym same.protocol;
+  network = sym same.network;
+  bounds = sym same.bounds;
+  formula = sym same.formula;
+  max_sets = sym same.max_sets;
+}
+
+-- and one reply of a search
+searches_one : (s t : Scenario) → AreSame s t → (one other : List ℕ) (m n : ℕ) → RepliesSearch s one m → RepliesSearch t other n
+    → (one ≡ other) × (m ≡ n)
+searches_one s t same one other m n (inl a) (inl b) =
+    let levels = full_is_one t a.0 b.0 a.1 b.1 (full_of_same s t same a.0 a.1 a.2) b.2 in
+    (a.3 ∙ ap (λ k. full_line k a.1) levels.0 ∙ ap (full_line b.0) levels.1 ∙ sym b.3, a.4 ∙ sym b.4)
+searches_one s t same one other m n (inl a) (inr b) = absurd (b.1 a.0 a.1 (full_of_same s t same a.0 a.1 a.2))
+searches_one s t same one other m n (inr a) (inl b) = absurd (a.1 b.0 b.1 (full_of_same t s (back s t same) b.0 b.1 b.2))
+searches_one s t same one other m n (inr a) (inr b) =
+    let answers = answers_one s t a.0 b.0 same a.2 b.2 in (
+      a.3 ∙ ap (λ bounds. report bounds.budget a.0) same.bounds ∙ ap (report t.setting.spec.budget) answers ∙ sym b.3,
+      a.4 ∙ ap search_status answers ∙ sym b.4,
     )
 
 pub search_replies_one : (text : List ℕ) → HasOneReply (IsSearchReply text)
 search_replies_one text one other m n (inl a) (inl b) = refusals_one text one other m n a b
-search_replies_one text one other m n (inl a) (inr b) = absurd (refused_is_no_text text a.0 b.0 a.1 b.2)
-search_replies_one text one other m n (inr a) (inl b) = absurd (refused_is_no_text text b.0 a.0 b.1 a.2)
-search_replies_one text one other m n (inr a) (inr b) = reports_one text one other m n a b
+search_replies_one text one other m n (inl a) (inr b) = absurd (refused_is_no_text text a.0 b.0 a.1 b.1)
+search_replies_one text one other m n (inr a) (inl b) = absurd (refused_is_no_text text b.0 a.0 b.1 a.1)
+search_replies_one text one other m n (inr a) (inr b) =
+    searches_one a.0 b.0 (scenarios_are_one text a.0 b.0 a.1 b.1) one other m n a.2 b.2
+
+-- one tree is handed out
+tree_of_same : (s t : Scenario) (tree : Tree) → AreSame s t → IsTreeFor s tree → IsTreeOf (world_of t.setting) t.setting.spec t.formula tree
+tree_of_same s t tree same is =
+    subst (λ f. IsTreeOf (world_of t.setting) t.setting.spec f tree) same.formula
+    (subst (λ w. IsTreeOf w t.setting.spec s.formula tree) (worlds_are_one s t same)
+    (subst (λ b. IsTreeOf (world_of s.setting) b s.formula tree) same.bounds is.search))
+
+no_answer_is_two : (answer : Option (List Parts)) → 2 ≡ search_status answer → ⊥
+no_answer_is_two None is = omega (arith, is)
+no_answer_is_two (Some faults) is = omega (arith, is)
+
+pub handed_one : (text : List ℕ) (status : ℕ) (one other : Option Tree) → HandsOut text one status → HandsOut text other status → one ≡ other
+handed_one text status None None a b = refl
+handed_one text status None (Some u) a b = absurd (no_answer_is_two u.answer (sym a ∙ b.3))
+handed_one text status (Some t) None a b = absurd (no_answer_is_two t.answer (sym b ∙ a.3))
+handed_one text status (Some t) (Some u) a b =
+    let same = scenarios_are_one text a.0 b.0 a.1 b.1 in
+    ap Some (tree_one (world_of b.0.setting) b.0.setting.spec b.0.formula t u (tree_of_same a.0 b.0 t same a.2) b.2.search)
 
 -- words that name one set at most
 module _ (words : List ℕ) (named_one : (one other : List Parts) → Names words one → Names words other → one ≡ other) where

@@ -2,3 +2,4 @@ pub mod Answers
 pub mod Reports
 pub mod Replies
 pub mod Given
+pub mod Searches

@@ -1,9 +1,11 @@
 -- The reply to a text, and what an engine answers.
-use Rattle.std.specs.Prelude.{◌≡◌, ◌⊎◌, ℕ, ◌<◌, ◌≤◌, Bool, true, false, List, length, take, drop, Option, Some, Result, Ok, Err, IfSome}
+use Rattle.std.specs.Prelude.{◌≡◌, ◌⊎◌, ℕ, ◌<◌, ◌≤◌, Bool, true, false, List, length, take, drop, Option, None, Some, Result, Ok, Err, IfSome}
 use Rattle.std.specs.Io.KnownBytes.{Appends}
 use Rattle.lf_certificate.specs.declared.reason.Reason.{Reason}
 use Rattle.lf_certificate.specs.Accepted.{IsAccepted}
 use Rattle.lf_certificate.specs.Faults.{IsFirstFault}
+use Rattle.lf_certificate.specs.Grown.{IsTreeOf}
+use Rattle.lf_alone.specs.Ends.{IsFull, IsNeverFull}
 use Rattle.lf_faults.specs.declared.fault.Parts.{Parts}
 use Rattle.lf_faults.specs.Allowed.{IsAllowed}
 use Rattle.lf_faults.specs.declared.spec.Bounds.{Bounds}
@@ -23,21 +25,44 @@ use Rattle.lf_tree.specs.Trees.{IsTree}
 use Rattle.leastfault.specs.declared.engine.BytesFault.{BytesFault}
 use Rattle.leastfault.specs.declared.engine.BytesFault.TheVariants as faults
 use Rattle.leastfault.specs.Answers.{IsAnswer, reaches_in}
-use Rattle.leastfault.specs.Reports.{no_line, no_set_line, refusal, report, run_status, search_status, tree_refusal, yes_line}
+use Rattle.leastfault.specs.Reports.{full_line, no_line, no_set_line, refusal, report, run_status, search_status, tree_refusal, yes_line}
 
 -- the line of the refusal, where the text is refused, with status 2
 abbrev pub RepliesRefusal : List ℕ → List ℕ → ℕ → Type 0
 RepliesRefusal text reply status = (e : ScenarioError) × IsRefused text e × (reply ≡ refusal e) × (status ≡ 2)
 
--- the report of the answer to the scenario, where it is the text of one, with the status of the answer
-abbrev pub RepliesReport : List ℕ → List ℕ → ℕ → Type 0
-RepliesReport text reply status =
-    (s : Scenario) × (answer : Option (List Parts)) × IsText s text × IsAnswer s answer
+-- the line of the first level that is too full, where one is and no set with fewer faults defeats the outcome, with status 2
+abbrev pub RepliesFull : Scenario → List ℕ → ℕ → Type 0
+RepliesFull s reply status = (level : ℕ) × (count : ℕ) × IsFull s level count × (reply ≡ full_line level count) × (status ≡ 2)
+
+-- the report of the answer, where no level is too full before it, with the status of the answer
+abbrev pub RepliesReport : Scenario → List ℕ → ℕ → Type 0
+RepliesReport s reply status =
+    (answer : Option (List Parts)) × IsNeverFull s × IsAnswer s answer
     × (reply ≡ report s.setting.spec.budget answer) × (status ≡ search_status answer)
+
+-- the reply of a search for the scenario
+abbrev pub RepliesSearch : Scenario → List ℕ → ℕ → Type 0
+RepliesSearch s reply status = RepliesFull s reply status ⊎ RepliesReport s reply status
 
 -- the reply of a search
 abbrev pub IsSearchReply : List ℕ → List ℕ → ℕ → Type 0
-IsSearchReply text reply status = RepliesRefusal text reply status ⊎ RepliesReport text reply status
+IsSearchReply text reply status =
+    RepliesRefusal text reply status ⊎ ((s : Scenario) × IsText s text × RepliesSearch s reply status)
+
+-- the tree of the search for the scenario, which is accepted
+pub record IsTreeFor (s : Scenario) (tree : Tree) : Type 0 where
+  pub search : IsTreeOf (world_of s.setting) s.setting.spec s.formula tree
+  pub accepted : IsAccepted (world_of s.setting) s.setting.spec s.formula tree
+
+-- what is handed out with a reply: the tree of the search, where the status is that of its answer, and none where it is 2
+abbrev pub HandsOut : List ℕ → Option Tree → ℕ → Type 0
+HandsOut text None status = status ≡ 2
+HandsOut text (Some tree) status = (s : Scenario) × IsText s text × IsTreeFor s tree × (status ≡ search_status tree.answer)
+
+-- the reply of a search, and what is handed out with it
+abbrev pub IsSearched : Option Tree → List ℕ → List ℕ → ℕ → Type 0
+IsSearched tree text reply status = IsSearchReply text reply status × HandsOut text tree status
 
 -- the line that no allowed set has this name, where the words name none, or none that the scenario allows, with status 2
 abbrev pub RepliesNoSet : List ℕ → Scenario → List ℕ → ℕ → Type 0

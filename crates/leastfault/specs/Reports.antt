@@ -25,6 +25,10 @@ abbrev pub report : ℕ → Option (List Parts) → List ℕ
 report budget None = line (codes "none " ++ decimal budget)
 report budget (Some faults) = line (codes "least " ++ decimal (length faults)) ++ fault_lines faults
 
+-- `full`, how many faults the sets of the level have that is too full, and how many there are
+abbrev pub full_line : ℕ → ℕ → List ℕ
+full_line level count = codes "full " ++ (decimal level ++ (codes " " ++ line (decimal count)))
+
 -- 0 where no set defeats the outcome, and 1 where one does
 abbrev pub search_status : Option (List Parts) → ℕ
 search_status None = 0

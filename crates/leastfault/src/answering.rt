@@ -7,16 +7,20 @@ ghost use Rattle.lf_sim.specs.Settings.{world_of};
 ghost use Rattle.lf_trace.specs.Namings.{Names};
 ghost use Rattle.lf_trace.specs.Traces.{trace};
 ghost use Rattle.leastfault.specs.Answers.{reaches_in};
-ghost use Rattle.leastfault.specs.Replies.{IsRunReply, IsSearchReply};
-ghost use Rattle.leastfault.specs.Reports.{no_set_line, refusal, run_status, search_status};
+ghost use Rattle.leastfault.specs.Replies.{IsRunReply, IsSearched};
+ghost use Rattle.leastfault.specs.Searches.{IsFoundFor};
+ghost use Rattle.leastfault.specs.Reports.{full_line, no_set_line, refusal, report, run_status, search_status};
 
-use crate::{plain_answer, refusal, report};
+use crate::{full_line, refusal, report};
+use lf_alone::{Ended, solve};
 use lf_faults::{FaultSet, admits};
 use lf_outcome::holds;
 use lf_scenario::{Scenario, ScenarioError, read};
 use lf_sim::run;
 use lf_trace::{read_faults, trace};
+use lf_tree::Tree;
 use std::alloc::{AllocError, Global};
+use std::sync::Arc;
 
 /// A reply, before it is written.
 #[derive(Debug, Drop)]
@@ -25,18 +29,65 @@ pub(crate) struct Reply {
     pub(crate) status: u8,
 }
 
+/// A search's reply, before it is written, and the tree that is handed out with it.
+#[derive(Drop)]
+pub(crate) struct Found {
+    pub(crate) reply: Reply,
+    pub(crate) tree: Option<Tree>,
+}
+
 /// The reply of a search to a scenario's text.
-pub(crate) fn search_reply(alloc: Global, text: &[u8]) -> Result<Reply, AllocError>
-    ensures { IfOk result (λ reply. IsSearchReply text.now (string_bytes reply.text) reply.status) }
+pub(crate) fn search_reply(alloc: Global, text: &[u8]) -> Result<Found, AllocError>
+    ensures { IfOk result (λ found. IsSearched found.tree text.now (string_bytes found.reply.text) found.reply.status) }
 {
-    let scenario = match read(alloc, text) {
-        Ok(scenario) => scenario,
-        Err(error) => return refused(alloc, error),
-    };
-    let answer = plain_answer(alloc, &scenario)?;
+    match read(alloc, text) {
+        Ok(scenario) => searched(alloc, scenario),
+        Err(error) => Ok(Found {
+            reply: refused(alloc, error)?,
+            tree: None,
+        }),
+    }
+}
+
+/// The reply of a search for a scenario.
+fn searched(alloc: Global, scenario: Scenario) -> Result<Found, AllocError>
+    ensures { IfOk result (IsFoundFor scenario) }
+{
+    let budget = scenario.setting().spec.budget();
+    match solve(alloc, Arc::new(alloc, scenario)?)? {
+        Ended::Finished(book) => {
+            let made = book.into_tree();
+            let Ok(tree) = made else { unreachable!() };
+            Ok(Found {
+                reply: reported(alloc, budget, &tree.answer)?,
+                tree: Some(tree),
+            })
+        }
+        Ended::Full { level, count } => Ok(Found {
+            reply: full(alloc, level, count)?,
+            tree: None,
+        }),
+    }
+}
+
+/// The reply that reports an answer.
+fn reported(alloc: Global, budget: u32, answer: &Option<FaultSet>) -> Result<Reply, AllocError>
+    ensures { IfOk result (λ reply.
+        (string_bytes reply.text ≡ report budget answer.now) × (reply.status ≡ search_status answer.now)) }
+{
     Ok(Reply {
-        text: report(alloc, scenario.setting().spec.budget(), &answer)?,
-        status: search_status(&answer),
+        text: report(alloc, budget, answer)?,
+        status: search_status(answer),
+    })
+}
+
+/// The reply where a level is too full.
+fn full(alloc: Global, level: u32, count: u64) -> Result<Reply, AllocError>
+    ensures { IfOk result (λ reply. (string_bytes reply.text ≡ full_line level count) × (reply.status ≡ 2)) }
+{
+    Ok(Reply {
+        text: full_line(alloc, level, count)?,
+        status: 2,
     })
 }
 

@@ -4,13 +4,14 @@ ghost use Rattle.std.specs.Prelude.{◌≡◌, ◌≢◌, ℕ, ◌+◌, ◌<◌,
 ghost use Rattle.std.specs.Io.KnownBytes.{Appends};
 ghost use Rattle.lf_scenario.specs.Limits.{longest};
 ghost use Rattle.lf_tree.specs.Texts.{most_bytes};
-ghost use Rattle.leastfault.specs.Replies.{IsCheckReply, IsRunReply, IsSearchReply};
+ghost use Rattle.leastfault.specs.Replies.{IsCheckReply, IsRunReply, IsSearchReply, IsSearched};
 ghost use Rattle.leastfault.specs.Replies.{ToBoth, ToHeld, TookAtMost, WrotePart, WroteReply, tells_read, tells_write};
 
 use crate::answering::{Reply, run_reply, search_reply};
 use crate::checking::{check_reply, check_reply_rows};
 use lf_scenario::LONGEST;
 use lf_streams::{ReadFault, Sink, Source, read_up_to, write_all};
+use lf_tree::Tree;
 use std::alloc::Global;
 use std::thread::Threads;
 use thiserror::Error;
@@ -33,13 +34,17 @@ pub enum BytesFault {
 pub const LONGEST_TREE: usize = 16_777_216;
 
 /// What a search came to, once its reply is written.
-#[derive(Clone, Copy, Debug, PartialEq, Eq)]
+#[derive(Debug, Drop)]
 pub struct Searched {
-    /// 0 where no allowed set of faults defeats the outcome, 1 where one does, 2 where the scenario is refused.
+    /// 0 where no allowed set of faults defeats the outcome, 1 where one does, 2 where the scenario is refused or a level of the
+    /// search is too full.
     pub status: u8,
+    /// The certificate of the answer, where there is one: the tree of the search.
+    pub tree: Option<Tree>,
 }
 
-/// Reads a scenario, searches it, and writes the report of its answer, or the line of its refusal.
+/// Reads a scenario, searches it, and writes the report of its answer, or the line of its refusal, or that a level of the search has
+/// more sets than the scenario lets it keep. With an answer comes the tree of the search, which a checker accepts.
 ///
 /// Of the source it takes at most `LONGEST + 1` bytes. It writes once the whole reply is there: after `Read` and `Memory`
 /// nothing was written. A read that fails, also one that was interrupted, is `Read` at once. It runs in one thread, and
@@ -51,9 +56,9 @@ pub fn search_bytes<R: Source, W: Sink>(
 ) -> Result<Searched, BytesFault>
     requires reader { R.has_failed reader.old ≡ false }
     requires writer { W.has_failed writer.old ≡ false }
-    // The reply to what the source held was written, and the status is that of the reply.
+    // The reply to what the source held was written, the status is that of the reply, and the tree is the scenario's.
     ensures reply { IfOk result (λ searched.
-        WroteReply (ToHeld IsSearchReply (R.left reader.old)) (W.written writer.old) (W.written writer.new) searched.status) }
+        WroteReply (ToHeld (IsSearched searched.tree) (R.left reader.old)) (W.written writer.old) (W.written writer.new) searched.status) }
     // `Write` leaves a part of the reply, and any other fault nothing.
     ensures part { result ≡ Err BytesFault.Write →
         WrotePart (ToHeld IsSearchReply (R.left reader.old)) (W.written writer.old) (W.written writer.new) }
@@ -65,11 +70,14 @@ pub fn search_bytes<R: Source, W: Sink>(
     ensures taken { TookAtMost (longest + 1) (R.left reader.old) (R.left reader.new) }
 {
     let text = read_text(alloc, reader, LONGEST)?;
-    let Ok(reply) = search_reply(alloc, text.as_slice()) else {
+    let Ok(found) = search_reply(alloc, text.as_slice()) else {
         return Err(BytesFault::Memory);
     };
-    let status = send(writer, &reply)?;
-    Ok(Searched { status })
+    let status = send(writer, &found.reply)?;
+    Ok(Searched {
+        status,
+        tree: found.tree,
+    })
 }
 
 /// Reads a scenario, runs it under the set of faults that `faults` names, and writes the trace of that run. It answers the

@@ -6,7 +6,7 @@ ghost use Rattle.lf_scenario.specs.declared.scenario.Scenario.{Scenario};
 ghost use Rattle.lf_scenario.specs.Scenarios.{IsText};
 ghost use Rattle.lf_tree.specs.declared.tree.Tree.{Tree};
 ghost use Rattle.leastfault.specs.Answers.{IsAnswer, IsLeast};
-ghost use Rattle.leastfault.specs.Replies.{HasOneReply, IsCheckReply, IsRunReply, IsSearchReply, IsTreeText};
+ghost use Rattle.leastfault.specs.Replies.{HandsOut, HasOneReply, IsCheckReply, IsRunReply, IsSearchReply, IsTreeText};
 ghost use Rattle.leastfault.specs.Reports.{yes_line};
 
 use lf_trace::names_are_one;
@@ -17,9 +17,11 @@ pub fn answers_are_one()
     ensures { (s : Scenario) (x y : Option (List Parts)) → IsAnswer s x → IsAnswer s y → x ≡ y }
 {}
 
-/// A text has at most one reply of a search, with one status, and with these words at most one of a run.
+/// A text has at most one reply of a search, with one status and one tree that is handed out, and with these words at most one of
+/// a run.
 pub fn replies_are_one(faults: &str)
     ensures search { (text : List ℕ) → HasOneReply (IsSearchReply text) }
+    ensures tree { (text : List ℕ) (status : ℕ) (one other : Option Tree) → HandsOut text one status → HandsOut text other status → one ≡ other }
     ensures run { (text : List ℕ) → HasOneReply (IsRunReply faults.now text) }
 {
     names_are_one(faults);

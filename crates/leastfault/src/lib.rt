@@ -1,7 +1,7 @@
 //! The least faults that defeat an outcome.
 //!
 //! An engine reads a scenario's text and writes a reply: the fewest faults that defeat the scenario's outcome, or that no
-//! allowed set of faults does; or the trace of one run; or, of a certificate's text beside it, whether it is right.
+//! allowed set of faults does, with a certificate of that; or the trace of one run; or, of a certificate's text beside it, whether it is right.
 #![tactic(auto)]
 
 mod answer;
@@ -18,4 +18,4 @@ pub use engine::{
 pub use laws::{answers_are_one, check_replies_are_one, replies_are_one, yes_is_the_answer};
 pub use lf_streams::{Failed, FromRead, Sink, Source, ToWrite};
 pub use lf_words::{Asked, Unasked, asked};
-pub use replies::{judgement, refusal, report, tree_refusal};
+pub use replies::{full_line, judgement, refusal, report, tree_refusal};

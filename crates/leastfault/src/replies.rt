@@ -1,7 +1,7 @@
 //! The lines of replies.
 
 ghost use Rattle.std.specs.Prelude.{◌≡◌, ◌++◌, IfOk, string_bytes};
-ghost use Rattle.leastfault.specs.Reports.{dotted, fault_lines, judgement, path_text, refusal, report, tree_refusal};
+ghost use Rattle.leastfault.specs.Reports.{dotted, fault_lines, full_line, judgement, path_text, refusal, report, tree_refusal};
 
 use lf_check::Verdict;
 use lf_faults::{FaultSet, fault_text};
@@ -22,6 +22,13 @@ pub fn report(alloc: Global, budget: u32, answer: &Option<FaultSet>) -> Result<S
             Ok(text)
         }
     }
+}
+
+/// The line of a level that is too full: `full LEVEL COUNT`, with the number of faults of its sets and the number of these.
+pub fn full_line(alloc: Global, level: u32, count: u64) -> Result<String, AllocError>
+    ensures { IfOk result (λ text. string_bytes text ≡ full_line level count) }
+{
+    format!(in alloc; "full {level} {count}\n")
 }
 
 /// Adds the faults of a set, each on a line of its own.

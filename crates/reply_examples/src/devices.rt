@@ -116,7 +116,7 @@ fn a_sink_that_takes_none_is_told(rt: HostRuntime) -> Result<(), Fail> {
     let mut source = FromRead::new(ONCE.as_bytes());
     let mut sink = ToWrite::new(none.as_mut_slice());
     let answered = search_bytes(rt.alloc(), &mut source, &mut sink);
-    assert!(rt; answered == Err(BytesFault::Write));
+    assert!(rt; matches!(&answered, Err(BytesFault::Write)));
     assert!(rt; sink.failed());
     Ok(())
 }

@@ -202,6 +202,7 @@ fn pauses_split_the_primary(rt: HostRuntime) -> Result<(), Fail> {
         concat!(
             "3 6 0 0 1|pauses = 1;pause_length = 2;protocol = \"primary_backup\";patience = 3;outcome = \"one_primary\"|1|least 1;pause 0 @1\n",
             "3 6 0 0 1|pauses = 1;pause_length = 1;protocol = \"primary_backup\";patience = 3;outcome = \"one_primary\"|0|none 1\n",
+            "3 6 0 0 1|pauses = 1;pause_length = 2;protocol = \"primary_backup\";patience = 3;outcome = \"one_primary\";max_sets = 15|2|full 1 16\n",
             "3 6 0 0 1|pauses = 4;pause_length = 2;protocol = \"primary_backup\";patience = 3;outcome = \"one_primary\"|2|refused 6 pauses\n",
             "3 6 0 0 1|pauses = 1;pause_length = 9;protocol = \"primary_backup\";patience = 3;outcome = \"one_primary\"|2|refused 6 pause_length\n",
         ),

@@ -1,6 +1,6 @@
 //! Searches of scenarios that promise delivery, and of texts that are refused.
 
-use crate::texts::{ONCE, columns, push_lines, scenario, search_replies, searches};
+use crate::texts::{ONCE, columns, is_tree_text, push_lines, scenario, search_replies, searches};
 use leastfault::{plain_answer, report};
 use lf_scenario::{LONGEST, read};
 use std::alloc::{AllocError, Global};
@@ -22,12 +22,13 @@ fn retries_past_the_last_omission_arrive(rt: HostRuntime) -> Result<(), Fail> {
     )
 }
 
-/// All three tries may be lost, whatever the number of sets that the search keeps.
+/// All three tries may be lost, where the search may keep all sets of a level: 6 of one fault, 15 of two, and 20 of three.
 const ALL_LOST: &str = concat!(
     "3 4 3 0 3|protocol = \"retry\";tries = 3;outcome = \"delivered\"|1|",
     "least 3;omit 0>1 @1;omit 0>1 @2;omit 0>1 @3\n",
-    "3 4 3 0 3|protocol = \"retry\";tries = 3;outcome = \"delivered\";max_sets = 5|1|",
-    "least 3;omit 0>1 @1;omit 0>1 @2;omit 0>1 @3\n",
+    "3 4 3 0 3|protocol = \"retry\";tries = 3;outcome = \"delivered\";max_sets = 5|2|full 1 6\n",
+    "3 4 3 0 3|protocol = \"retry\";tries = 3;outcome = \"delivered\";max_sets = 14|2|full 2 15\n",
+    "3 4 3 0 3|protocol = \"retry\";tries = 3;outcome = \"delivered\";max_sets = 15|2|full 3 20\n",
     "3 4 3 0 3|protocol = \"retry\";tries = 3;outcome = \"delivered\";max_sets = 20|1|",
     "least 3;omit 0>1 @1;omit 0>1 @2;omit 0>1 @3\n",
 );
@@ -104,6 +105,25 @@ fn pauses_defeat_delivery(rt: HostRuntime) -> Result<(), Fail> {
             "2 3 0 0 1|protocol = \"redundant\";tries = 1;outcome = \"delivered\";pauses = 1|1|least 1;pause 1 @2\n",
         ),
     )
+}
+
+#[test]
+fn what_is_not_heard_of_is_not_searched(rt: HostRuntime) -> Result<(), Fail> {
+    let lines =
+        "protocol = \"retry\";tries = 2;spread = 3;outcome = [\"shows\", 1, 2, \"lacks\"];max_sets = 2";
+    let text = scenario(rt.alloc(), "2 3 0 1 1", lines)?;
+    let reply = "1|least 1;crash 1 @1";
+    search_replies(&rt, rt.alloc(), text.as_bytes(), reply, "two kept sets")?;
+    let tree =
+        r#"{"answer":["crash 1 @1"],"format":1,"root":{"edges":["crash 1 @1","crash 1 @2"],"kids":[{"misses":true},{"misses":true}],"reach":[0,2]}}"#;
+    is_tree_text(&rt, rt.alloc(), text.as_bytes(), tree)
+}
+
+#[test]
+fn the_tree_of_either_lost_note(rt: HostRuntime) -> Result<(), Fail> {
+    let tree =
+        r#"{"answer":["omit 0>1 @1"],"format":1,"root":{"edges":["omit 0>1 @1","omit 0>2 @1"],"kids":[{"misses":true},{"misses":true}],"reach":[4,4,4]}}"#;
+    is_tree_text(&rt, rt.alloc(), ONCE.as_bytes(), tree)
 }
 
 /// The first scenario with these lines in place of the one of the key.

@@ -1,7 +1,9 @@
 //! The texts of examples, and how the replies to them are compared.
 
-use leastfault::{check_bytes, check_bytes_rows, run_bytes, search_bytes};
+use leastfault::{check_bytes, check_bytes_rows, plain_answer, run_bytes, search_bytes};
+use lf_scenario::read;
 use lf_streams::{FromRead, ToWrite};
+use lf_tree::{Tree, to_text};
 use std::alloc::{AllocError, Global};
 use std::process::Abort;
 use std::test::Fail;
@@ -57,7 +59,35 @@ fn is_reply(
     Ok(())
 }
 
-/// The search of the text has this status and this reply.
+/// The tree of a search certifies its answer: a check of the tree's text says yes, and the plain search answers the same. There is a
+/// tree exactly where the status is 0 or 1.
+fn is_certified(
+    rt: &impl Abort,
+    alloc: Global,
+    text: &[u8],
+    status: u8,
+    tree: &Option<Tree>,
+    name: &str,
+) -> Result<(), Fail> {
+    assert!(rt; tree.is_some() == (status < 2), "a tree of {name}");
+    let Some(tree) = tree else {
+        return Ok(());
+    };
+    let certificate = to_text(alloc, tree)?;
+    let mut out = Vec::new(alloc);
+    let mut source = FromRead::new(text);
+    let mut tree_source = FromRead::new(certificate.as_slice());
+    let mut sink = ToWrite::new(&mut out);
+    let _status = check_bytes(alloc, &mut source, &mut tree_source, &mut sink)?;
+    let answer = plain_answer(alloc, &read(alloc, text)?)?;
+    assert!(rt;
+        out.as_slice() == b"yes\n".as_slice() && answer == tree.answer,
+        "the tree of {name}"
+    );
+    Ok(())
+}
+
+/// The search of the text has this status and this reply, and a certificate where there is an answer.
 pub(crate) fn search_replies(
     rt: &impl Abort,
     alloc: Global,
@@ -68,7 +98,26 @@ pub(crate) fn search_replies(
     let mut out = Vec::new(alloc);
     let mut source = FromRead::new(text);
     let searched = search_bytes(alloc, &mut source, &mut ToWrite::new(&mut out))?;
+    is_certified(rt, alloc, text, searched.status, &searched.tree, name)?;
     is_reply(rt, alloc, out.as_slice(), searched.status, row, name)
+}
+
+/// The tree that the search of the text hands out has this text.
+pub(crate) fn is_tree_text(
+    rt: &impl Abort,
+    alloc: Global,
+    text: &[u8],
+    expected: &str,
+) -> Result<(), Fail> {
+    let mut out = Vec::new(alloc);
+    let mut source = FromRead::new(text);
+    let searched = search_bytes(alloc, &mut source, &mut ToWrite::new(&mut out))?;
+    let mut found = Vec::new(alloc);
+    if let Some(tree) = searched.tree {
+        found = to_text(alloc, &tree)?;
+    }
+    assert!(rt; found.as_slice() == expected.as_bytes(), "{expected}");
+    Ok(())
 }
 
 /// The run of the text under the faults has this status and this reply.

@@ -1,20 +1,19 @@
-use Rattle.std.proofs.Common.{◌≡◌, ◌≢◌, ◌∙◌, ap, inl, string_bytes}
+use Rattle.std.proofs.Common.{inl, string_bytes}
 use Rattle.std.proofs.lemmas.Result.{IfOk-weaker}
-use Rattle.lf_scenario.specs.declared.error.ScenarioError.{ScenarioError}
-use Rattle.leastfault.specs.Replies.{IsSearchReply}
-use Rattle.leastfault.specs.Reports.{refusal}
-use Rattle.leastfault.proofs.ReplyLemmas.{search_from_report}
+use Rattle.leastfault.specs.Replies.{IsSearched}
+use Rattle.leastfault.specs.Searches.{IsFoundFor}
+use Rattle.leastfault.proofs.ReplyLemmas.{search_found}
 use Rattle.leastfault.proofs.answering.search_reply.Goals as goal
 
-pub returns-in-Err : goal.returns-in-Err
-returns-in-Err c =
-    IfOk-weaker c.refused.result (λ reply. (c.in-Err.error ≢ ScenarioError.Memory) × (string_bytes reply.text ≡ refusal c.in-Err.error) × (reply.status ≡ 2))
-    (λ reply. IsSearchReply c.args.text.now (string_bytes reply.text) reply.status)
-    (λ reply told. inl (c.in-Err.error, c.in-Err.ensures.reading told.0, told.1, told.2))
-    c.refused.ensures
+pub returns-in-Ok : goal.returns-in-Ok
+returns-in-Ok c =
+    let text = c.args.text.now in
+    IfOk-weaker c.searched.result (IsFoundFor c.in-Ok.scenario)
+    (λ found. IsSearched found.tree text (string_bytes found.reply.text) found.reply.status)
+    (λ found is. search_found text c.in-Ok.scenario found c.in-Ok.ensures.reading is)
+    c.searched.ensures
 
-pub returns : goal.returns
-returns c =
-    search_from_report c.args.text.now (string_bytes c.in_ok-report.field-0) c.search_status.result c.budget.result c.in-Ok.scenario c.in_ok-answer.answer
-    c.in-Ok.ensures.reading c.in_ok-answer.ensures.answer (c.budget.ensures.value ∙ ap (λ s. s.spec.budget) c.setting.ensures)
-    c.in_ok-report.ensures c.search_status.ensures
+pub returns-in_ok-refused-in-Err : goal.returns-in_ok-refused-in-Err
+returns-in_ok-refused-in-Err c =
+    let told = c.in_ok-refused-in-Err.ensures in
+    (inl (c.in-Err.error, c.in-Err.ensures.reading told.0, told.1, told.2), told.2)

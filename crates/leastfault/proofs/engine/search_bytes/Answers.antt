@@ -1,23 +1,26 @@
 use Rattle.std.proofs.Common.{string_bytes}
 use Rattle.lf_scenario.specs.Limits.{longest}
-use Rattle.leastfault.specs.Replies.{IsSearchReply, ToHeld}
-use Rattle.leastfault.proofs.ReplyLemmas.{search_by_front, to_held, wrote_part, wrote_reply}
+use Rattle.leastfault.specs.Replies.{IsSearchReply, IsSearched, ToHeld}
+use Rattle.leastfault.proofs.ReplyLemmas.{search_by_front, searched_by_front, to_held, wrote_part, wrote_reply}
 use Rattle.leastfault.proofs.engine.search_bytes.Goals as goal
 
 pub returns-in_err-status-clause-part : goal.returns-in_err-status-clause-part
 returns-in_err-status-clause-part g c fault =
     let held = g.R.Source.left c.args.reader.now in
-    let reply = string_bytes c.in-Ok.reply.text in
-    wrote_part (ToHeld IsSearchReply held) (g.W.Sink.written c.args.writer.now) (g.W.Sink.written c.send.new.writer) reply c.in-Ok.reply.status
-    (to_held longest IsSearchReply search_by_front held c.in_ok-text.text.items c.as_slice.result.now reply c.in-Ok.reply.status
-    c.in_ok-text.ensures.text c.as_slice.ensures.value c.in-Ok.ensures)
+    let found = c.in-Ok.found in
+    let reply = string_bytes found.reply.text in
+    wrote_part (ToHeld IsSearchReply held) (g.W.Sink.written c.args.writer.now) (g.W.Sink.written c.send.new.writer) reply found.reply.status
+    (to_held longest IsSearchReply search_by_front held c.in_ok-text.text.items c.as_slice.result.now reply found.reply.status
+    c.in_ok-text.ensures.text c.as_slice.ensures.value c.in-Ok.ensures.0)
     c.in_err-status.ensures.part
 
 pub returns-clause-reply : goal.returns-clause-reply
 returns-clause-reply g c =
     let held = g.R.Source.left c.args.reader.now in
-    let reply = string_bytes c.in-Ok.reply.text in
-    wrote_reply (ToHeld IsSearchReply held) (g.W.Sink.written c.args.writer.now) (g.W.Sink.written c.send.new.writer) reply c.in-Ok.reply.status
-    (to_held longest IsSearchReply search_by_front held c.in_ok-text.text.items c.as_slice.result.now reply c.in-Ok.reply.status
+    let found = c.in-Ok.found in
+    let reply = string_bytes found.reply.text in
+    let told = IsSearched found.tree in
+    wrote_reply (ToHeld told held) (g.W.Sink.written c.args.writer.now) (g.W.Sink.written c.send.new.writer) reply found.reply.status
+    (to_held longest told (searched_by_front found.tree) held c.in_ok-text.text.items c.as_slice.result.now reply found.reply.status
     c.in_ok-text.ensures.text c.as_slice.ensures.value c.in-Ok.ensures)
     c.in_ok-status.status c.in_ok-status.ensures.whole.0 c.in_ok-status.ensures.whole.1

@@ -1,8 +1,11 @@
-use Rattle.leastfault.proofs.Uniqueness.{run_replies_one, search_replies_one}
+use Rattle.leastfault.proofs.Uniqueness.{handed_one, run_replies_one, search_replies_one}
 use Rattle.leastfault.proofs.laws.replies_are_one.Goals as goal
 
 pub returns-clause-search : goal.returns-clause-search
 returns-clause-search c text one other m n a b = search_replies_one text one other m n a b
+
+pub returns-clause-tree : goal.returns-clause-tree
+returns-clause-tree c text status one other a b = handed_one text status one other a b
 
 pub returns-clause-run : goal.returns-clause-run
 returns-clause-run c text one other m n a b = run_replies_one c.args.faults.now c.names_are_one.ensures text one other m n a b

@@ -1,0 +1,25 @@
+-- What crates above may cite of this one beside its contracts.
+use Rattle.std.proofs.Common.{◌≡◌, ℕ, subst, inl, inr, arith}
+use Rattle.std.proofs.lemmas.Bool.{cases_lt}
+use Rattle.lf_alone.specs.Ends.{IsFull}
+use Rattle.lf_alone.proofs.CountLemmas.{count_one}
+use Rattle.lf_scenario.specs.declared.scenario.Scenario.{Scenario}
+use Rattle.lf_search.specs.Levels.{IsLevelSize}
+use Rattle.lf_sim.specs.Settings.{world_of}
+
+module _ (s : Scenario) (k l count other : ℕ) (one : IsFull s k count) (two : IsFull s l other) where
+  level_is : k ≡ l
+  level_is = elim (cases_lt k l) [
+    | inl before ↦ absurd (omega (arith, two.fits k count before one.size, one.many))
+    | inr rest ↦ elim (cases_lt l k) [
+      | inl after ↦ absurd (omega (arith, one.fits l other after two.size, two.many))
+      | inr same ↦ omega (arith, rest, same)
+    ]
+  ]
+
+  -- There is one first level at most that is too full, with one number of sets
+  pub full_is_one : (k ≡ l) × (count ≡ other)
+  full_is_one = (
+    level_is,
+    count_one _ count other (subst (λ j. IsLevelSize (world_of s.setting) s.setting.spec s.formula j count) level_is one.size) two.size,
+  )

@@ -1,0 +1,5 @@
+mod BookLemmas
+mod CountLemmas
+mod FullLemmas
+pub mod Laws
+mod TurnLemmas
