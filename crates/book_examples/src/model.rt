@@ -1,0 +1,265 @@
+//! What each event does to a search, said plainly: a list of all sets, each with its mark.
+
+use lf_book::{Counts, Deepened, Job, Taken};
+use lf_cone::{edges, sharp};
+use lf_faults::{Fault, FaultSet, FaultSpec};
+use lf_outcome::{evidence, holds};
+use lf_scenario::Scenario;
+use lf_sim::run;
+use std::alloc::{AllocError, Global};
+use std::sync::Arc;
+
+/// How a set is marked.
+#[derive(Clone, Copy, Debug, PartialEq, Eq)]
+enum Mark {
+    Waiting,
+    Open,
+    Claimed(u64),
+    Misses,
+    Reaches,
+}
+
+/// A set that is known.
+#[derive(Drop)]
+pub(crate) struct Known {
+    path: Vec<usize>,
+    faults: FaultSet,
+    excluded: Vec<Fault>,
+    mark: Mark,
+}
+
+impl Known {
+    /// Whether a job is of this set.
+    fn is_of(&self, job: &Job) -> bool {
+        self.path.as_slice() == job.path()
+            && self.faults == job.set()
+            && self.excluded.as_slice() == job.excluded()
+    }
+}
+
+/// A search: all sets that are known, the level, the next ticket, and whether it has ended.
+#[derive(Drop)]
+pub(crate) struct Model {
+    pub(crate) sets: Vec<Known>,
+    level: u32,
+    pub(crate) next: u64,
+    finished: bool,
+}
+
+/// The faults that are required beneath a set. None where it misses.
+fn required(
+    alloc: Global,
+    scenario: &Scenario,
+    set: &FaultSet,
+    excluded: &[Fault],
+) -> Result<Option<Vec<Fault>>, AllocError> {
+    let setting = scenario.setting();
+    let played = run(alloc, setting, set)?;
+    if !holds(setting, scenario.formula(), &played) {
+        return Ok(None);
+    }
+    if set.len() >= setting.spec.budget() as usize {
+        return Ok(Some(Vec::new(alloc)));
+    }
+    let Some(points) = evidence(alloc, setting, scenario.formula(), &played)? else {
+        return Ok(None);
+    };
+    let reach = sharp(setting, &played, points.as_slice());
+    Ok(Some(edges(alloc, setting, &played, &reach, excluded)?))
+}
+
+impl Model {
+    /// The empty set, open.
+    pub(crate) fn begin(alloc: Global) -> Result<Model, AllocError> {
+        let root = Known {
+            path: Vec::new(alloc),
+            faults: FaultSet::empty(),
+            excluded: Vec::new(alloc),
+            mark: Mark::Open,
+        };
+        let sets = vec![in alloc; root]?;
+        Ok(Model {
+            sets,
+            level: 0,
+            next: 1,
+            finished: false,
+        })
+    }
+
+    /// A job of the set at a place among those that are known, by a ticket, with a change of its set, its path or its exclusions, or
+    /// with none. None where there is no such place.
+    pub(crate) fn job(
+        &self,
+        alloc: Global,
+        scenario: Arc<Scenario>,
+        place: usize,
+        ticket: u64,
+        change: u64,
+    ) -> Result<Option<Job>, AllocError> {
+        let Some(known) = self.sets.as_slice().get(place) else {
+            return Ok(None);
+        };
+        let mut path = known.path.as_slice().to_vec(alloc)?;
+        let mut excluded = known.excluded.as_slice().to_vec(alloc)?;
+        let mut set = known.faults;
+        match change {
+            0 => set = FaultSet::empty(),
+            1 => path.push(0)?,
+            2 => path.clear(),
+            3 => excluded.clear(),
+            4 => excluded.extend_from_slice(set.items())?,
+            _ => {}
+        }
+        Ok(Some(Job::new(scenario, set, excluded, path, ticket)))
+    }
+
+    /// How many sets are marked in which way.
+    pub(crate) fn counts(&self) -> Counts {
+        let mut counts = Counts {
+            ready: 0,
+            claimed: 0,
+            answered: 0,
+            waiting: 0,
+        };
+        for set in self.sets.as_slice() {
+            match set.mark {
+                Mark::Waiting => counts.waiting = counts.waiting.saturating_add(1),
+                Mark::Open => counts.ready = counts.ready.saturating_add(1),
+                Mark::Claimed(_) => counts.claimed = counts.claimed.saturating_add(1),
+                Mark::Misses | Mark::Reaches => counts.answered = counts.answered.saturating_add(1),
+            }
+        }
+        counts
+    }
+
+    /// Whether a take may give this. The set of a job is claimed then.
+    pub(crate) fn may_give(&mut self, taken: &Taken) -> bool {
+        let counts = self.counts();
+        match taken {
+            Taken::Finished => self.finished,
+            Taken::Busy => !self.finished && counts.ready == 0 && counts.claimed > 0,
+            Taken::LevelDone => !self.finished && counts.ready == 0 && counts.claimed == 0,
+            Taken::Spent => false,
+            Taken::Job(job) => !self.finished && job.ticket() == self.next && self.claims(job),
+        }
+    }
+
+    /// Whether a job is of an open set, which is claimed then.
+    fn claims(&mut self, job: &Job) -> bool {
+        for set in self.sets.as_mut_slice() {
+            if set.mark == Mark::Open && set.is_of(job) {
+                set.mark = Mark::Claimed(job.ticket());
+                self.next = self.next.saturating_add(1);
+                return true;
+            }
+        }
+        false
+    }
+
+    /// The place of the set that a ticket claims.
+    pub(crate) fn claimed_by(&self, ticket: u64) -> Option<usize> {
+        self.sets
+            .as_slice()
+            .iter()
+            .position(|set| set.mark == Mark::Claimed(ticket))
+    }
+
+    /// The number by which a job or its finding is refused, of this scenario or another, or 0. Then its set is marked.
+    fn marks(&mut self, job: &Job, is_same: bool, mark: Mark) -> u32 {
+        for set in self.sets.as_mut_slice() {
+            if set.mark == Mark::Claimed(job.ticket()) {
+                if !is_same {
+                    return 2;
+                }
+                if !set.is_of(job) {
+                    return 3;
+                }
+                set.mark = mark;
+                return 0;
+            }
+        }
+        1
+    }
+
+    /// The number by which a finding is refused, or 0. Then its set is answered, and its kids wait.
+    pub(crate) fn file(
+        &mut self,
+        alloc: Global,
+        scenario: &Scenario,
+        job: &Job,
+        is_same: bool,
+    ) -> Result<u32, AllocError> {
+        let Some(edges) = required(alloc, scenario, &job.set(), job.excluded())? else {
+            return Ok(self.marks(job, is_same, Mark::Misses));
+        };
+        let refused = self.marks(job, is_same, Mark::Reaches);
+        if refused == 0 {
+            self.put_kids(alloc, job, edges.as_slice())?;
+        }
+        Ok(refused)
+    }
+
+    /// Puts the kids of a set, which wait. Beneath each the edges before its own are excluded.
+    fn put_kids(&mut self, alloc: Global, job: &Job, edges: &[Fault]) -> Result<(), AllocError> {
+        let mut before = job.excluded().to_vec(alloc)?;
+        for (i, edge) in edges.iter().enumerate() {
+            let mut path = job.path().to_vec(alloc)?;
+            path.push(i)?;
+            self.sets.push(Known {
+                path,
+                faults: job.set().insert(*edge).unwrap_or(job.set()),
+                excluded: before.as_slice().to_vec(alloc)?,
+                mark: Mark::Waiting,
+            })?;
+            before.push(*edge)?;
+        }
+        Ok(())
+    }
+
+    /// Whether a job is taken back. Then its set is open.
+    pub(crate) fn give_back(&mut self, job: &Job, is_same: bool) -> bool {
+        self.marks(job, is_same, Mark::Open) == 0
+    }
+
+    /// Opens what is claimed.
+    pub(crate) fn reclaim(&mut self) {
+        for set in self.sets.as_mut_slice() {
+            if matches!(set.mark, Mark::Claimed(_)) {
+                set.mark = Mark::Open;
+            }
+        }
+    }
+
+    /// The next level, or the end.
+    pub(crate) fn deepen(&mut self, spec: &FaultSpec, most: u32) -> Deepened {
+        let counts = self.counts();
+        if counts.ready > 0 || counts.claimed > 0 {
+            return Deepened::NotDone;
+        }
+        if self
+            .sets
+            .as_slice()
+            .iter()
+            .any(|set| set.mark == Mark::Misses)
+        {
+            self.finished = true;
+            return Deepened::Answer;
+        }
+        if self.level == spec.budget() {
+            self.finished = true;
+            return Deepened::NoneWithin;
+        }
+        if counts.waiting > u64::from(most) {
+            return Deepened::Full {
+                count: counts.waiting,
+            };
+        }
+        self.level = self.level.saturating_add(1);
+        for set in self.sets.as_mut_slice() {
+            if set.mark == Mark::Waiting {
+                set.mark = Mark::Open;
+            }
+        }
+        Deepened::Down
+    }
+}
