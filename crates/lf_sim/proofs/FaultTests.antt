@@ -1,12 +1,12 @@
 -- What the tests on a list of faults say of its members.
-use Rattle.std.proofs.Common.{◌≡◌, ℕ, zero, suc, ◌+◌, ◌<◌, ◌≤◌, true, ◌&&◌, List, ◌∷◌, refl, sym, ap, subst, arith, eq-eqb, nat_eq, nat_le}
+use Rattle.std.proofs.Common.{◌≡◌, ℕ, ◌+◌, ◌<◌, ◌≤◌, true, ◌&&◌, List, refl, sym, ap, subst, arith, eq-eqb, nat_eq, nat_le}
 use Rattle.std.specs.Prelude.{nat_lt}
 use Rattle.std.specs.List.{Contains}
 use Rattle.std.specs.Cmp.{both_ways}
 use Rattle.std.proofs.lemmas.Bool.{and_parts, and_from, eqb-true, leb-true, ltb-true, le-leb, lt-ltb, false≢true}
 use Rattle.lf_faults.specs.declared.fault.Parts.{Parts}
 use Rattle.lf_faults.specs.declared.fault.Parts.TheVariants.{Omit, Crash, Pause}
-use Rattle.lf_faults.specs.Faults.{omits, crashes, pauses, wakes, set_omits, set_crashes, set_pauses, set_wakes, step_of}
+use Rattle.lf_faults.specs.Faults.{omits, crashes, pauses, wakes, set_omits, set_crashes, set_pauses, set_wakes}
 use Rattle.lf_sim.specs.Points.{SameUntil}
 use Rattle.lf_sim.proofs.ListsLemmas.{found-in, passed-in}
 
@@ -123,11 +123,3 @@ module _ (b : ℕ) (faults others : List Parts) (same : SameUntil b faults other
   pub woken-until : (length n t : ℕ) → t ≤ b → set_wakes length faults n t ≡ set_wakes length others n t
   woken-until length n t l =
       both_ways _ _ (woken-then b faults others same length n t l) (woken-then b others faults (SameUntil-sym b faults others same) length n t l)
-
--- a fault of a later step is none of them
-contains-tail : (b : ℕ) (fault f : Parts) (faults : List Parts) → b < step_of fault → step_of f ≤ b → Contains (fault ∷ faults) f → Contains faults f
-contains-tail b fault f faults later early (zero, l, e) = absurd (let same : step_of fault ≡ step_of f = ap step_of e in omega (arith, same, later, early))
-contains-tail b fault f faults later early (suc k, l, e) = (k, omega (arith, l), e)
-
-pub SameUntil-cons : (b : ℕ) (fault : Parts) (faults : List Parts) → b < step_of fault → SameUntil b (fault ∷ faults) faults
-SameUntil-cons b fault faults later f early = (contains-tail b fault f faults later early, λ c. (suc c.0, omega (arith, c.1), c.2))

@@ -1,5 +1,4 @@
 mod EffectsLemmas
-mod Examples
 mod FaultTests
 mod InboxLemmas
 pub mod Laws

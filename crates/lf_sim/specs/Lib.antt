@@ -4,8 +4,6 @@ pub mod Outs
 pub mod OutsLemmas
 pub mod Points
 pub mod Runs
-pub mod Samples
-pub mod SamplesLemmas
 pub mod Schedules
 pub mod Settings
 pub mod Tables

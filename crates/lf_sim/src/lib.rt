@@ -15,8 +15,6 @@ mod record;
 mod runs;
 mod schedule;
 mod setting;
-#[cfg(test)]
-mod tests;
 
 pub use effects::Effects;
 pub use letter::Letter;

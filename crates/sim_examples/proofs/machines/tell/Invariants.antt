@@ -1,6 +1,6 @@
 use Rattle.std.proofs.Common.{◌≡◌, drop}
-use Rattle.lf_sim.specs.Samples.{told}
-use Rattle.lf_sim.proofs.tests.tell.Given as goal
+use Rattle.sim_examples.specs.Samples.{told}
+use Rattle.sim_examples.proofs.machines.tell.Given as goal
 
 -- the letters from here on make of it what all make of the first
 abbrev pub invariant-loop-letter : goal.invariant-loop-letter

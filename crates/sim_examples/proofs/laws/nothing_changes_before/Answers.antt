@@ -1,6 +1,6 @@
 use Rattle.std.proofs.Common.{◌∷◌, arith}
-use Rattle.lf_sim.proofs.FaultTests.{SameUntil-cons}
-use Rattle.lf_sim.proofs.tests.nothing_changes_before.Goals as goal
+use Rattle.sim_examples.proofs.Later.{SameUntil-cons}
+use Rattle.sim_examples.proofs.laws.nothing_changes_before.Goals as goal
 
 pub returns : goal.returns
 returns g c w faults fault n t later =

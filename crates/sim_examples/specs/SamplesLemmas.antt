@@ -5,7 +5,7 @@ use Rattle.std.proofs.lemmas.Bool.Decides.{eqb_tells}
 use Rattle.lf_sim.specs.declared.out.Out.{Out}
 use Rattle.lf_sim.specs.Outs.{note_to, nothing, with_note}
 use Rattle.lf_sim.specs.OutsLemmas.{note_to-nothing, with_note-others}
-use Rattle.lf_sim.specs.Samples.{ring_out, hub_out}
+use Rattle.sim_examples.specs.Samples.{ring_out, hub_out}
 
 other-than : (n nodes to m : ℕ) → (to ≡ n) ⊎ (nodes ≤ to) → m ≢ n → m < nodes → to ≢ m
 other-than n nodes to m (inl same) apart node = λ e. apart (sym e ∙ same)
