@@ -1,11 +1,11 @@
 -- The least reach that covers points.
-use Rattle.std.proofs.Common.{◌≡◌, ℕ, zero, suc, [], ◌∷◌, ◌+◌, ◌<◌, ◌≤◌, true, List, length, get_or, replicate, sym, ap, ◌∙◌, inl, inr, arith, subst}
+use Rattle.std.proofs.Common.{◌≡◌, ℕ, ◌+◌, ◌<◌, ◌≤◌, List, length, get_or, replicate, sym, ap, ◌∙◌, inl, inr, arith}
 use Rattle.std.specs.List.{Contains}
 use Rattle.std.proofs.lemmas.Bool.{cases_lt}
 use Rattle.std.proofs.lemmas.List.{get_or_default, get_or-replicate, length-replicate}
 use Rattle.std.proofs.Math.ListN.{get_or-eq_default}
 use Rattle.lf_faults.specs.declared.fault.Parts.{Parts}
-use Rattle.lf_sim.specs.Runs.{World, is_up}
+use Rattle.lf_sim.specs.Runs.{World}
 use Rattle.lf_sim.proofs.Laws.{IsRunning-up}
 use Rattle.lf_outcome.specs.declared.point.Point.{Point}
 use Rattle.lf_outcome.specs.Evidence.{Covers, AreUp}
@@ -61,14 +61,3 @@ module _ (nodes last : ℕ) (points : List Point) (start : List ℕ) (h : IsRais
         | inl same ↦ omega (arith, same, zeros nodes n)
         | inr q ↦ let at = covers (get_or points q.0 blank) (point_in points q.0 q.1) in rw (q.2.0, q.2.1) at at
       ]
-
--- one point
-one-point : (x p : Point) (k : ℕ) → k < 1 → get_or (x ∷ []) k p ≡ p → x ≡ p
-one-point x p zero h e = e
-one-point x p (suc k) h e = absurd (omega arith)
-
-pub point-up : {State Note Fact : Type 0} (w : World State Note Fact) (faults : List Parts) (n t : ℕ) → is_up w faults n t ≡ true
-    → AreUp w faults (record { node = n; step = t } ∷ [])
-point-up w faults n t up p c =
-    let one : record { node = n; step = t } ≡ p = one-point (record { node = n; step = t }) p c.0 c.1 c.2 in
-    subst (λ (q : Point). is_up w faults q.node q.step ≡ true) one up

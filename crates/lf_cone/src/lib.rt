@@ -13,6 +13,3 @@ pub use delays::cone;
 pub use hearing::{is_closed, sharp};
 pub use promises::{agree, light_cone, reaches_are_decided, reaches_are_one, reaches_exist};
 pub use required::{edges, put_edges};
-
-#[cfg(test)]
-mod tests;

@@ -1,14 +1,14 @@
 use Rattle.std.proofs.Common.{sym, ◌∙◌}
 use Rattle.lf_sim.specs.Settings.{world_of, set_of}
-use Rattle.lf_cone.proofs.Covering.{point-up}
-use Rattle.lf_cone.proofs.tests.reaches_of.Goals as goal
+use Rattle.cone_examples.proofs.OnePoint.{point-up}
+use Rattle.cone_examples.proofs.reaches.reaches_of.Goals as goal
 
 pub cone-requires-clause-up : goal.cone-requires-clause-up
-cone-requires-clause-up g c =
+cone-requires-clause-up c =
     let w = world_of c.args.setting.now in
     point-up w (set_of c.args.run.now) c.args.node c.args.step (sym (c.up.ensures.meaning w c.requires) ∙ c.if-not-up.false)
 
 pub sharp-requires-clause-up : goal.sharp-requires-clause-up
-sharp-requires-clause-up g c =
+sharp-requires-clause-up c =
     let w = world_of c.args.setting.now in
     point-up w (set_of c.args.run.now) c.args.node c.args.step (sym (c.up.ensures.meaning w c.requires) ∙ c.if-not-up.false)

@@ -1,0 +1,39 @@
+//! The light-cone law at a run, with no premise left.
+
+use crate::texts::{agrees, set, setting};
+use lf_cone::{agree, sharp};
+use lf_faults::{FaultSet, admits};
+use lf_outcome::{Formula, Outcome, evidence, holds, named};
+use lf_sim::{Machine, Setting, run};
+use std::alloc::{AllocError, Global};
+use std::test::Fail;
+
+/// Whether a set reaches an outcome, by the law at the set itself, where its run is made, and the sharp reach of its evidence
+/// is closed and makes the outcome true; and by the run.
+fn reaches_by_law<M: Machine>(
+    alloc: Global,
+    setting: &Setting<M>,
+    formula: &Formula<M::Fact>,
+    set: &FaultSet,
+) -> Result<bool, AllocError> {
+    if !admits(&setting.spec, set) {
+        return Ok(false);
+    }
+    let found = run(alloc, setting, set)?;
+    let Some(points) = evidence(alloc, setting, formula, &found)? else {
+        return Ok(false);
+    };
+    let reach = sharp(setting, &found, points.as_slice());
+    agree(setting, formula, &found, &reach, set);
+    Ok(holds(setting, formula, &found))
+}
+
+#[test]
+fn the_law_at_a_run_has_no_premise_left(rt: HostRuntime) -> Result<(), Fail> {
+    let alloc = rt.alloc();
+    let setting = setting(alloc, "redundant 3 4", "4 2 1 2 0 1 1 0 0")?;
+    let formula = named(alloc, Outcome::Delivered, 3, 4)?;
+    let set = set("omit 0>1 @1").ok_or("a set")?;
+    let by_law = reaches_by_law(alloc, &setting, &formula, &set)?;
+    agrees(&rt, by_law, true, "the run of an omission")
+}
