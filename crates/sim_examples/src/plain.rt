@@ -3,6 +3,7 @@
 ghost use Rattle.std.specs.Prelude.{◌<◌, ◌≤◌};
 
 use lf_faults::{Fault, FaultSet, Parts};
+use lf_latency::Network;
 use lf_sim::{Letter, Machine, Out, Run, Setting, Stepped};
 use std::alloc::{AllocError, Global};
 
@@ -42,6 +43,11 @@ fn ends_pause(set: &FaultSet, length: u32, at: u32, t: u32) -> bool {
     ends
 }
 
+/// Where the cell of a node and a step stands, of those step by step and node by node. A sum that may wrap is dear to prove.
+fn place(nodes: u32, node: u32, t: u32) -> usize {
+    t.saturating_mul(nodes).saturating_add(node) as usize
+}
+
 /// What every node does, step by step and node by node.
 pub(crate) fn plain<M: Machine>(
     alloc: Global,
@@ -78,25 +84,38 @@ fn turn<M: Machine>(
     requires first { 1 ≤ t }
     requires last { t ≤ 48 }
 {
-    let nodes = setting.machine.nodes();
     let length = setting.spec.pause_length();
-    let last = match cells.get(((t - 1) * nodes + node) as usize) {
-        Some(cell) => cell.state,
-        None => setting.machine.start(node),
-    };
+    let last = last_state(setting, cells, node, t);
     if !is_up(set, length, node, t) {
         return Ok(Stepped {
             state: last,
             out: Out::none(),
         });
     }
+    let inbox = inbox(alloc, setting, set, cells, node, t)?;
     let state = if ends_pause(set, length, node, t) {
         setting.machine.wake(node, t, last)
     } else {
         last
     };
-    let inbox = inbox(alloc, setting, set, cells, node, t)?;
     Ok(setting.machine.step(node, t, state, &inbox))
+}
+
+/// The state of a node before a step.
+fn last_state<M: Machine>(
+    setting: &Setting<M>,
+    cells: &[Stepped<M::State, M::Note>],
+    node: u32,
+    t: u32,
+) -> M::State
+    requires node { node < (M.rules setting.now.machine).nodes }
+    requires first { 1 ≤ t }
+{
+    let nodes = setting.machine.nodes();
+    match cells.get(place(nodes, node, t - 1)) {
+        Some(cell) => cell.state,
+        None => setting.machine.start(node),
+    }
 }
 
 /// What reaches a node at a step: each sender, and of it each step before.
@@ -107,9 +126,7 @@ fn inbox<M: Machine>(
     cells: &[Stepped<M::State, M::Note>],
     to: u32,
     t: u32,
-) -> Result<Vec<Letter<M::Note>>, AllocError>
-    requires last { t ≤ 48 }
-{
+) -> Result<Vec<Letter<M::Note>>, AllocError> {
     let mut inbox = Vec::new(alloc);
     for from in 0..setting.network.nodes() {
         for sent in 1..t {
@@ -121,6 +138,15 @@ fn inbox<M: Machine>(
     Ok(inbox)
 }
 
+/// Whether a note from one node to another of a step arrives at the step `t`.
+fn arrives(network: &Network, from: u32, to: u32, sent: u32, t: u32) -> bool {
+    let nodes = network.nodes();
+    if from >= nodes || to >= nodes || from == to || sent < 1 || sent > network.horizon() {
+        return false;
+    }
+    network.arrival(from, to, sent) == t
+}
+
 /// What one node sent to another at a step, if it arrives at the step `t`.
 fn note<M: Machine>(
     setting: &Setting<M>,
@@ -130,18 +156,15 @@ fn note<M: Machine>(
     to: u32,
     sent: u32,
     t: u32,
-) -> Option<M::Note>
-    requires sent { sent ≤ 48 }
-{
-    let network = &setting.network;
-    let nodes = network.nodes();
-    if from >= nodes || to >= nodes || from == to || sent < 1 || sent > network.horizon() {
+) -> Option<M::Note> {
+    if !arrives(&setting.network, from, to, sent, t) {
         return None;
     }
-    if network.arrival(from, to, sent) != t || set.contains(&Fault::omit(from, to, sent)?) {
+    if set.contains(&Fault::omit(from, to, sent)?) {
         return None;
     }
-    cells.get((sent * nodes + from) as usize)?.out.to(to)
+    let place = place(setting.network.nodes(), from, sent);
+    cells.get(place)?.out.to(to)
 }
 
 /// Whether a run is what the plain evaluation finds, at every point and slot.
@@ -151,18 +174,30 @@ pub(crate) fn is_plain<M: Machine>(
     set: &FaultSet,
     cells: &[Stepped<M::State, M::Note>],
 ) -> bool {
+    let mut same = found.set() == *set
+        && found.nodes() == setting.machine.nodes()
+        && found.horizon() == setting.spec.horizon();
+    for t in 0..found.horizon() + 1 {
+        same = same && is_plain_at(setting, found, set, cells, t);
+    }
+    same
+}
+
+/// The same at a step.
+fn is_plain_at<M: Machine>(
+    setting: &Setting<M>,
+    found: &Run<M>,
+    set: &FaultSet,
+    cells: &[Stepped<M::State, M::Note>],
+    t: u32,
+) -> bool {
     let length = setting.spec.pause_length();
     let nodes = found.nodes();
-    let horizon = found.horizon();
-    let mut same = found.set() == *set
-        && nodes == setting.machine.nodes()
-        && horizon == setting.spec.horizon();
-    for t in 0..horizon + 1 {
-        for node in 0..nodes {
-            let up = t > 0 && is_up(set, length, node, t);
-            let cell = cells.get((t * nodes + node) as usize);
-            same = same && found.up(node, t) == up && is_cell(found, node, t, cell);
-        }
+    let mut same = true;
+    for node in 0..nodes {
+        let up = t > 0 && is_up(set, length, node, t);
+        let cell = cells.get(place(nodes, node, t));
+        same = same && found.up(node, t) == up && is_cell(found, node, t, cell);
     }
     same
 }

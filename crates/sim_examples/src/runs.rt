@@ -5,7 +5,7 @@ use crate::plain::{is_plain, plain};
 use crate::texts::{agrees, set, setting};
 use lf_faults::FaultSet;
 use lf_sim::{Machine, Setting, run, run_reusing, runs_agree};
-use std::alloc::Global;
+use std::alloc::{AllocError, Global};
 use std::process::Abort;
 use std::test::Fail;
 
@@ -25,18 +25,28 @@ const SETS: &str = concat!(
     "omit 1>0 @5,omit 2>0 @6,crash 3 @7,pause 0 @4,pause 1 @4,crash 2 @11\n",
 );
 
+/// Whether the set makes the run that the plain evaluation finds, and then so in the memory of the run of another set.
+fn is_plain_run<M: Machine>(
+    alloc: Global,
+    setting: &Setting<M>,
+    before: &FaultSet,
+    set: &FaultSet,
+) -> Result<bool, AllocError> {
+    let cells = plain(alloc, setting, set)?;
+    let found = run(alloc, setting, set)?;
+    let spent = run_reusing(setting, set, run(alloc, setting, before)?);
+    runs_agree(setting, &found, &spent);
+    Ok(is_plain(setting, &found, set, &cells) && is_plain(setting, &spent, set, &cells))
+}
+
 /// Each of the sets makes the run, and then the run in the memory of the one before, that the plain evaluation finds.
 fn are_plain<M: Machine>(rt: &impl Abort, alloc: Global, setting: &Setting<M>) -> Result<(), Fail> {
-    let mut spent = run(alloc, setting, &FaultSet::empty())?;
+    let mut before = FaultSet::empty();
     for row in SETS.lines() {
         let set = set(row).ok_or("a set")?;
-        let cells = plain(alloc, setting, &set)?;
-        let found = run(alloc, setting, &set)?;
-        spent = run_reusing(setting, &set, spent);
-        runs_agree(setting, &found, &spent);
-        let both = is_plain(setting, &found, &set, &cells)
-            && is_plain(setting, &spent, &set, &cells);
-        agrees(rt, both, true, row)?;
+        let same = is_plain_run(alloc, setting, &before, &set)?;
+        agrees(rt, same, true, row)?;
+        before = set;
     }
     Ok(())
 }
