@@ -12,6 +12,10 @@ mod readings;
 #[cfg(test)]
 mod refusals;
 #[cfg(test)]
+mod same;
+#[cfg(test)]
 mod sizes;
 #[cfg(test)]
 mod texts;
+#[cfg(test)]
+mod told;

@@ -1,10 +1,10 @@
 //! Outcomes that are lists.
 
-use crate::texts::{changed, is_read_as};
+use crate::same::{are_same, scenario_of};
+use crate::texts::{agrees, changed, is_told, repeated};
 use lf_list::Listed;
 use lf_outcome::{Formula, atoms, depth, same as same_formula};
 use lf_protocols::Fact;
-use lf_scenario::{read, scenarios_are_one};
 use std::alloc::{AllocError, Global};
 use std::process::Abort;
 use std::test::Fail;
@@ -25,25 +25,20 @@ fn is_formula(
     many: u32,
 ) -> Result<(), Fail> {
     let text = with_list(alloc, list)?;
-    let scenario = read(alloc, text.as_bytes())?;
-    assert!(rt; same_formula(scenario.formula(), by_hand), "of {list}");
-    assert!(rt; depth(scenario.formula()) == deep, "of {list}");
-    assert!(rt; atoms(scenario.formula()) == many, "of {list}");
-    assert!(rt; scenario.same(&read(alloc, text.as_bytes())?), "of {list}");
-    scenarios_are_one();
-    Ok(())
+    let scenario = scenario_of(alloc, text.as_str())?;
+    let formula = scenario.formula();
+    let sizes = depth(formula) == deep && atoms(formula) == many;
+    let is_read = sizes && same_formula(formula, by_hand);
+    let itself = are_same(alloc, text.as_str(), text.as_str())?;
+    agrees(rt, is_read && itself, true, list)
 }
 
 #[test]
-fn all_of_no_parts_is_read(rt: HostRuntime) -> Result<(), Fail> {
-    let none = Formula::All(Listed::from_vec(Vec::new(rt.alloc())));
-    is_formula(&rt, rt.alloc(), "[\"all\"]", &none, 1, 0)
-}
-
-#[test]
-fn any_of_no_parts_is_read(rt: HostRuntime) -> Result<(), Fail> {
-    let none = Formula::Any(Listed::from_vec(Vec::new(rt.alloc())));
-    is_formula(&rt, rt.alloc(), "[\"any\"]", &none, 1, 0)
+fn lists_of_no_parts_are_read(rt: HostRuntime) -> Result<(), Fail> {
+    let all = Formula::All(Listed::from_vec(Vec::new(rt.alloc())));
+    is_formula(&rt, rt.alloc(), "[\"all\"]", &all, 1, 0)?;
+    let any = Formula::Any(Listed::from_vec(Vec::new(rt.alloc())));
+    is_formula(&rt, rt.alloc(), "[\"any\"]", &any, 1, 0)
 }
 
 #[test]
@@ -138,51 +133,73 @@ const OTHERS: &str = concat!(
     "[\"shows\", 0, 1, [\"has\"]]\n",
 );
 
+/// The scenario with this list is read or refused like this.
+fn is_list(
+    rt: &impl Abort,
+    alloc: Global,
+    list: &str,
+    expected: &str,
+    name: &str,
+) -> Result<(), Fail> {
+    let text = with_list(alloc, list)?;
+    is_told(rt, alloc, text.as_bytes(), "", expected, name)
+}
+
 #[test]
 fn other_lists_are_refused(rt: HostRuntime) -> Result<(), Fail> {
     for list in OTHERS.lines() {
-        let text = with_list(rt.alloc(), list)?;
-        is_read_as(&rt, rt.alloc(), text.as_bytes(), "11 outcome", list)?;
+        is_list(&rt, rt.alloc(), list, "11 outcome", list)?;
     }
     Ok(())
 }
 
-/// A scenario with so many lists of `all`, one in the other, round an atom, is read or refused like this.
-fn deep_list(rt: &impl Abort, alloc: Global, depth: u32, expected: &str) -> Result<(), Fail> {
-    let mut list = String::new(alloc);
-    for _ in 0..depth {
-        list.push_str("[\"all\", ")?;
-    }
-    list.push_str("[\"down\", 0, 1]")?;
-    for _ in 0..depth {
-        list.push(']')?;
-    }
-    let text = with_list(alloc, list.as_str())?;
-    is_read_as(rt, alloc, text.as_bytes(), expected, "a deep list")
+/// A scenario with so many lists, one in the other, round another text, is read or refused like this.
+fn deep_list(
+    rt: &impl Abort,
+    alloc: Global,
+    open: &str,
+    depth: usize,
+    middle: &str,
+    expected: &str,
+) -> Result<(), Fail> {
+    let begun = repeated(alloc, "", open, depth, middle)?;
+    let list = repeated(alloc, begun.as_str(), "]", depth, "")?;
+    is_list(rt, alloc, list.as_str(), expected, "a deep list")
 }
 
-/// A scenario with a list of `all` that has so many atoms is read or refused like this.
-fn wide_list(rt: &impl Abort, alloc: Global, atoms: u32, expected: &str) -> Result<(), Fail> {
-    let mut list = String::new(alloc);
-    list.push_str("[\"all\"")?;
-    for _ in 0..atoms {
-        list.push_str(", [\"down\", 0, 1]")?;
-    }
-    list.push(']')?;
-    let text = with_list(alloc, list.as_str())?;
-    is_read_as(rt, alloc, text.as_bytes(), expected, "a wide list")
+/// A scenario with a list of so many equal parts is read or refused like this.
+fn wide_list(
+    rt: &impl Abort,
+    alloc: Global,
+    open: &str,
+    part: &str,
+    times: usize,
+    expected: &str,
+) -> Result<(), Fail> {
+    let list = repeated(alloc, open, part, times, "]")?;
+    is_list(rt, alloc, list.as_str(), expected, "a wide list")
 }
 
 #[test]
 fn a_formula_of_depth_eight_is_read_and_a_deeper_one_is_refused(
     rt: HostRuntime,
 ) -> Result<(), Fail> {
-    deep_list(&rt, rt.alloc(), 7, "read")?;
-    deep_list(&rt, rt.alloc(), 8, "11 outcome")
+    let atom = "[\"down\", 0, 1]";
+    deep_list(&rt, rt.alloc(), "[\"all\", ", 7, atom, "read")?;
+    deep_list(&rt, rt.alloc(), "[\"all\", ", 8, atom, "11 outcome")
+}
+
+#[test]
+fn eighty_lists_are_no_formula_and_one_more_is_no_document(rt: HostRuntime) -> Result<(), Fail> {
+    deep_list(&rt, rt.alloc(), "[", 80, "", "11 outcome")?;
+    deep_list(&rt, rt.alloc(), "[", 81, "", "2")
 }
 
 #[test]
 fn a_formula_of_512_atoms_is_read_and_one_more_is_refused(rt: HostRuntime) -> Result<(), Fail> {
-    wide_list(&rt, rt.alloc(), 512, "read")?;
-    wide_list(&rt, rt.alloc(), 513, "11 outcome")
+    let atom = ", [\"down\", 0, 1]";
+    wide_list(&rt, rt.alloc(), "[\"all\"", atom, 512, "read")?;
+    wide_list(&rt, rt.alloc(), "[\"all\"", atom, 513, "11 outcome")?;
+    // Nor are many numbers a formula.
+    wide_list(&rt, rt.alloc(), "[", "1,", 32_000, "11 outcome")
 }

@@ -1,12 +1,14 @@
 //! Texts that are refused.
 
-use crate::texts::are_read_as;
+use crate::texts::{agrees, are_read_as};
 use lf_scenario::{Key, ScenarioError};
 use std::alloc::Global;
 use std::process::Abort;
 use std::test::Fail;
 
-const BOUNDS: &str = concat!(
+/// Keys, lines in place of theirs, and how the scenario with these lines is refused.
+const REFUSED: &str = concat!(
+    // Bounds.
     "nodes|nodes = 9|6 nodes\n",
     "nodes|nodes = -0|6 nodes\n",
     "nodes|nodes = 9223372036854775808|2\n",
@@ -22,9 +24,7 @@ const BOUNDS: &str = concat!(
     "budget|budget = nan|5 budget\n",
     "budget|budget = 2026-11-22|5 budget\n",
     "budget|budget = 7|6 budget\n",
-);
-
-const PROMISES: &str = concat!(
+    // Protocols and outcomes.
     "protocol|protocol = \"raft\"|9 protocol\n",
     "protocol|protocol = \"two_phase\"|4 tries\n",
     "protocol|protocol = \"Retry\"|9 protocol\n",
@@ -35,9 +35,7 @@ const PROMISES: &str = concat!(
     "outcome|outcome = \"agreement\"|10 outcome\n",
     "outcome|outcome = [\"shows\", 0, 5, \"has\"]|11 outcome\n",
     "outcome|outcome = {}|5 outcome\n",
-);
-
-const OPTIONAL_KEYS: &str = concat!(
+    // More keys.
     "more|color = 1|4\n",
     "more|pauses = 4|6 pauses\n",
     "more|pause_length = 9|6 pause_length\n",
@@ -54,9 +52,7 @@ const OPTIONAL_KEYS: &str = concat!(
     "more|votes = [true]|4 votes\n",
     "more|spread = 16;colour = 1|4\n",
     "more|# \u{e9};nodes|2\n",
-);
-
-const LINKS: &str = concat!(
+    // Links.
     "more|links = [{from = 0, to = 9}, 3]|5 links\n",
     "more|links = {from = 0, to = 1}|5 links\n",
     "more|links = [{from = 9, to = 0, least = 17}]|6 links\n",
@@ -71,46 +67,18 @@ const LINKS: &str = concat!(
     "more|links = [{from = 4294967296, to = 1}]|8 links\n",
     "more|links = [{from = 0, to = 1}, {from = 1, to = 0}, {from = 0, to = 1}]|8 links\n",
     "more|links = [{from = 1, to = 1}, {from = 0}]|8 links\n",
-);
-
-const KEY_BEHIND_A_TABLE: &str =
-    "outcome|[[links]];from = 0;to = 1;outcome = \"delivered\"|3 outcome\n";
-
-const FORMULAS_AND_LINKS: &str = concat!(
+    // Formulas are refused before links.
     "outcome|outcome = [\"all\"];links = [{from = 1, to = 1}]|8 links\n",
     "outcome|outcome = [\"down\", 0, 5];links = [{from = 1, to = 1}]|11 outcome\n",
     "outcome|outcome = \"agreement\";links = [{from = 1, to = 1}]|10 outcome\n",
     "outcome|outcome = 1;links = [{from = 1, to = 1}]|5 outcome\n",
+    // A key behind a table is its own.
+    "outcome|[[links]];from = 0;to = 1;outcome = \"delivered\"|3 outcome\n",
 );
 
 #[test]
-fn bounds_are_refused(rt: HostRuntime) -> Result<(), Fail> {
-    are_read_as(&rt, rt.alloc(), BOUNDS)
-}
-
-#[test]
-fn protocols_and_outcomes_are_refused(rt: HostRuntime) -> Result<(), Fail> {
-    are_read_as(&rt, rt.alloc(), PROMISES)
-}
-
-#[test]
-fn more_keys_are_refused(rt: HostRuntime) -> Result<(), Fail> {
-    are_read_as(&rt, rt.alloc(), OPTIONAL_KEYS)
-}
-
-#[test]
-fn links_are_refused(rt: HostRuntime) -> Result<(), Fail> {
-    are_read_as(&rt, rt.alloc(), LINKS)
-}
-
-#[test]
-fn a_key_behind_a_table_is_its_own(rt: HostRuntime) -> Result<(), Fail> {
-    are_read_as(&rt, rt.alloc(), KEY_BEHIND_A_TABLE)
-}
-
-#[test]
-fn formulas_are_refused_before_links(rt: HostRuntime) -> Result<(), Fail> {
-    are_read_as(&rt, rt.alloc(), FORMULAS_AND_LINKS)
+fn texts_are_refused(rt: HostRuntime) -> Result<(), Fail> {
+    are_read_as(&rt, rt.alloc(), REFUSED)
 }
 
 /// The refusal is told in these words.
@@ -121,22 +89,17 @@ fn is_told_as(
     words: &str,
 ) -> Result<(), Fail> {
     let told = format!(in alloc; "{refusal}")?;
-    assert_eq!(rt; told.as_str(), words);
-    Ok(())
+    agrees(rt, told.as_str(), words, words)
 }
 
 #[test]
-fn a_number_out_of_range_is_told_with_its_range(rt: HostRuntime) -> Result<(), Fail> {
+fn refusals_are_told_in_words(rt: HostRuntime) -> Result<(), Fail> {
     is_told_as(
         &rt,
         rt.alloc(),
         ScenarioError::OutOfRange(Key::Nodes),
         "a number of `nodes` is out of range: it takes a whole number from 2 to 8",
-    )
-}
-
-#[test]
-fn a_missing_key_is_told_with_what_it_takes(rt: HostRuntime) -> Result<(), Fail> {
+    )?;
     is_told_as(
         &rt,
         rt.alloc(),
@@ -145,11 +108,7 @@ fn a_missing_key_is_told_with_what_it_takes(rt: HostRuntime) -> Result<(), Fail>
             "the key `protocol` is missing: it takes a text: \"retry\", \"redundant\", \"two_phase\", \"three_phase\", ",
             "or with at least three nodes \"primary_backup\"",
         ),
-    )
-}
-
-#[test]
-fn a_text_that_is_no_document_is_told_so(rt: HostRuntime) -> Result<(), Fail> {
+    )?;
     is_told_as(
         &rt,
         rt.alloc(),
