@@ -8,6 +8,11 @@ top=$(dirname "$here")
 program="$top/crates/leastfault_cli/out/leastfault_cli"
 wrong=0
 
+# The commands run in a folder of their own, in which they may write.
+room=$(mktemp -d)
+trap 'rm -rf "$room"' EXIT
+ln -s "$here" "$room/examples"
+
 # Proves and builds the program, and shows what was said where that fails.
 build() {
     local said status=0
@@ -63,7 +68,7 @@ check_examples() {
 check_command() {
     local printed status=0
     [ -n "$2" ] || return 0
-    printed=$(cd "$top" && eval "$2") || status=$?
+    printed=$(cd "$room" && eval "$2") || status=$?
     compare "$(basename "$1"), $2" "${3%$'\n'}" "$printed" "$status"
 }
 

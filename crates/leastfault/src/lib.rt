@@ -17,5 +17,6 @@ pub use engine::{
 };
 pub use laws::{answers_are_one, check_replies_are_one, replies_are_one, yes_is_the_answer};
 pub use lf_streams::{Failed, FromRead, Sink, Source, ToWrite};
+pub use lf_tree::{Tree, TreeFault, to_text};
 pub use lf_words::{Asked, Unasked, asked};
 pub use replies::{full_line, judgement, refusal, report, tree_refusal};

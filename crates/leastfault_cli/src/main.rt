@@ -1,25 +1,27 @@
 //! The program `leastfault`: it reads a scenario and prints the fewest faults that defeat its outcome, or one run, or whether
 //! a certificate of its answer is right.
 //!
-//!     leastfault search FILE
+//!     leastfault search FILE [--tree TREE]
 //!     leastfault run FILE FAULTS
 //!     leastfault check FILE TREE
 //!
 //! FILE is a scenario, and `-` is standard input. FAULTS are faults joined by single commas, and the empty word is none. TREE
 //! is a certificate, and `-` is standard input; it can't be that of FILE and of TREE at once. With no words it is `search -`.
+//! With `--tree` a search writes the certificate of its answer into the file TREE, and then the reply.
 //!
 //! The status is 0 where no allowed set of faults defeats the outcome, where the run reaches it, where the certificate is
 //! right, and after help or the version; 1 where a set defeats it, the run misses it, or the certificate is wrong; 2 where the
-//! scenario, the faults, the certificate's text or the words are refused; and 3 where memory ran out or a device failed:
-//! standard error then has the line `memory`, `read` or `write`.
+//! scenario, the faults, the certificate's text or the words are refused, or a level of the search is too full; and 3 where
+//! memory ran out or a device failed: standard error then has the line `memory`, `read` or `write`.
 #![tactic(auto)]
 
 use leastfault::{
-    Asked, BytesFault, FromRead, ToWrite, Unasked, asked, check_bytes_rows, run_bytes, search_bytes,
+    Asked, BytesFault, FromRead, Searched, ToWrite, Tree, TreeFault, Unasked, asked,
+    check_bytes_rows, run_bytes, search_bytes, to_text, tree_refusal,
 };
 use std::env;
 use std::fs::File;
-use std::io::{ErrorKind, Read};
+use std::io::{ErrorKind, Read, Write};
 use std::process::ExitCode;
 use std::thread::Threads;
 
@@ -86,7 +88,7 @@ fn done(
     asked: &Asked,
 ) -> Result<u8, BytesFault> {
     let file = match asked {
-        Asked::Search { file } | Asked::Run { file, .. } | Asked::Check { file, .. } => {
+        Asked::Search { file, .. } | Asked::Run { file, .. } | Asked::Check { file, .. } => {
             file.as_str()
         }
     };
@@ -114,11 +116,15 @@ fn replied<R: Read + Drop>(
     reader: R,
 ) -> Result<u8, BytesFault> {
     match asked {
-        Asked::Search { .. } => {
+        Asked::Search { tree: None, .. } => {
             let mut source = FromRead::new(reader);
             let searched = search_bytes(rt.alloc(), &mut source, &mut ToWrite::new(rt.stdout()))?;
             Ok(searched.status)
         }
+        Asked::Search {
+            tree: Some(tree),
+            ..
+        } => certified(rt, reader, tree.as_str()),
         Asked::Run { faults, .. } => {
             let mut source = FromRead::new(reader);
             let mut sink = ToWrite::new(rt.stdout());
@@ -131,6 +137,73 @@ fn replied<R: Read + Drop>(
             rt.stdin(),
         ),
         Asked::Check { tree, .. } => judged(rt, threads, reader, opened(rt, tree.as_str())?),
+    }
+}
+
+/// Searches the scenario that a reader has, and writes the certificate of its answer into a file, and then the reply to standard
+/// output. Without an answer the file stays as it is, and so it does where the certificate's text is too long: that is told in
+/// place of the reply.
+fn certified<R: Read + Drop>(rt: &HostRuntime, reader: R, file: &str) -> Result<u8, BytesFault> {
+    let mut reply = Vec::new(rt.alloc());
+    let Searched { status, tree } = search_to(rt, reader, &mut reply)?;
+    match tree {
+        Some(tree) => written(rt, file, &tree, reply.as_slice(), status),
+        None => printed(rt, reply.as_slice(), status),
+    }
+}
+
+/// Writes the certificate of an answer into a file, and then the reply to standard output.
+fn written(
+    rt: &HostRuntime,
+    file: &str,
+    tree: &Tree,
+    reply: &[u8],
+    status: u8,
+) -> Result<u8, BytesFault> {
+    match to_text(rt.alloc(), tree) {
+        Ok(text) => {
+            put(rt, file, text.as_slice())?;
+            printed(rt, reply, status)
+        }
+        Err(TreeFault::Memory) => Err(BytesFault::Memory),
+        Err(fault) => match tree_refusal(rt.alloc(), fault) {
+            Ok(line) => printed(rt, line.as_bytes(), 2),
+            Err(_) => Err(BytesFault::Memory),
+        },
+    }
+}
+
+/// Searches the scenario that a reader has, with its reply into memory: where that can't be written memory has run out.
+fn search_to<R: Read + Drop>(
+    rt: &HostRuntime,
+    reader: R,
+    reply: &mut Vec<u8>,
+) -> Result<Searched, BytesFault> {
+    let mut source = FromRead::new(reader);
+    match search_bytes(rt.alloc(), &mut source, &mut ToWrite::new(reply)) {
+        Err(BytesFault::Write) => Err(BytesFault::Memory),
+        answered => answered,
+    }
+}
+
+/// Makes a file that has these bytes and no others.
+fn put(rt: &HostRuntime, file: &str, bytes: &[u8]) -> Result<(), BytesFault> {
+    let mut made = match File::create(rt, file) {
+        Ok(made) => made,
+        Err(error) if error.kind() == ErrorKind::OutOfMemory => return Err(BytesFault::Memory),
+        Err(_) => return Err(BytesFault::Write),
+    };
+    match made.write_all(bytes) {
+        Ok(()) => Ok(()),
+        Err(_) => Err(BytesFault::Write),
+    }
+}
+
+/// Writes a whole reply to standard output. The answer is its status.
+fn printed(rt: &HostRuntime, reply: &[u8], status: u8) -> Result<u8, BytesFault> {
+    match rt.stdout().write_all(reply) {
+        Ok(()) => Ok(status),
+        Err(_) => Err(BytesFault::Write),
     }
 }
 

@@ -6,7 +6,7 @@ use Rattle.clap.specs.Words.{Text}
 use Rattle.clap.specs.declared.error.kind.ErrorKind.TheVariants as kind
 use Rattle.lf_words.specs.Plain.{asks_help, asks_version, is_plain_command, is_unknown}
 use Rattle.lf_words.specs.Statuses.{exit_status}
-use Rattle.lf_words.specs.Words.{Asks, IsRefusal, shares_input, texts_of}
+use Rattle.lf_words.specs.Words.{Asks, IsPlainly, IsRefusal, shares_input}
 use Rattle.lf_words.specs.declared.types.Asked.{Asked}
 use Rattle.lf_words.specs.declared.unasked.Unasked.{Unasked}
 use Rattle.lf_words.specs.declared.unasked.Unasked.TheVariants as unasked
@@ -25,7 +25,7 @@ answers_possible words a (Err u) told asks = subst (IsRefusal words) (sym told.0
 
 module _ (ws : List (String Global)) where
   pub plain_of : (r : Result Asked Unasked) → is_plain_command (map string_bytes ws) ≡ true → Answers (map string_bytes ws) r
-      → MatchResult r (λ a. texts_of a ≡ map string_bytes ws) (λ u. u ≡ unasked.Memory)
+      → MatchResult r (IsPlainly (map string_bytes ws)) (λ u. u ≡ unasked.Memory)
   plain_of (Ok a) plain asks = asks_plainly (map string_bytes ws) a plain asks.0
   plain_of (Err u) plain refusal = refused_plainly ws u plain refusal
 

@@ -39,10 +39,7 @@ is_taken [] plain = record { no_end = refl; no_long = refl; no_short = refl }
 is_taken (x ∷ []) plain = taken_one x (x == 45) refl
 is_taken (x ∷ y ∷ rest) plain = taken_other x (y ∷ rest) (not-true (x == 45) plain)
 
-abbrev pub named_file : Text × List Row → Text × Option Text
-named_file p = (p.0, first_of (codes "file") p.1)
-
--- the same with the value of another argument
+-- a command's name, its file, and the value of another argument
 abbrev pub named_both : Text → Text × List Row → Text × Option Text × Option Text
 named_both key p = (p.0, first_of (codes "file") p.1, first_of key p.1)
 
@@ -51,7 +48,7 @@ unfolding clap_on_literals
 search_fault file taken = rw (taken.no_end, taken.no_long, taken.no_short) refl
 
 pub search_names : (file : Text) → IsTaken file
-    → option_map named_file (subcommand_of program (codes "search" ∷ file ∷ [])) ≡ Some (codes "search", Some file)
+    → option_map (named_both (codes "tree")) (subcommand_of program (codes "search" ∷ file ∷ [])) ≡ Some (codes "search", Some file, None)
 unfolding clap_on_literals
 search_names file taken = rw (taken.no_end, taken.no_long, taken.no_short) refl
 

@@ -12,12 +12,12 @@ use Rattle.clap.specs.Words.{Kinds, Row, Text, fault_of, subcommand_of}
 use Rattle.lf_words.specs.Commands.{program}
 use Rattle.lf_words.specs.Plain.{asks_help, asks_version, is_plain, is_plain_command, is_unknown, takes_two}
 use Rattle.lf_words.specs.Statuses.{exit_status, status_of}
-use Rattle.lf_words.specs.Words.{Asks, HasStatus, IsAskedIn, IsRefusal, is_input, shares_input, texts_of}
+use Rattle.lf_words.specs.Words.{Asks, HasStatus, IsAskedIn, IsPlainly, IsRefusal, is_input, shares_input, texts_of}
 use Rattle.lf_words.specs.declared.types.Asked.{Asked}
 use Rattle.lf_words.specs.declared.types.Asked.TheVariants as asked
 use Rattle.lf_words.specs.declared.unasked.Unasked.{Unasked}
 use Rattle.lf_words.specs.declared.unasked.Unasked.TheVariants as unasked
-use Rattle.lf_words.proofs.Plain.{IsTaken, is_taken, named_both, named_file, check_fault, check_names, run_fault, run_names, search_fault, search_names}
+use Rattle.lf_words.proofs.Plain.{IsTaken, is_taken, named_both, check_fault, check_names, run_fault, run_names, search_fault, search_names}
 use Rattle.lf_words.proofs.Plain.{help_fault, short_help_fault, short_version_fault, unknown_fault, version_fault}
 use Rattle.lf_words.proofs.Reading.{apart, no_truth}
 
@@ -55,40 +55,41 @@ check_or_search name is_check is_search = apart 99 115 (omega arith) (ap first (
 check_or_run : (name : Text) → name ≡ codes "check" → name ≡ codes "run" → ⊥
 check_or_run name is_check is_run = apart 99 114 (omega arith) (ap first (sym is_check ∙ is_run))
 
-search_of : (words : List Text) (o : Option (Text × List Row)) (file : Text) (a : Asked) → option_map named_file o ≡ Some (codes "search", Some file)
-    → IsAskedIn words o a → texts_of a ≡ codes "search" ∷ file ∷ []
+search_of : (words : List Text) (o : Option (Text × List Row)) (file : Text) (a : Asked)
+    → option_map (named_both (codes "tree")) o ≡ Some (codes "search", Some file, None)
+    → IsAskedIn words o a → IsPlainly (codes "search" ∷ file ∷ []) a
 search_of words None file a names asked = elim asked [ ]
-search_of words (Some p) file (asked.Search own) names asked =
-    let pair : named_file p ≡ (codes "search", Some file) = some_is _ _ names in
-    let same : own.bytes.items ≡ file = some_is _ _ (sym asked.0.1 ∙ ap (λ (q : Text × Option Text). q.1) pair) in
-    ap (λ x. codes "search" ∷ x ∷ []) same
+search_of words (Some p) file (asked.Search own tree) names asked =
+    let pair : named_both (codes "tree") p ≡ (codes "search", Some file, None) = some_is _ _ names in
+    let same : own.bytes.items ≡ file = some_is _ _ (sym asked.0.1 ∙ ap (λ (q : Both). q.1) pair) in
+    record { texts = ap (λ x. codes "search" ∷ x ∷ []) same; unwritten = sym asked.0.2 ∙ ap (λ (q : Both). q.2) pair }
 search_of words (Some p) file (asked.Run own faults) names asked =
-    let pair : named_file p ≡ (codes "search", Some file) = some_is _ _ names in
-    absurd (run_or_search p.0 asked.0.0 (ap (λ (q : Text × Option Text). q.0) pair))
+    let pair : named_both (codes "tree") p ≡ (codes "search", Some file, None) = some_is _ _ names in
+    absurd (run_or_search p.0 asked.0.0 (ap (λ (q : Both). q.0) pair))
 search_of words (Some p) file (asked.Check own tree) names asked =
-    let pair : named_file p ≡ (codes "search", Some file) = some_is _ _ names in
-    absurd (check_or_search p.0 asked.0.0 (ap (λ (q : Text × Option Text). q.0) pair))
+    let pair : named_both (codes "tree") p ≡ (codes "search", Some file, None) = some_is _ _ names in
+    absurd (check_or_search p.0 asked.0.0 (ap (λ (q : Both). q.0) pair))
 
 asks_search : (words : List Text) (o : Option (Text × List Row)) (file : String Global)
-    → option_map named_file o ≡ Some (codes "search", Some (string_bytes file))
-    → words ≡ codes "search" ∷ string_bytes file ∷ [] → IsAskedIn words o (asked.Search file)
+    → option_map (named_both (codes "tree")) o ≡ Some (codes "search", Some (string_bytes file), None)
+    → words ≡ codes "search" ∷ string_bytes file ∷ [] → IsAskedIn words o (asked.Search file None)
 asks_search words None file names is = absurd (no_thing _ names)
 asks_search words (Some p) file names is =
-    let pair : named_file p ≡ (codes "search", Some (string_bytes file)) = some_is _ _ names in
-    ((ap (λ (q : Text × Option Text). q.0) pair, ap (λ (q : Text × Option Text). q.1) pair), rw (is) (inl (refl, inl (refl, tt))))
+    let pair : named_both (codes "tree") p ≡ (codes "search", Some (string_bytes file), None) = some_is _ _ names in
+    ((ap (λ (q : Both). q.0) pair, ap (λ (q : Both). q.1) pair, ap (λ (q : Both). q.2) pair), rw (is) (inl (refl, inl (refl, tt))))
 
 run_of : (words : List Text) (o : Option (Text × List Row)) (file faults : Text) (a : Asked)
     → option_map (named_both (codes "faults")) o ≡ Some (codes "run", Some file, Some faults)
-    → IsAskedIn words o a → texts_of a ≡ codes "run" ∷ file ∷ faults ∷ []
+    → IsAskedIn words o a → IsPlainly (codes "run" ∷ file ∷ faults ∷ []) a
 run_of words None file faults a names asked = elim asked [ ]
-run_of words (Some p) file faults (asked.Search own) names asked =
+run_of words (Some p) file faults (asked.Search own tree) names asked =
     let pair : named_both (codes "faults") p ≡ (codes "run", Some file, Some faults) = some_is _ _ names in
     absurd (run_or_search p.0 (ap (λ (q : Both). q.0) pair) asked.0.0)
 run_of words (Some p) file faults (asked.Run own own_faults) names asked =
     let pair : named_both (codes "faults") p ≡ (codes "run", Some file, Some faults) = some_is _ _ names in
     let same : own.bytes.items ≡ file = some_is _ _ (sym asked.0.1 ∙ ap (λ (q : Both). q.1) pair) in
     let same_too : own_faults.bytes.items ≡ faults = some_is _ _ (sym asked.0.2 ∙ ap (λ (q : Both). q.2) pair) in
-    rw (same, same_too) refl
+    record { texts = rw (same, same_too) refl; unwritten = refl }
 run_of words (Some p) file faults (asked.Check own tree) names asked =
     let pair : named_both (codes "faults") p ≡ (codes "run", Some file, Some faults) = some_is _ _ names in
     absurd (check_or_run p.0 asked.0.0 (ap (λ (q : Both). q.0) pair))
@@ -103,9 +104,9 @@ asks_run words (Some p) file faults names is =
 
 check_of : (words : List Text) (o : Option (Text × List Row)) (file tree : Text) (a : Asked)
     → option_map (named_both (codes "tree")) o ≡ Some (codes "check", Some file, Some tree)
-    → IsAskedIn words o a → texts_of a ≡ codes "check" ∷ file ∷ tree ∷ []
+    → IsAskedIn words o a → IsPlainly (codes "check" ∷ file ∷ tree ∷ []) a
 check_of words None file tree a names asked = elim asked [ ]
-check_of words (Some p) file tree (asked.Search own) names asked =
+check_of words (Some p) file tree (asked.Search own written) names asked =
     let pair : named_both (codes "tree") p ≡ (codes "check", Some file, Some tree) = some_is _ _ names in
     absurd (check_or_search p.0 (ap (λ (q : Both). q.0) pair) asked.0.0)
 check_of words (Some p) file tree (asked.Run own faults) names asked =
@@ -115,7 +116,7 @@ check_of words (Some p) file tree (asked.Check own own_tree) names asked =
     let pair : named_both (codes "tree") p ≡ (codes "check", Some file, Some tree) = some_is _ _ names in
     let same : own.bytes.items ≡ file = some_is _ _ (sym asked.0.1 ∙ ap (λ (q : Both). q.1) pair) in
     let same_too : own_tree.bytes.items ≡ tree = some_is _ _ (sym asked.0.2 ∙ ap (λ (q : Both). q.2) pair) in
-    rw (same, same_too) refl
+    record { texts = rw (same, same_too) refl; unwritten = refl }
 
 asks_check : (words : List Text) (o : Option (Text × List Row)) (file tree : String Global)
     → option_map (named_both (codes "tree")) o ≡ Some (codes "check", Some (string_bytes file), Some (string_bytes tree))
@@ -158,26 +159,26 @@ two_are command one other plain =
     let k = both (is_plain one) (is_plain other) h.1 in
     (command_is command one other h.0, is_taken one k.0, is_taken other k.1)
 
-pub asks_plainly : (words : List Text) (a : Asked) → is_plain_command words ≡ true → Asks words a → texts_of a ≡ words
+pub asks_plainly : (words : List Text) (a : Asked) → is_plain_command words ≡ true → Asks words a → IsPlainly words a
 asks_plainly [] a plain asks = absurd (no_truth plain)
 asks_plainly (command ∷ []) a plain asks = absurd (no_truth plain)
 asks_plainly (command ∷ file ∷ []) a plain asks =
     let is = search_is command file plain in
-    subst (λ c. Asks (c ∷ file ∷ []) a → texts_of a ≡ c ∷ file ∷ []) (sym is.0)
+    subst (λ c. Asks (c ∷ file ∷ []) a → IsPlainly (c ∷ file ∷ []) a) (sym is.0)
     (λ h. search_of _ (subcommand_of program (codes "search" ∷ file ∷ [])) file a (search_names file is.1) h.1) asks
 asks_plainly (command ∷ one ∷ other ∷ []) a plain asks =
     let is = two_are command one other plain in
     elim is.0 [
-      | inl run ↦ subst (λ c. Asks (c ∷ one ∷ other ∷ []) a → texts_of a ≡ c ∷ one ∷ other ∷ []) (sym run)
+      | inl run ↦ subst (λ c. Asks (c ∷ one ∷ other ∷ []) a → IsPlainly (c ∷ one ∷ other ∷ []) a) (sym run)
           (λ h. run_of _ (subcommand_of program (codes "run" ∷ one ∷ other ∷ [])) one other a (run_names one other is.1 is.2) h.1) asks
-      | inr check ↦ subst (λ c. Asks (c ∷ one ∷ other ∷ []) a → texts_of a ≡ c ∷ one ∷ other ∷ []) (sym check.0)
+      | inr check ↦ subst (λ c. Asks (c ∷ one ∷ other ∷ []) a → IsPlainly (c ∷ one ∷ other ∷ []) a) (sym check.0)
           (λ h. check_of _ (subcommand_of program (codes "check" ∷ one ∷ other ∷ [])) one other a (check_names one other is.1 is.2) h.1) asks
     ]
 asks_plainly (command ∷ one ∷ other ∷ more ∷ rest) a plain asks = absurd (no_truth plain)
 
 -- what shares standard input isn't asked for by plain words
 shared_not_plain : (a : Asked) → shares_input a ≡ true → is_plain_command (texts_of a) ≡ true → ⊥
-shared_not_plain (asked.Search file) shared plain = no_truth shared
+shared_not_plain (asked.Search file tree) shared plain = no_truth shared
 shared_not_plain (asked.Run file faults) shared plain = no_truth shared
 shared_not_plain (asked.Check file tree) shared plain =
     elim (two_are (codes "check") file.bytes.items tree.bytes.items plain).0 [
@@ -187,7 +188,7 @@ shared_not_plain (asked.Check file tree) shared plain =
 
 can_be_done : (words : List Text) → is_plain_command words ≡ true → (a : Asked) → Asks words a → shares_input a ≡ true → ⊥
 can_be_done words plain a asks shared =
-    shared_not_plain a shared (subst (λ ws. is_plain_command ws ≡ true) (sym (asks_plainly words a plain asks)) plain)
+    shared_not_plain a shared (subst (λ ws. is_plain_command ws ≡ true) (sym (asks_plainly words a plain asks).texts) plain)
 
 asks_some : (ws : List (String Global)) → is_plain_command (map string_bytes ws) ≡ true → (a : Asked) × Asks (map string_bytes ws) a
 asks_some [] plain = absurd (no_truth plain)
@@ -196,7 +197,7 @@ asks_some (command ∷ file ∷ []) plain =
     let is = search_is (string_bytes command) (string_bytes file) plain in
     let words = codes "search" ∷ string_bytes file ∷ [] in
     subst (λ c. (a : Asked) × Asks (c ∷ string_bytes file ∷ []) a) (sym is.0) (
-      asked.Search file,
+      asked.Search file None,
       (
         search_fault (string_bytes file) is.1,
         asks_search words (subcommand_of program words) file (search_names (string_bytes file) is.1) refl,
@@ -259,7 +260,7 @@ size (x ∷ y ∷ z ∷ []) = 3
 size (x ∷ y ∷ z ∷ more ∷ rest) = 4
 
 shared_is : (a : Asked) → texts_of a ≡ shared_words → shares_input a ≡ true
-shared_is (asked.Search file) is = absurd (apart 2 3 (omega arith) (ap size is))
+shared_is (asked.Search file tree) is = absurd (apart 2 3 (omega arith) (ap size is))
 shared_is (asked.Run file faults) is = absurd (check_or_run (codes "check") refl (sym (ap head is)))
 shared_is (asked.Check file tree) is =
     let one : is_input file.bytes.items ≡ true = (bytes_eq-Decides file.bytes.items (codes "-")).1 (ap second is) in
@@ -268,9 +269,9 @@ shared_is (asked.Check file tree) is =
 
 pub shared_is_refused : (words : List Text) (a : Asked) → words ≡ shared_words → Asks words a → shares_input a ≡ false → ⊥
 shared_is_refused words a is asks possible =
-    let texts : texts_of a ≡ shared_words = check_of _ (subcommand_of program shared_words) (codes "-") (codes "-") a
+    let plainly : IsPlainly shared_words a = check_of _ (subcommand_of program shared_words) (codes "-") (codes "-") a
     (check_names (codes "-") (codes "-") minus_is_taken minus_is_taken) (subst (λ ws. Asks ws a) is asks).1 in
-    no_truth (sym possible ∙ shared_is a texts)
+    no_truth (sym possible ∙ shared_is a plainly.texts)
 
 only_shared : (a : Asked) (u : Unasked) → Asks shared_words a → IsRefusal shared_words u → (u ≡ unasked.SharedInput) ⊎ (u ≡ unasked.Memory)
 only_shared a (unasked.Told text) asks refusal = absurd (subst (λ (kinds : Kinds). HasStatus kinds 0) asks.0 refusal)

@@ -1,5 +1,5 @@
 -- The commands of `leastfault`, as `clap` reads them.
-use Rattle.std.specs.Prelude.{codes, true}
+use Rattle.std.specs.Prelude.{codes, true, Some}
 use Rattle.clap.specs.Words.{App, Rule, new_app, new_rule, with_rule, with_subcommand}
 use Rattle.clap.specs.Simple.{on_top}
 
@@ -7,9 +7,13 @@ use Rattle.clap.specs.Simple.{on_top}
 abbrev pub file : Rule
 file = record (new_rule (codes "file")) { required = true; value_names = 1 }
 
+-- the option --tree TREE
+abbrev pub written : Rule
+written = record (new_rule (codes "tree")) { long = Some (codes "tree"); value_names = 1 }
+
 -- search FILE
 abbrev pub search : App
-search = with_rule (new_app (codes "search")) file
+search = with_rule (with_rule (new_app (codes "search")) file) written
 
 -- the argument FAULTS
 abbrev pub faults : Rule

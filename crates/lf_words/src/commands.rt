@@ -3,7 +3,7 @@
 ghost use Rattle.std.specs.Prelude.{◌≡◌, IfOk, false};
 ghost use Rattle.clap.specs.Words.{app_of, rule_of};
 ghost use Rattle.clap.specs.declared.builder.command.Command.TheViews.{out-Command};
-ghost use Rattle.lf_words.specs.Commands.{check, file, plain, program, run, search, tree};
+ghost use Rattle.lf_words.specs.Commands.{check, file, plain, program, run, search, tree, written};
 
 use clap::{Arg, Command};
 use std::alloc::{AllocError, Global};
@@ -20,12 +20,12 @@ With no words it reads a scenario from standard input and searches, as `search -
 const WORDS: &str = "Words:
   FILE    a file with a scenario in TOML, or - for standard input
   FAULTS  faults joined by commas, as in 'omit 0>1 @2,crash 2 @3'; the empty word '' for none
-  TREE    a file with a certificate, or - for standard input; not both FILE and TREE can be -
+  TREE    a file with a certificate, or - for standard input; not both FILE and TREE can be -. After --tree it is a file's name
 
 Exit status:
   0  no allowed set of faults misses the outcome, the run reaches it, or the certificate is right; also help and the version
   1  a set of faults that misses the outcome was found, the run misses it, or the certificate is wrong
-  2  the scenario, the faults or the certificate's text were refused, or the words were wrong
+  2  the scenario, the faults or the certificate's text were refused, a level was too full, or the words were wrong
   3  memory was wanting, or a device failed";
 
 /// The command line of the program, with the program's name in help.
@@ -58,13 +58,14 @@ fn plain<'a>(alloc: Global) -> Command<'a>
         .after_help(WORDS)
 }
 
-/// The command `search FILE`.
+/// The command `search FILE`, with the option `--tree TREE`.
 fn search<'a>(alloc: Global) -> Result<Command<'a>, AllocError>
     ensures { IfOk result (λ c. (app_of c ≡ search) × ((out-Command c).has_globals ≡ false)) }
 {
     Command::new(alloc, "search")
         .about("Prints the fewest faults with which the scenario FILE misses its outcome, or none")
-        .arg(file(alloc))
+        .arg(file(alloc))?
+        .arg(written(alloc))
 }
 
 /// The command `run FILE FAULTS`.
@@ -103,6 +104,16 @@ fn tree<'a>(alloc: Global) -> Arg<'a>
         .required(true)
         .value_name("TREE")
         .help("A file with a certificate, or - for standard input")
+}
+
+/// The option `--tree TREE`.
+fn written<'a>(alloc: Global) -> Arg<'a>
+    ensures { (rule_of result ≡ written) × (result.global ≡ false) }
+{
+    Arg::new(alloc, "tree")
+        .long("tree")
+        .value_name("TREE")
+        .help("Writes a certificate of the answer to the file TREE")
 }
 
 /// The argument FILE.

@@ -3,13 +3,16 @@
 ghost use Rattle.std.specs.Prelude.{◌≡◌};
 ghost use Rattle.lf_words.specs.Words.{shares_input};
 
-/// What a command line asks for. A file stands here as it was written; `-` is standard input.
+/// What a command line asks for. A file stands here as it was written; `-` is standard input, but for a certificate that is to be
+/// written, which is a file of that name.
 #[derive(Debug, PartialEq, Eq, Drop)]
 pub enum Asked {
     /// To search for the fewest faults that make a scenario miss its outcome.
     Search {
         /// The file of the scenario.
         file: String,
+        /// The file into which the certificate of the answer is to be written, if one is named.
+        tree: Option<String>,
     },
     /// To run a scenario once, under faults that are given.
     Run {

@@ -5,7 +5,7 @@ ghost use Rattle.std.specs.String.{string_bytes};
 ghost use Rattle.clap.specs.Words.{first_of, found_of, kind_of, rows_of, subcommand_rows_of};
 ghost use Rattle.lf_words.specs.Plain.{asks_help, asks_version, is_plain_command, is_unknown};
 ghost use Rattle.lf_words.specs.Statuses.{exit_status, goes_to_error};
-ghost use Rattle.lf_words.specs.Words.{Asks, IsAnswer, IsAskedBy, IsAskedIn, IsPartOf, IsRefusal, IsToldFor, shares_input, texts_of};
+ghost use Rattle.lf_words.specs.Words.{Asks, IsAnswer, IsAskedBy, IsAskedIn, IsPartOf, IsPlainly, IsRefusal, IsToldFor, shares_input};
 
 use crate::commands::program;
 use crate::{Asked, Unasked};
@@ -20,9 +20,9 @@ use std::alloc::{AllocError, Global};
 /// `Memory` comes only where memory has run out.
 pub fn asked(alloc: Global, words: &[String]) -> Result<Asked, Unasked>
     ensures no_words { words.now ≡ [] → MatchResult result
-        (λ a. texts_of a ≡ codes "search" ∷ codes "-" ∷ []) (λ u. u ≡ Unasked.Memory) }
+        (IsPlainly (codes "search" ∷ codes "-" ∷ [])) (λ u. u ≡ Unasked.Memory) }
     ensures plain { is_plain_command (map string_bytes words.now) ≡ true → MatchResult result
-        (λ a. texts_of a ≡ map string_bytes words.now) (λ u. u ≡ Unasked.Memory) }
+        (IsPlainly (map string_bytes words.now)) (λ u. u ≡ Unasked.Memory) }
     ensures shared { map string_bytes words.now ≡ codes "check" ∷ codes "-" ∷ codes "-" ∷ [] → IsErrAnd result
         (λ u. (u ≡ Unasked.SharedInput) ⊎ (u ≡ Unasked.Memory)) }
     ensures help { asks_help (map string_bytes words.now) ≡ true → IsErrAnd result
@@ -37,6 +37,7 @@ pub fn asked(alloc: Global, words: &[String]) -> Result<Asked, Unasked>
     if words.is_empty() {
         return Ok(Asked::Search {
             file: String::from_str(alloc, "-")?,
+            tree: None,
         });
     }
     match program(alloc)?.try_get_matches_from(words) {
@@ -92,8 +93,13 @@ fn search(
     if !are_part_of(&["search", file], words) {
         return Ok(None);
     }
+    let tree = match value(matches, "tree") {
+        Some(tree) => Some(String::from_str(alloc, tree)?),
+        None => None,
+    };
     Ok(Some(Asked::Search {
         file: String::from_str(alloc, file)?,
+        tree,
     }))
 }
 

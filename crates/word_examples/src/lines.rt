@@ -31,7 +31,10 @@ fn why(unasked: &Unasked) -> &'static str {
 /// What the words ask for, as a table says it.
 fn said(alloc: Global, words: &str) -> Result<String, AllocError> {
     match asked(alloc, owned(alloc, words)?.as_slice()) {
-        Ok(Asked::Search { file }) => format!(in alloc; ";search;{file}"),
+        Ok(Asked::Search { file, tree }) => match tree {
+            Some(tree) => format!(in alloc; ";search;{file};tree;{tree}"),
+            None => format!(in alloc; ";search;{file}"),
+        },
         Ok(Asked::Run { file, faults }) => format!(in alloc; ";run;{file};{faults}"),
         Ok(Asked::Check { file, tree }) => format!(in alloc; ";check;{file};{tree}"),
         Err(unasked) => String::from_str(alloc, why(&unasked)),
@@ -60,6 +63,10 @@ fn searches_name_their_file(rt: HostRuntime) -> Result<(), Fail> {
         ";search;|;search;\n",
         ";search;two words.toml|;search;two words.toml\n",
         ";search; grün/日本.toml|;search; grün/日本.toml\n",
+        ";search;a.toml;--tree;a.json|;search;a.toml;tree;a.json\n",
+        ";search;--tree;a.json;a.toml|;search;a.toml;tree;a.json\n",
+        ";search;-;--tree=-|;search;-;tree;-\n",
+        ";search;a;--tree;-|;search;a;tree;-\n",
     );
     check_lines(&rt, rt.alloc(), table)
 }
@@ -104,6 +111,9 @@ fn wrong_words_are_refused(rt: HostRuntime) -> Result<(), Fail> {
         ";search;a;b|wrong\n",
         ";search;-x|wrong\n",
         ";search;--tree|wrong\n",
+        ";search;--tree;a.json|wrong\n",
+        ";search;a;--tree;b;--tree;c|wrong\n",
+        ";run;a;;--tree;b|wrong\n",
         ";--;search;a|wrong\n",
         ";Search;a|wrong\n",
         ";run|wrong\n",
