@@ -195,8 +195,14 @@ by_level : (y : Node-F Node) (faults excluded : List Parts) (i : ℕ) (edge : Pa
 by_level Node-F.Misses faults excluded i edge node edge_is node_is = absurd (none-some edge edge_is)
 by_level Node-F.Reaches faults excluded i edge node edge_is node_is = absurd (none-some edge edge_is)
 by_level (Node-F.Branch reach edges kids) faults excluded i edge node edge_is node_is =
-    ap (λ (o : Option Parts). option_and_then (λ (e : Parts). option_map (λ (k : Node). let made : Place = record { node = k; faults = inserted e faults; excluded = excluded ++ take i edges } in made) (slice_get kids i)) o) edge_is
-    ∙ ap (λ (o : Option Node). option_map (λ (k : Node). let made : Place = record { node = k; faults = inserted edge faults; excluded = excluded ++ take i edges } in made) o) node_is
+    ap (λ (o : Option Parts). option_and_then (λ (e : Parts). option_map
+    (λ (k : Node). let made : Place = record { node = k; faults = inserted e faults; excluded = excluded ++ take i edges } in made)
+    (slice_get kids i)) o) edge_is
+    ∙ ap (λ (o : Option Node). option_map (λ (k : Node). let made : Place = record {
+      node = k;
+      faults = inserted edge faults;
+      excluded = excluded ++ take i edges;
+    } in made) o) node_is
 
 -- The set of a row, by that of its branch's row
 module _ (tree : Tree) (at above : ℕ) (r branch : Seen) (is : slice_get (rows_of tree) at ≡ Some r) (named : r.parent ≡ Some above)

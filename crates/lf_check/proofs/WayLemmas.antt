@@ -207,7 +207,11 @@ pub record KidOf (n : Node) (faults excluded : List Parts) (i : ℕ) (kid : Plac
 
 both_there : (n : Node) (reach : List ℕ) (edges : List Parts) (kids : List Node) (faults excluded : List Parts) (i : ℕ) (kid : Place)
     (e : Option Parts) (k : Option Node) → out-Node n ≡ Node-F.Branch reach edges kids → slice_get edges i ≡ e → slice_get kids i ≡ k
-    → option_and_then (λ (edge : Parts). option_map (λ (node : Node). let made : Place = record { node = node; faults = inserted edge faults; excluded = excluded ++ take i edges } in made) k) e ≡ Some kid
+    → option_and_then (λ (edge : Parts). option_map (λ (node : Node). let made : Place = record {
+      node = node;
+      faults = inserted edge faults;
+      excluded = excluded ++ take i edges;
+    } in made) k) e ≡ Some kid
     → KidOf n faults excluded i kid
 both_there n reach edges kids faults excluded i kid None k opened e_is k_is is = absurd (none-some kid is)
 both_there n reach edges kids faults excluded i kid (Some edge) None opened e_is k_is is = absurd (none-some kid is)
