@@ -1,6 +1,6 @@
 -- Lists of least sets: there is one, and the answer is the first of them.
-use Rattle.std.proofs.Common.{◌≡◌, ℕ, ◌<◌, ◌≤◌, Bool, true, false, not, List, [], ◌∷◌, length, refl, sym, ap, ◌∙◌, subst, inl, inr, arith}
-use Rattle.std.specs.Prelude.{◌⊎◌, Option, None, Some, slice_get}
+use Rattle.std.proofs.Common.{◌≡◌, Bool, true, false, not, List, [], ◌∷◌, length, refl, sym, ap, subst, inl, inr, arith}
+use Rattle.std.specs.Prelude.{Option, None, Some, slice_get}
 use Rattle.std.specs.Cmp.{IsTotalOrder}
 use Rattle.std.specs.declared.cmp.Ordering.{Ordering}
 use Rattle.std.specs.declared.cmp.Ordering.TheVariants.{Less, Equal, Greater}
@@ -11,7 +11,7 @@ use Rattle.lf_faults.specs.declared.fault.Parts.{Parts}
 use Rattle.lf_faults.specs.declared.spec.Bounds.{Bounds}
 use Rattle.lf_faults.specs.Allowed.{IsFirst}
 use Rattle.lf_faults.specs.Faults.{set_cmp, set_is_before}
-use Rattle.lf_faults.proofs.Laws.{cases_sets, fewer-before, set_not_itself}
+use Rattle.lf_faults.proofs.Laws.{fewer-before, set_not_itself}
 use Rattle.lf_list.proofs.Laws.{Contains-first, Contains-more, cases_in, each-in, none-in}
 use Rattle.lf_outcome.specs.declared.formula.Formula.{Formula}
 use Rattle.lf_outcome.specs.Truth.{reaches}

@@ -1,5 +1,5 @@
 -- The text of a set, from its first fault on.
-use Rattle.std.proofs.Common.{◌≡◌, List, [], ◌∷◌, ◌++◌, append-nil, ap, sym}
+use Rattle.std.proofs.Common.{◌≡◌, List, [], ◌∷◌, ◌++◌, append-nil, ap}
 use Rattle.lf_faults.specs.declared.fault.Parts.{Parts}
 use Rattle.lf_faults.specs.Texts.{spelling}
 use Rattle.leastfault.specs.Reports.{more_text, set_text}
