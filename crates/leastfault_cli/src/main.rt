@@ -1,13 +1,14 @@
 //! The program `leastfault`: it reads a scenario and prints the fewest faults that defeat its outcome, or one run, or whether
 //! a certificate of its answer is right.
 //!
-//!     leastfault search FILE [--tree TREE]
+//!     leastfault search FILE [--all] [--tree TREE]
 //!     leastfault run FILE FAULTS
 //!     leastfault check FILE TREE
 //!
 //! FILE is a scenario, and `-` is standard input. FAULTS are faults joined by single commas, and the empty word is none. TREE
 //! is a certificate, and `-` is standard input; it can't be that of FILE and of TREE at once. With no words it is `search -`.
-//! With `--tree` a search writes the certificate of its answer into the file TREE, and then the reply.
+//! With `--all` a search prints all sets with so few faults, and with `--tree` it writes the certificate of its answer into the
+//! file TREE, and then the reply.
 //!
 //! The status is 0 where no allowed set of faults defeats the outcome, where the run reaches it, where the certificate is
 //! right, and after help or the version; 1 where a set defeats it, the run misses it, or the certificate is wrong; 2 where the
@@ -15,9 +16,11 @@
 //! memory ran out or a device failed: standard error then has the line `memory`, `read` or `write`.
 #![tactic(auto)]
 
+ghost use Rattle.std.specs.Prelude.{◌≡◌, false};
+
 use leastfault::{
-    Asked, BytesFault, FromRead, Searched, ToWrite, Tree, TreeFault, Unasked, asked,
-    check_bytes_rows, run_bytes, search_bytes, to_text, tree_refusal,
+    Asked, BytesFault, FromRead, Searched, Sink, ToWrite, Tree, TreeFault, Unasked, all_bytes,
+    asked, check_bytes_rows, run_bytes, search_bytes, to_text, tree_refusal,
 };
 use std::env;
 use std::fs::File;
@@ -116,15 +119,19 @@ fn replied<R: Read + Drop>(
     reader: R,
 ) -> Result<u8, BytesFault> {
     match asked {
-        Asked::Search { tree: None, .. } => {
-            let mut source = FromRead::new(reader);
-            let searched = search_bytes(rt.alloc(), &mut source, &mut ToWrite::new(rt.stdout()))?;
+        Asked::Search {
+            tree: None,
+            all,
+            ..
+        } => {
+            let searched = searched(rt, reader, *all, &mut ToWrite::new(rt.stdout()))?;
             Ok(searched.status)
         }
         Asked::Search {
             tree: Some(tree),
+            all,
             ..
-        } => certified(rt, reader, tree.as_str()),
+        } => certified(rt, reader, *all, tree.as_str()),
         Asked::Run { faults, .. } => {
             let mut source = FromRead::new(reader);
             let mut sink = ToWrite::new(rt.stdout());
@@ -140,12 +147,34 @@ fn replied<R: Read + Drop>(
     }
 }
 
+/// Searches the scenario that a reader has, and writes the report of its answer, or that of all least sets.
+fn searched<R: Read + Drop, W: Sink>(
+    rt: &HostRuntime,
+    reader: R,
+    all: bool,
+    sink: &mut W,
+) -> Result<Searched, BytesFault>
+    requires { W.has_failed sink.old ≡ false }
+{
+    let mut source = FromRead::new(reader);
+    if all {
+        all_bytes(rt.alloc(), &mut source, sink)
+    } else {
+        search_bytes(rt.alloc(), &mut source, sink)
+    }
+}
+
 /// Searches the scenario that a reader has, and writes the certificate of its answer into a file, and then the reply to standard
 /// output. Without an answer the file stays as it is, and so it does where the certificate's text is too long: that is told in
 /// place of the reply.
-fn certified<R: Read + Drop>(rt: &HostRuntime, reader: R, file: &str) -> Result<u8, BytesFault> {
+fn certified<R: Read + Drop>(
+    rt: &HostRuntime,
+    reader: R,
+    all: bool,
+    file: &str,
+) -> Result<u8, BytesFault> {
     let mut reply = Vec::new(rt.alloc());
-    let Searched { status, tree } = search_to(rt, reader, &mut reply)?;
+    let Searched { status, tree } = search_to(rt, reader, all, &mut reply)?;
     match tree {
         Some(tree) => written(rt, file, &tree, reply.as_slice(), status),
         None => printed(rt, reply.as_slice(), status),
@@ -177,10 +206,10 @@ fn written(
 fn search_to<R: Read + Drop>(
     rt: &HostRuntime,
     reader: R,
+    all: bool,
     reply: &mut Vec<u8>,
 ) -> Result<Searched, BytesFault> {
-    let mut source = FromRead::new(reader);
-    match search_bytes(rt.alloc(), &mut source, &mut ToWrite::new(reply)) {
+    match searched(rt, reader, all, &mut ToWrite::new(reply)) {
         Err(BytesFault::Write) => Err(BytesFault::Memory),
         answered => answered,
     }
