@@ -1,4 +1,4 @@
--- How many sets are answered: there is one such number, and filing raises it by one.
+-- How many sets are answered: filing raises it by one, and nothing else changes it.
 use Rattle.std.proofs.Common.{◌≡◌, ◌≢◌, ℕ, ◌+◌, ◌<◌, ◌≤◌, refl, sym, ap, ◌∙◌, subst, arith, List, [], ◌∷◌, length, inl, inr}
 use Rattle.std.specs.Prelude.{◌⊎◌, Option, None, Some, IsSome}
 use Rattle.std.specs.Option.{option_map}
@@ -14,56 +14,6 @@ use Rattle.lf_marks.specs.Counting.{IsApart, AreThose, IsCount, OfKind}
 -- the paths with a property, each once
 Listing : (List ℕ → Type 0) → ℕ → Type 0
 Listing P n = (ps : List (List ℕ)) × AreThose P ps × (length ps ≡ n)
-
--- a list without one of its paths
-record Rest (ps : List (List ℕ)) (p : List ℕ) : Type 0 where
-  rest : List (List ℕ)
-  kept : (q : List ℕ) → Contains ps q → (q ≡ p) ⊎ Contains rest q
-  count : length rest + 1 ≡ length ps
-
-without : (ps : List (List ℕ)) (p : List ℕ) → Contains ps p → Rest ps p
-without [] p h = absurd (none-in p h)
-without (x ∷ xs) p h = elim (cases_in x xs p h) [
-  | inl same ↦ record {
-    rest = xs;
-    kept = λ q k. elim (cases_in x xs q k) [ inl is ↦ inl (sym is ∙ same) | inr later ↦ inr later ];
-    count = omega arith;
-  }
-  | inr later ↦
-      let r = without xs p later in record {
-        rest = x ∷ r.rest;
-        kept = λ q k. elim (cases_in x xs q k) [
-          | inl is ↦ inr (subst (λ z. Contains (x ∷ r.rest) z) is (Contains-first x r.rest))
-          | inr k' ↦ elim (r.kept q k') [ inl is ↦ inl is | inr k'' ↦ inr (Contains-more x r.rest q k'') ]
-        ];
-        count = omega (arith, r.count);
-      }
-]
-
--- of paths that come once there are no more than of others among which they are
-at_most : (ps qs : List (List ℕ)) → IsApart ps → ((p : List ℕ) → Contains ps p → Contains qs p) → length ps ≤ length qs
-at_most [] qs apart among = omega arith
-at_most (x ∷ xs) qs apart among =
-    let r = without qs x (among x (Contains-first x xs)) in
-    let few = at_most xs r.rest apart.1 (λ p h. elim (r.kept p (among p (Contains-more x xs p h))) [
-      | inl same ↦ absurd (each-in (λ q. x ≢ q) xs apart.0 p h (sym same))
-      | inr k ↦ k
-    ]) in
-    omega (arith, few, r.count)
-
--- of two counts of one property neither is larger
-too_many : (P : List ℕ → Type 0) (n m : ℕ) → (ps : List (List ℕ)) × AreThose P ps × (length ps ≡ n)
-    → (ps : List (List ℕ)) × AreThose P ps × (length ps ≡ m) → m < n → ⊥
-too_many P n m l k many = omega (arith, many, at_most l.0 k.0 l.1.apart (λ p h. k.1.all p (l.1.only p h)), l.2, k.2)
-
-count_most : (P : List ℕ → Type 0) (n m : ℕ) → IsCount P n → IsCount P m → n ≤ m
-count_most P n m c d = elim (cases_lt m n) [
-  | inl many ↦ absurd (∥∥₁_elim c (λ x y. absurd x) (λ l. ∥∥₁_elim d (λ x y. absurd x) (λ k. too_many P n m l k many)))
-  | inr few ↦ few
-]
-
-pub count-one : (P : List ℕ → Type 0) (n m : ℕ) → IsCount P n → IsCount P m → n ≡ m
-count-one P n m c d = omega (arith, count_most P n m c d, count_most P m n d c)
 
 -- the same property in other words
 pub count-same : (P Q : List ℕ → Type 0) → ((p : List ℕ) → P p → Q p) → ((p : List ℕ) → Q p → P p) → (n : ℕ) → IsCount P n → IsCount Q n

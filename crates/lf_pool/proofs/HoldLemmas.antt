@@ -17,7 +17,8 @@ use Rattle.lf_book.specs.declared.deepening.Deepened.TheVariants as deepened
 use Rattle.lf_work.specs.declared.finding.Finding.{Finding}
 use Rattle.lf_work.specs.declared.job.Job.{Job}
 use Rattle.lf_pool.specs.Holds.{IsAnsweredCount}
-use Rattle.lf_pool.proofs.CountLemmas.{count-one, same-counted, took-counted, back-counted, down-counted, filed-counted}
+use Rattle.lf_book.proofs.Laws.{count_one}
+use Rattle.lf_pool.proofs.CountLemmas.{same-counted, took-counted, back-counted, down-counted, filed-counted}
 
 -- a take answers no set,
 pub taken-counted : (old new : Book) (t : Taken) (n : ℕ) → IsTaken old new t → IsAnsweredCount old n → IsAnsweredCount new n
@@ -74,4 +75,4 @@ file-counted old new finding (Err e) n filed is closed c = absurd cc
 
 -- a book has one number of answered sets
 pub answered-one : (book : Book) (n m : ℕ) → IsAnsweredCount book n → IsAnsweredCount book m → n ≡ m
-answered-one book n m = count-one (λ p. OfKind IsAnswer ((state_of book).marks p)) n m
+answered-one book n m = count_one (λ p. OfKind IsAnswer ((state_of book).marks p)) n m

@@ -17,14 +17,14 @@ use Rattle.lf_search.specs.Tasks.{Task, root_task}
 use Rattle.lf_book.specs.Books.{state_of}
 use Rattle.lf_book.specs.declared.book.Book.{Book}
 use Rattle.lf_pool.specs.Solved.{IsFoundIn, IsFullBook, IsSearched}
-use Rattle.lf_pool.proofs.CountLemmas.{count-one}
+use Rattle.lf_book.proofs.Laws.{count_one}
 
 searched_one : (s : Scenario) (tree second : Tree) (runs more : ℕ) → IsSearched s tree runs → IsSearched s second more
     → (tree ≡ second) × (runs ≡ more)
 searched_one s tree second runs more h k =
     let trees : tree ≡ second = tree_one (world_of s.setting) s.setting.spec s.formula tree second h.grown k.grown in (
       trees,
-      count-one (λ path. IsSome (place_at tree path)) runs more h.counted
+      count_one (λ path. IsSome (place_at tree path)) runs more h.counted
           (subst (λ t. IsCount (λ path. IsSome (place_at t path)) more) (sym trees) k.counted),
     )
 
@@ -55,7 +55,7 @@ module _ {Local Note Fact : Type 0} (w : World Local Note Fact) (b : Bounds) (fo
   size_one : (k j n m : ℕ) → IsFullAt w b formula most k n → IsFullAt w b formula most j m → n ≡ m
   size_one k j n m h i =
       let P : ℕ → List ℕ → Type 0 = λ l path. (length path ≡ l) × (u : Task) × Grows w b formula root_task path u in
-      count-one (P j) n m (subst (λ l. IsLevelSize w b formula l n) (level_one k j n m h i) h.size) i.size
+      count_one (P j) n m (subst (λ l. IsLevelSize w b formula l n) (level_one k j n m h i) h.size) i.size
 
 pub full-one : (s : Scenario) (count more : ℕ) (book other : Book) → IsFullBook s count book → IsFullBook s more other
     → ((state_of book).level ≡ (state_of other).level) × (count ≡ more)
