@@ -2,7 +2,7 @@
 use Rattle.std.proofs.Common.{◌≡◌, ℕ, subst, inl, inr, arith}
 use Rattle.std.proofs.lemmas.Bool.{cases_lt}
 use Rattle.lf_alone.specs.Ends.{IsFull}
-use Rattle.lf_alone.proofs.CountLemmas.{count_one}
+use Rattle.lf_book.proofs.Laws.{count_one}
 use Rattle.lf_scenario.specs.declared.scenario.Scenario.{Scenario}
 use Rattle.lf_search.specs.Levels.{IsLevelSize}
 use Rattle.lf_sim.specs.Settings.{world_of}

@@ -7,6 +7,7 @@ mod HeldLemmas
 pub mod Laws
 mod LeastLemmas
 mod MissingLemmas
+mod PlaceLemmas
 mod ReplyLemmas
 mod SameLemmas
 mod StateLemmas

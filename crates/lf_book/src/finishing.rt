@@ -1,6 +1,6 @@
 //! What a finished search gives.
 
-ghost use Rattle.std.specs.Prelude.{◌≡◌, ◌↔◌, List, true, false, IfOk, IfErr, OnOk, OnErr, MatchOption};
+ghost use Rattle.std.specs.Prelude.{◌≡◌, ◌↔◌, ℕ, List, IsSome, true, false, IfOk, IfErr, OnOk, OnErr, MatchOption};
 ghost use Rattle.std.specs.List.{Contains};
 ghost use Rattle.std.specs.List.Sorted.{IsPermutation};
 ghost use Rattle.std.specs.Ordering.{is_lt};
@@ -8,8 +8,11 @@ ghost use Rattle.lf_book.specs.Books.{scenario_of, state_of};
 ghost use Rattle.lf_book.specs.Finished.{AreDifferent};
 ghost use Rattle.lf_certificate.specs.Accepted.{IsAccepted};
 ghost use Rattle.lf_certificate.specs.Grown.{IsTreeOf};
+ghost use Rattle.lf_certificate.specs.Places.{place_at};
 ghost use Rattle.lf_faults.specs.Faults.{set_is_before};
 ghost use Rattle.lf_faults.specs.declared.fault.Parts.{Parts};
+ghost use Rattle.lf_marks.specs.Counting.{OfKind};
+ghost use Rattle.lf_marks.specs.Steps as marking;
 ghost use Rattle.lf_search.specs.Closed.{MissesAt};
 ghost use Rattle.lf_search.specs.Levels.{AreAllLeast, AreAscending};
 ghost use Rattle.lf_sim.specs.Settings.{world_of};
@@ -27,10 +30,11 @@ pub struct Unfinished;
 
 impl Book {
     /// The tree of the scenario, which any checker accepts, where the search has ended; else the book is handed back. What waits below the
-    /// last level is dropped. It takes no memory.
+    /// last level is dropped: the tree has a node for each answered set, and no other. It takes no memory.
     pub fn into_tree(self) -> Result<Tree, (Unfinished, Book)>
         ensures tree { IfOk result (IsTreeOf (world_of (scenario_of self).setting) (scenario_of self).setting.spec (scenario_of self).formula) }
         ensures accepted { IfOk result (IsAccepted (world_of (scenario_of self).setting) (scenario_of self).setting.spec (scenario_of self).formula) }
+        ensures places { IfOk result (λ tree. (path : List ℕ) → IsSome (place_at tree path) ↔ OfKind marking.IsAnswer ((state_of self).marks path)) }
         ensures finished { OnOk result ((state_of self).finished ≡ true) }
         ensures unfinished { OnErr result ((state_of self).finished ≡ false) }
         ensures back { IfErr result (λ back. back.1 ≡ self) }

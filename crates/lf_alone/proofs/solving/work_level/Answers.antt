@@ -1,5 +1,5 @@
 use Rattle.std.proofs.Common.{◌≡◌, subst, arith}
-use Rattle.lf_alone.proofs.CountLemmas.{some_ready}
+use Rattle.lf_book.proofs.Laws.{some_ready}
 use Rattle.lf_book.specs.Books.{state_of}
 use Rattle.lf_marks.specs.Counting.{AreCounts}
 use Rattle.lf_marks.proofs.Laws.{none-ready}

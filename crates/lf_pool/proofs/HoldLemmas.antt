@@ -1,0 +1,78 @@
+-- What the holds of the lock leave of the number of answered sets.
+use mathlib.Core.Logic.{∥∥₁_elim, ∥∥₁_prop}
+use Rattle.std.proofs.Common.{◌≡◌, ℕ, ◌+◌, true, false}
+use Rattle.std.specs.Prelude.{Result, Ok, Err, IfOk, OnOk, OnErr, is_err}
+use Rattle.lf_marks.specs.Steps.{IsAnswer}
+use Rattle.lf_marks.specs.Answers.{mark_for}
+use Rattle.lf_marks.specs.Counting.{OfKind}
+use Rattle.lf_marks.specs.declared.grown.Answer.{Answer}
+use Rattle.lf_marks.specs.declared.grown.Answer.TheVariants.{Misses, Reaches, Branch}
+use Rattle.lf_search.specs.States.{IsSameState}
+use Rattle.lf_book.specs.Books.{scenario_of, state_of, IsClosedFor, IsTaken, IsDeepened, IsFiled, IsGivenBack}
+use Rattle.lf_book.specs.declared.book.Book.{Book}
+use Rattle.lf_book.specs.declared.taking.Taken.{Taken}
+use Rattle.lf_book.specs.declared.taking.Taken.TheVariants as taken
+use Rattle.lf_book.specs.declared.deepening.Deepened.{Deepened}
+use Rattle.lf_book.specs.declared.deepening.Deepened.TheVariants as deepened
+use Rattle.lf_work.specs.declared.finding.Finding.{Finding}
+use Rattle.lf_work.specs.declared.job.Job.{Job}
+use Rattle.lf_pool.specs.Holds.{IsAnsweredCount}
+use Rattle.lf_book.proofs.Laws.{count_one}
+use Rattle.lf_pool.proofs.CountLemmas.{same-counted, took-counted, back-counted, down-counted, filed-counted}
+
+-- a take answers no set,
+pub taken-counted : (old new : Book) (t : Taken) (n : ℕ) → IsTaken old new t → IsAnsweredCount old n → IsAnsweredCount new n
+taken-counted old new (taken.Job job) n e = took-counted (state_of old).marks (state_of new).marks job.path.items job.ticket n e.1.marks
+taken-counted old new taken.Busy n e = same-counted (state_of old).marks (state_of new).marks n e.same.marks
+taken-counted old new taken.LevelDone n e = same-counted (state_of old).marks (state_of new).marks n e.same.marks
+taken-counted old new taken.Finished n e = same-counted (state_of old).marks (state_of new).marks n e.same.marks
+taken-counted old new taken.Spent n e = same-counted (state_of old).marks (state_of new).marks n e.same.marks
+
+-- nor does a deepen,
+pub deepened-counted : (old new : Book) (d : Deepened) (n : ℕ) → IsDeepened old new d → IsAnsweredCount old n → IsAnsweredCount new n
+deepened-counted old new deepened.NotDone n e = same-counted (state_of old).marks (state_of new).marks n e.same.marks
+deepened-counted old new deepened.Answer n e = same-counted (state_of old).marks (state_of new).marks n e.ends.marks
+deepened-counted old new deepened.NoneWithin n e = same-counted (state_of old).marks (state_of new).marks n e.ends.marks
+deepened-counted old new (deepened.Full count) n e = same-counted (state_of old).marks (state_of new).marks n e.same.marks
+deepened-counted old new deepened.Down n e = down-counted (state_of old).marks (state_of new).marks n e.marks
+
+-- or a job that is given back
+pub given-counted : (old new : Book) (job : Job) (n : ℕ) → IsGivenBack job old new → IsAnsweredCount old n → IsAnsweredCount new n
+given-counted old new job n e = back-counted (state_of old).marks (state_of new).marks job.path.items job.ticket n e.marks
+
+answer_is : (a : Answer) → IsAnswer (mark_for a)
+answer_is Misses = tt
+answer_is Reaches = tt
+answer_is (Branch g) = tt
+
+-- what is filed is one more
+pub filed-counted-book : (old new : Book) (finding : Finding) (n : ℕ) → ∥ IsClosedFor (scenario_of old) (state_of old) ∥₁ → IsFiled finding old new
+    → IsAnsweredCount old n → IsAnsweredCount new (n + 1)
+filed-counted-book old new finding n closed e c = ∥∥₁_elim closed ∥∥₁_prop (λ k.
+    filed-counted (state_of old).level (state_of old).marks (state_of new).marks finding.path.items finding.ticket (mark_for finding.answer)
+    k.shape (answer_is finding.answer) e.marks n c)
+
+-- what a result says of its cases
+pub take-counted : {Failed : Type 0} (old new : Book) (r : Result Taken Failed) (n : ℕ) → IfOk r (IsTaken old new)
+    → OnErr r (IsSameState (state_of old) (state_of new)) → IsAnsweredCount old n → IsAnsweredCount new n
+take-counted old new (Ok t) n taken err = taken-counted old new t n taken
+take-counted old new (Err e) n taken err = same-counted (state_of old).marks (state_of new).marks n err.marks
+
+pub back-job-counted : {Done Back : Type 0} (old new : Book) (job : Job) (r : Result Done Back) (n : ℕ) → OnOk r (IsGivenBack job old new)
+    → OnErr r (IsSameState (state_of old) (state_of new)) → IsAnsweredCount old n → IsAnsweredCount new n
+back-job-counted old new job (Ok t) n given err = given-counted old new job n given
+back-job-counted old new job (Err e) n given err = same-counted (state_of old).marks (state_of new).marks n err.marks
+
+pub refused-counted : {Done Back : Type 0} (old new : Book) (r : Result Done Back) (n : ℕ) → is_err r ≡ true
+    → OnErr r (IsSameState (state_of old) (state_of new)) → IsAnsweredCount old n → IsAnsweredCount new n
+refused-counted old new (Ok t) n failed err = absurd cc
+refused-counted old new (Err e) n failed err = same-counted (state_of old).marks (state_of new).marks n err.marks
+
+pub file-counted : {Done Back : Type 0} (old new : Book) (finding : Finding) (r : Result Done Back) (n : ℕ) → is_err r ≡ false
+    → OnOk r (IsFiled finding old new) → ∥ IsClosedFor (scenario_of old) (state_of old) ∥₁ → IsAnsweredCount old n → IsAnsweredCount new (n + 1)
+file-counted old new finding (Ok t) n filed is closed c = filed-counted-book old new finding n closed is c
+file-counted old new finding (Err e) n filed is closed c = absurd cc
+
+-- a book has one number of answered sets
+pub answered-one : (book : Book) (n m : ℕ) → IsAnsweredCount book n → IsAnsweredCount book m → n ≡ m
+answered-one book n m = count_one (λ p. OfKind IsAnswer ((state_of book).marks p)) n m

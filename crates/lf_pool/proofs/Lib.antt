@@ -1,0 +1,5 @@
+mod CountLemmas
+mod HoldLemmas
+mod OneLemmas
+mod Sent
+mod SolvedLemmas

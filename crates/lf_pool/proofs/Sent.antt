@@ -1,0 +1,53 @@
+-- What workers share says the same to every thread, and so does a worker's share.
+use mathlib.Core.List.{List, [], ◌∷◌}
+use mir.Syntax.{Sym}
+use denote.Builtin as builtin
+use denote.RattleType.{RattleType}
+use denote.Ref.{NamedLft}
+use denote.Param.Send.{IsSend, IsSync, struct_send, struct_sync, recorded_send, recorded_sync, shr_send, mut_send, sendable}
+use denote.Struct.Declared.{shape}
+use denote.Struct.Field.{shr_ref_field, mut_ref_field}
+use denote.Struct.Tuple as tuple
+use Rattle.std.proofs.Crossing.{crosses}
+use Rattle.std.proofs.sync.ledger.Book.TheSendSync as total
+use Rattle.std.proofs.sync.Mutex.TheSendSync as mutex
+use Rattle.std.proofs.sync.Condvar.TheSendSync as condvar
+use Rattle.std.specs.declared.sync.ledger.Ledger as ledger
+use Rattle.lf_book.specs.contracts.book.Book as book
+use Rattle.lf_marks.specs.contracts.marks.Marks as marks
+use Rattle.lf_outcome.proofs.formula.Formula.TheLaws.TheKnot as formula
+use Rattle.lf_pool.specs.contracts.locked.Locked as locked
+use Rattle.lf_pool.specs.contracts.shared.SharedBook as shared
+use Rattle.lf_scenario.specs.contracts.scenario.Scenario as scenario
+use Rattle.lf_tree.proofs.tree.Node.TheLaws.TheKnot as node
+
+scenario_send : IsSend scenario.the_row
+scenario_send = search (crosses, formula.crosses, sendable) depth 60 fits 20000
+
+scenario_sync : IsSync scenario.the_row
+scenario_sync = search (crosses, formula.crosses, sendable) depth 60 fits 20000
+
+marks_send : IsSend (marks.the_field).row
+marks_send = search (crosses, node.crosses, sendable) depth 60 fits 20000
+
+book_send : IsSend (book.the_field).row
+book_send = search (scenario_send, scenario_sync, marks_send, crosses, sendable) depth 60 fits 20000
+
+module _ (T : RattleType) (g : ledger.Ghosts T.Denot) where
+  locked_send : IsSend (locked.the_row T g)
+  locked_send = recorded_send (locked.the_field T g).row _ _ (locked.the_type T g).to_one
+      (struct_send (shape (locked.the_type T g)) (book_send, (total.the_send T g, tt)))
+
+  pub shared_sync : IsSync (shared.the_row T g)
+  shared_sync = recorded_sync (shared.the_field T g).row _ _ (shared.the_type T g).to_one
+      (struct_sync (shape (shared.the_type T g)) (mutex.the_sync (locked.the_row T g) locked_send, (condvar.the_field_sync, tt)))
+
+-- what a worker's thread is given
+module _ (name : Sym) (R S X G : RattleType) (a b c d : NamedLft) (r : builtin.One R.mir) (s : builtin.One S.mir) (x : builtin.One X.mir)
+    (g : builtin.One G.mir) where
+  abbrev rows : List RattleType
+  rows = (shr_ref_field a R r).row ∷ (shr_ref_field b S s).row ∷ (mut_ref_field c X x).row ∷ (shr_ref_field d G g).row ∷ []
+
+  pub captured_send : IsSync R → IsSync S → IsSend X → IsSync G → IsSend (tuple.TupleAt name rows)
+  captured_send rs ss xs gs = recorded_send (tuple.field_at name rows).row _ _ (tuple.type_at name rows).to_one
+      (struct_send (shape (tuple.type_at name rows)) (shr_send _ _ R rs, (shr_send _ _ S ss, (mut_send _ _ X xs, (shr_send _ _ G gs, tt)))))

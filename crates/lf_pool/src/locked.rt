@@ -1,0 +1,97 @@
+//! What lies under the lock.
+
+ghost use Rattle.lf_pool.specs.Holds.{IsAnsweredCount};
+
+use crate::share::Share;
+use lf_book::{Book, Deepened, Taken};
+use lf_work::{Finding, Job};
+use std::alloc::AllocError;
+use std::sync::ledger;
+use std::sync::ledger::Ledger;
+
+/// A book, which is closed as every book is, and the total of the sets that were filed: as many as are answered.
+#[derive(Drop)]
+pub(crate) struct Locked<L: Ledger> {
+    pub(crate) book: Book,
+    pub(crate) total: ledger::Book<L>,
+    ghost counted: { IsAnsweredCount book total.total },
+}
+
+/// What the first hold of a turn gives.
+#[derive(Drop)]
+pub(crate) enum Begun {
+    /// A set to work, which its ticket claims now.
+    Job(Job),
+    /// No set is open, but some are worked.
+    Busy,
+    /// The level was done: this comes after it.
+    Deepened(Deepened),
+    /// The search has ended.
+    Finished,
+    /// A set is open, but all tickets were given.
+    Spent,
+}
+
+impl<L: Ledger> Locked<L> {
+    ghost use Rattle.std.specs.Prelude.{◌≡◌, ◌+◌, IfOk, OnErr, MatchBool};
+    ghost use Rattle.std.specs.Arc.{arc_value};
+    ghost use Rattle.lf_book.specs.Books.{scenario_of, state_of, IsFiled, IsGivenBack, IsClaimOf, task_of_job};
+    ghost use Rattle.lf_pool.specs.Holds.{IsBegun};
+    ghost use Rattle.lf_search.specs.States.{IsSameState};
+
+    /// How many sets are filed, as many as are answered.
+    pub(crate) fn counted(&self) -> u64
+        ensures { result ≡ self.now.total.total }
+    {
+        self.book.answered()
+    }
+
+    /// Takes a set, and where the level is done deepens the book. The error is that memory has run out, and changes nothing.
+    pub(crate) fn begin(&mut self) -> Result<Begun, AllocError>
+        ensures begun { IfOk result (IsBegun self.old.book self.new.book) }
+        ensures err { OnErr result (IsSameState (state_of self.old.book) (state_of self.new.book)) }
+        ensures scenario { scenario_of self.new.book ≡ scenario_of self.old.book }
+        ensures total { self.new.total ≡ self.old.total }
+    {
+        let Locked { book, total: _ } = self;
+        match book.take()? {
+            Taken::Job(job) => Ok(Begun::Job(job)),
+            Taken::Busy => Ok(Begun::Busy),
+            Taken::LevelDone => Ok(Begun::Deepened(book.deepen())),
+            Taken::Finished => Ok(Begun::Finished),
+            Taken::Spent => Ok(Begun::Spent),
+        }
+    }
+
+    /// Files a finding and raises the total and the worker's share by one, or changes nothing where the book refuses it.
+    pub(crate) fn file(&mut self, share: &mut Share<L>, finding: Finding) -> bool
+        ensures filed { MatchBool result
+            (IsFiled finding self.old.book self.new.book × (share.new.filed ≡ share.old.filed + 1))
+            (IsSameState (state_of self.old.book) (state_of self.new.book) × (share.new.filed ≡ share.old.filed)) }
+        ensures scenario { scenario_of self.new.book ≡ scenario_of self.old.book }
+    {
+        let Locked { book, total } = self;
+        let Share { filed, part, .. } = share;
+        let _level = book.level();
+        if book.file(finding).is_err() {
+            return false;
+        }
+        let _answered = book.answered();
+        total.add(part, 1);
+        total.audit(part);
+        *filed += 1;
+        true
+    }
+
+    /// Gives a job back: its set is open again. Nothing changes where no such claim stands.
+    pub(crate) fn give_back(&mut self, job: Job) -> bool
+        ensures given { MatchBool result (IsGivenBack job self.old.book self.new.book)
+            ((¬ IsClaimOf self.old.book job.ticket (arc_value job.scenario) job.path.items (task_of_job job))
+            × IsSameState (state_of self.old.book) (state_of self.new.book)) }
+        ensures scenario { scenario_of self.new.book ≡ scenario_of self.old.book }
+        ensures total { self.new.total ≡ self.old.total }
+    {
+        let Locked { book, total: _ } = self;
+        book.give_back(job).is_ok()
+    }
+}

@@ -1,0 +1,39 @@
+//! A worker's part of what is filed.
+
+ghost use Rattle.std.specs.Prelude.{◌≡◌};
+
+use lf_work::Spent;
+use std::sync::ledger;
+use std::sync::ledger::Ledger;
+
+/// A worker's part of the total of filed sets, and the memory that it keeps from job to job. It is exactly one part of its ledger.
+#[derive(Drop)]
+pub struct Share<L: Ledger> {
+    pub(crate) filed: u64,
+    pub(crate) part: ledger::Share<L>,
+    pub(crate) spent: Spent,
+    ghost one_part: { part.parts ≡ 1 },
+    ghost same: { part.amount ≡ filed },
+}
+
+impl<L: Ledger> Share<L> {
+    /// A share of nothing filed yet.
+    pub(crate) fn new(part: ledger::Share<L>, spent: Spent) -> Share<L>
+        requires one_part { part.parts ≡ 1 }
+        requires none { part.amount ≡ 0 }
+        ensures { result.filed ≡ 0 }
+    {
+        Share {
+            filed: 0,
+            part,
+            spent,
+        }
+    }
+
+    /// How many sets its worker has filed.
+    pub fn filed(&self) -> u64
+        ensures { result ≡ self.now.filed }
+    {
+        self.filed
+    }
+}

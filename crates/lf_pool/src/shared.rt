@@ -1,0 +1,118 @@
+//! The book that workers share.
+
+ghost use Rattle.std.specs.Prelude.{◌≡◌, ◌+◌, ◌<◌, IfOk, IfErr, OnOk, vec_len};
+ghost use Rattle.std.specs.List.{All};
+ghost use Rattle.lf_pool.specs.Holds.{IsAnsweredCount};
+ghost use Rattle.lf_pool.specs.Solved.{AreWorkers, IsNotBegun};
+
+use crate::locked::Locked;
+use crate::share::Share;
+use crate::solving::{PoolError, are_workers};
+use lf_book::Book;
+use lf_scenario::Scenario;
+use lf_work::Spent;
+use std::alloc::{AllocError, Global};
+use std::sync::ledger::{Blank, Ledger};
+use std::sync::{Arc, Condvar, Mutex, ledger};
+
+/// A book that several workers share. Whenever the lock is got its book is closed, and as many of its sets are answered as were filed.
+#[derive(Drop)]
+pub struct SharedBook<L: Ledger> {
+    pub(crate) lock: Mutex<Locked<L>>,
+    /// Told whenever there may be more to do than before.
+    pub(crate) changed: Condvar,
+}
+
+impl<L: Ledger> SharedBook<L> {
+    /// A book of the scenario at its start, and a share of nothing for each worker and for whoever gathers them. The errors are `Workers` and
+    /// `Memory`.
+    pub fn begin(
+        alloc: Global,
+        blank: Blank,
+        scenario: Arc<Scenario>,
+        workers: u32,
+    ) -> Result<(SharedBook<L>, Vec<Share<L>>), PoolError>
+        requires name { blank.name ≡ L.name }
+        requires parts { blank.parts ≡ L.parts }
+        requires enough { blank.parts ≡ workers + 1 }
+        ensures shares { IfOk result (λ begun. vec_len begun.1 ≡ workers + 1) }
+        ensures none { IfOk result (λ begun. All (λ share. share.filed ≡ 0) begun.1.items) }
+        ensures workers { OnOk result (AreWorkers workers) }
+        ensures err { IfErr result (IsNotBegun workers) }
+    {
+        if !are_workers(workers) {
+            return Err(PoolError::Workers);
+        }
+        let (total, whole) = blank.open::<L>();
+        let Ok(shares) = cut(alloc, whole, workers) else {
+            return Err(PoolError::Memory);
+        };
+        let Ok(book) = Book::begin(alloc, scenario) else {
+            return Err(PoolError::Memory);
+        };
+        let shared = SharedBook {
+            lock: Mutex::new(Locked { book, total }),
+            changed: Condvar::new(),
+        };
+        Ok((shared, shares))
+    }
+
+    /// The book, and the sum of all shares: so many of its sets are answered. It takes no memory.
+    pub fn gather(self, shares: Vec<Share<L>>) -> (Book, u64)
+        requires all { vec_len shares ≡ L.parts }
+        requires some { 0 < L.parts }
+        ensures { IsAnsweredCount result.0 result.1 }
+    {
+        let SharedBook { lock, changed: _ } = self;
+        lock.into_inner().gather(shares)
+    }
+}
+
+impl<L: Ledger> Locked<L> {
+    /// The book, and the sum of all shares.
+    fn gather(self, shares: Vec<Share<L>>) -> (Book, u64)
+        requires all { vec_len shares ≡ L.parts }
+        requires some { 0 < L.parts }
+        ensures { IsAnsweredCount result.0 result.1 }
+    {
+        let _counted = self.counted();
+        let Locked { book, mut total } = self;
+        let mut shares = shares;
+        let Some(last) = shares.pop() else {
+            unreachable!()
+        };
+        let Share {
+            filed: mut sum,
+            part: mut all,
+            ..
+        } = last;
+        'shares: while let Some(share) = shares.pop() {
+            let Share { filed, part, .. } = share;
+            all.merge(part);
+            total.audit(&mut all);
+            sum += filed;
+        }
+        total.audit(&mut all);
+        (book, sum)
+    }
+}
+
+/// One share for each worker, and one more.
+fn cut<L: Ledger>(
+    alloc: Global,
+    whole: ledger::Share<L>,
+    workers: u32,
+) -> Result<Vec<Share<L>>, AllocError>
+    requires parts { whole.parts ≡ workers + 1 }
+    requires none { whole.amount ≡ 0 }
+    ensures count { IfOk result (λ shares. vec_len shares ≡ workers + 1) }
+    ensures none { IfOk result (λ shares. All (λ share. share.filed ≡ 0) shares.items) }
+{
+    let mut whole = whole;
+    let mut shares = Vec::with_capacity(alloc, workers as usize + 1)?;
+    'workers: for _worker in 0..workers {
+        shares.push(Share::new(whole.split_off(1, 0), Spent::new(alloc)))?;
+    }
+    shares.push(Share::new(whole, Spent::new(alloc)))?;
+    Ok(shares)
+}
