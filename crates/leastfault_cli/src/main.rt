@@ -80,17 +80,15 @@ fn told(rt: &HostRuntime, unasked: &Unasked) -> Result<u8, Stop> {
     }
     print(rt, unasked.text().as_bytes())?;
     if unasked.status() == 2 {
-        let _told = eprintln!(rt; "FILE and TREE are both -: only one of them can be standard input").is_ok();
+        let _told = eprintln!(rt;
+            "FILE and TREE are both -: only one of them can be standard input"
+        ).is_ok();
     }
     Ok(unasked.status())
 }
 
 /// Does what is asked.
-fn done(
-    rt: &HostRuntime,
-    threads: &(impl Threads + Sync),
-    asked: &Asked,
-) -> Result<u8, Stop> {
+fn done(rt: &HostRuntime, threads: &(impl Threads + Sync), asked: &Asked) -> Result<u8, Stop> {
     match asked {
         Asked::Search { file, tree } => {
             let text = held(rt, file.as_str(), LONGEST as u64 + 1)?;
@@ -175,7 +173,11 @@ fn written(
 
 /// Searches a scenario, with its reply into memory: where that can't be written memory has run out.
 fn search_to(rt: &HostRuntime, text: &[u8], reply: &mut Vec<u8>) -> Result<Searched, BytesFault> {
-    match search_bytes(rt.alloc(), &mut FromRead::new(text), &mut ToWrite::new(reply)) {
+    match search_bytes(
+        rt.alloc(),
+        &mut FromRead::new(text),
+        &mut ToWrite::new(reply),
+    ) {
         Err(BytesFault::Write) => Err(BytesFault::Memory),
         answered => answered,
     }
@@ -201,7 +203,13 @@ fn judged(
     let mut source = FromRead::new(text);
     let mut tree_source = FromRead::new(certificate);
     let mut sink = ToWrite::new(rt.stdout());
-    let status = check_bytes_rows(threads, rt.alloc(), &mut source, &mut tree_source, &mut sink)?;
+    let status = check_bytes_rows(
+        threads,
+        rt.alloc(),
+        &mut source,
+        &mut tree_source,
+        &mut sink,
+    )?;
     if status == 2 {
         hint(rt, check_hint(rt.alloc(), text, certificate));
     }

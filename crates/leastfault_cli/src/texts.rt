@@ -10,7 +10,10 @@ use std::io::{Read, Write};
 pub(crate) fn held(rt: &HostRuntime, file: &str, most: u64) -> Result<Vec<u8>, Stop> {
     let mut bytes = Vec::new(rt.alloc());
     let (name, read) = if file == "-" {
-        ("standard input", rt.stdin().take(most).read_to_end(&mut bytes))
+        (
+            "standard input",
+            rt.stdin().take(most).read_to_end(&mut bytes),
+        )
     } else {
         (file, read_file(rt, file, most, &mut bytes))
     };
