@@ -18,11 +18,11 @@ const HINTS: &str = concat!(
     "horizon|horizon = |line 8, column 11: invalid value, expected a string\n",
     "last_omission|last_omission = 5|last_omission = 5: a whole number from 0 to 4, below the horizon\n",
     "nodes||nodes is missing: a whole number from 2 to 8\n",
-    "more|colour = 1|\"colour\": a scenario has no such key\n",
+    "more|colour = 1|\"colour\": no key of a scenario, which are nodes, horizon\n",
     "more|votes = [true]|votes: retry has no such key; two_phase and three_phase have it\n",
     "more|seed = \"00\"|seed = \"00\": a text of 64 hexadecimal digits, and these are 2 characters\n",
-    "more|[[links]];from = 0;to = 9|links[0].to = 9: a whole number from 0 to 2\n",
-    "outcome|outcome = [\"all\", [\"down\", 0, 6]]|outcome[1][2] = 6: a whole number from 1 to 5\n",
+    "more|[[links]];from = 0;to = 9|links[0].to = 9: a node from 0 to 2\n",
+    "outcome|outcome = [\"all\", [\"down\", 0, 6]]|outcome[1][2] = 6: a step, which is a whole number from 1 to 5\n",
     "outcome|outcome = \"agreement\"|outcome = \"agreement\": \"delivered\", or a formula as a list\n",
     "run|omit 0>1 @1,omit 0>0 @1|\"omit 0>0 @1\": no fault\n",
     "run|crash 0 @2,crash 1 @2|\"crash 1 @2\": crashes = 1\n",
@@ -30,7 +30,7 @@ const HINTS: &str = concat!(
     "check|{\"answer\":null|EOF while parsing at line 1 column 14\n",
     "check|{\"answer\":null,\"format\":1,\"root\":{\"edges\":[],\"kids\":[],\"reach\":[0,49]}}|root.reach[1] = 49: a whole number from 0 to 48\n",
     "check|{\"answer\": null,\"format\":1,\"root\":{\"misses\":true}}|line 1, column 11: not as a certificate is written\n",
-    "search|full 2 150000|max_sets = 100000: raise it to 150000, or lower budget to 1\n",
+    "search|full 2 150000|max_sets = 100000: raise it to 150000 at least, or lower budget to 1\n",
 );
 
 /// The columns before and behind the first `|`.

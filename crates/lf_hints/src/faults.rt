@@ -12,9 +12,9 @@ enum Bar {
     Unreadable,
     /// The fault is in the set.
     Doubled,
-    /// A node of the fault is none of the scenario's, of which this is the last.
+    /// A node of the fault is none of the scenario's, which are so many.
     Node(u32),
-    /// The fault's step comes after the last one.
+    /// The fault's step comes after the last one, which is this.
     Step(u32),
     /// The omission comes after the last step at which notes may be omitted.
     LastOmission(u32),
@@ -34,11 +34,11 @@ impl fmt::Display for Bar {
     fn fmt<W: fmt::Write>(&self, f: &mut fmt::Formatter<W>) -> fmt::Result {
         match self {
             Bar::Unreadable => f.write_str(
-                "no fault; one is written as omit 0>1 @2, crash 0 @2 or pause 0 @2, with nodes 0 to 7, steps 1 to 48 and single blanks",
+                "no fault, which is written as omit 0>1 @2, crash 0 @2 or pause 0 @2, with nodes from 0 to 7 and steps from 1 to 48",
             ),
             Bar::Doubled => f.write_str("named twice"),
-            Bar::Node(last) => write!(f, "the nodes are 0 to {last}"),
-            Bar::Step(horizon) => write!(f, "the steps are 1 to {horizon}, the horizon"),
+            Bar::Node(nodes) => write!(f, "nodes = {nodes}, and they are counted from 0"),
+            Bar::Step(last) => write!(f, "horizon = {last}, and there is no later step"),
             Bar::LastOmission(last) => write!(
                 f,
                 "last_omission = {last}, and no later note is omitted"
@@ -102,7 +102,7 @@ fn bar_of(spec: &FaultSpec, set: &FaultSet, fault: &Fault) -> Option<Bar> {
 /// What bars a fault of a node at a step.
 fn bar_of_point(spec: &FaultSpec, node: u32, step: u32) -> Option<Bar> {
     if node >= spec.nodes() {
-        return Some(Bar::Node(spec.nodes() - 1));
+        return Some(Bar::Node(spec.nodes()));
     }
     if step > spec.horizon() {
         return Some(Bar::Step(spec.horizon()));

@@ -28,8 +28,10 @@ enum Wanted {
     Down,
     /// A list with as many items as `shows` takes.
     Shows,
-    /// A whole number of this range.
-    Number(i64, i64),
+    /// A node, of which this is the last.
+    Node(i64),
+    /// A step, of which this is the last.
+    Step(i64),
     /// One of these facts.
     Fact(&'static [Fact]),
     /// Nothing: the place lies too deep.
@@ -53,7 +55,8 @@ impl fmt::Display for Wanted {
             Wanted::Word => f.write_str("\"all\", \"any\", \"down\" or \"shows\""),
             Wanted::Down => f.write_str("[\"down\", node, step]"),
             Wanted::Shows => f.write_str("[\"shows\", node, step, \"fact\"]"),
-            Wanted::Number(low, high) => write!(f, "a whole number from {low} to {high}"),
+            Wanted::Node(last) => write!(f, "a node, which is a whole number from 0 to {last}"),
+            Wanted::Step(last) => write!(f, "a step, which is a whole number from 1 to {last}"),
             Wanted::Fact(facts) => write_facts(f, facts),
             Wanted::Shallower => write!(f, "a formula is at most {DEEPEST} deep"),
         }
@@ -62,9 +65,10 @@ impl fmt::Display for Wanted {
 
 /// Writes the words of facts.
 fn write_facts<W: fmt::Write>(f: &mut fmt::Formatter<W>, facts: &[Fact]) -> fmt::Result {
-    f.write_str("one of the protocol's facts,")?;
-    for fact in facts {
-        write!(f, " \"{}\"", fact.word())?;
+    f.write_str("a fact of the protocol,")?;
+    for (i, fact) in facts.iter().enumerate() {
+        let before = if i == 0 { "" } else { "," };
+        write!(f, "{before} \"{}\"", fact.word())?;
     }
     Ok(())
 }
@@ -131,8 +135,8 @@ fn wrong_in(value: &Value, way: Way, depth: u32, subject: Subject) -> Option<Wro
 fn wrong_in_atom(parts: &[Value], way: Way, subject: Subject) -> Option<Wrong> {
     for (i, part) in parts.iter().enumerate() {
         let wanted = match i {
-            0 => Wanted::Number(0, subject.last_node),
-            1 => Wanted::Number(1, subject.horizon),
+            0 => Wanted::Node(subject.last_node),
+            1 => Wanted::Step(subject.horizon),
             _ => Wanted::Fact(subject.facts),
         };
         if !is_wanted(part, wanted) {
@@ -146,7 +150,8 @@ fn wrong_in_atom(parts: &[Value], way: Way, subject: Subject) -> Option<Wrong> {
 /// Whether a part of an atom is what is wanted there.
 fn is_wanted(part: &Value, wanted: Wanted) -> bool {
     match (part, wanted) {
-        (Value::Integer(number), Wanted::Number(low, high)) => low <= *number && *number <= high,
+        (Value::Integer(node), Wanted::Node(last)) => 0 <= *node && *node <= last,
+        (Value::Integer(step), Wanted::Step(last)) => 1 <= *step && *step <= last,
         (Value::String(word), Wanted::Fact(facts)) => {
             facts.iter().any(|fact| fact.word() == word.as_str())
         }

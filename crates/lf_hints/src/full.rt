@@ -15,7 +15,7 @@ pub fn full_hint(
     let below = level.saturating_sub(1);
     if count <= u64::from(MOST_SETS) {
         return format!(in alloc;
-            "max_sets = {most}: raise it to {count}, or lower budget to {below}, or last_omission, crashes or pauses"
+            "max_sets = {most}: raise it to {count} at least, or lower budget to {below}, or last_omission, crashes or pauses"
         );
     }
     format!(in alloc;

@@ -97,22 +97,20 @@ fn number_hint(
     name: &str,
     last: i64,
 ) -> Result<String, AllocError> {
-    let (low, high) = match name {
-        "least" => LEAST,
-        "spread" => SPREAD,
-        _ => (0, last),
+    let (what, (low, high)) = match name {
+        "least" => ("a whole number", LEAST),
+        "spread" => ("a whole number", SPREAD),
+        _ => ("a node", (0, last)),
     };
     match link.get(name) {
         Some(value) => {
             format!(in alloc;
-                "links[{place}].{name} = {}: a whole number from {low} to {high}",
+                "links[{place}].{name} = {}: {what} from {low} to {high}",
                 quoted(value).as_str()
             )
         }
         None => {
-            format!(in alloc;
-                "links[{place}].{name} is missing: a whole number from {low} to {high}"
-            )
+            format!(in alloc; "links[{place}].{name} is missing: {what} from {low} to {high}")
         }
     }
 }

@@ -75,13 +75,14 @@ fn unknown_hint(alloc: Global, table: &Table) -> Result<String, AllocError> {
         if text.is_empty() && !KEYS.iter().any(|key| key.name() == name.as_str()) {
             write!(
                 text,
-                "{}: a scenario has no such key; it has",
+                "{}: no key of a scenario, which are",
                 in_quotes(name.as_str()).as_str()
             )?;
         }
     }
-    for key in KEYS {
-        write!(text, " {}", key.name())?;
+    for (i, key) in KEYS.iter().enumerate() {
+        let before = if i == 0 { "" } else { "," };
+        write!(text, "{before} {}", key.name())?;
     }
     Ok(text)
 }
