@@ -1,6 +1,6 @@
 #!/usr/bin/env bash
 # Runs the built program on each example beside this script, and compares the report and the status with the example's
-# first comment; then runs the commands that the README and the guide show, and compares what they print. What goes to
+# first comment; then runs the commands that the READMEs and the guide show, and compares what they print. What goes to
 # standard error counts as printed too.
 # Wants the Rattle kit; the first time it proves the program, which takes some minutes.
 set -euo pipefail
@@ -104,6 +104,7 @@ check_guide() {
 build
 check_examples
 check_page "$top/README.md"
+check_page "$here/README.md"
 check_page "$top/docs/GUIDE.md"
 check_guide
 exit "$wrong"

@@ -1,6 +1,9 @@
+mod LeastSets
 mod Limits
+mod Listing
 mod ReplyLemmas
 mod Searching
+mod SetTexts
 mod TreeTexts
 mod Uniqueness
 mod Yes

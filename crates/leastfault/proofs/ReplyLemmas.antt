@@ -1,6 +1,6 @@
 -- The reply to a text, and to the bytes at its front.
-use Rattle.std.proofs.Common.{◌≡◌, ℕ, ◌+◌, ◌<◌, ◌≤◌, List, length, take, refl, sym, ap, ◌∙◌, subst, inl, inr, arith, string_bytes}
-use Rattle.std.specs.Prelude.{◌⊎◌, Option, None, Some, IfSome, Result, Ok, Err, IfErr}
+use Rattle.std.proofs.Common.{◌≡◌, ℕ, ◌+◌, ◌<◌, ◌≤◌, List, length, not, take, refl, sym, ap, ◌∙◌, subst, inl, inr, arith, string_bytes}
+use Rattle.std.specs.Prelude.{◌⊎◌, Option, None, Some, IfSome, Result, Ok, Err, IfErr, slice_get}
 use Rattle.std.specs.Io.KnownBytes.{Appends}
 use Rattle.std.proofs.lemmas.Bool.{cases_lt}
 use Rattle.std.proofs.lemmas.List.{take_all, length-take}
@@ -8,6 +8,7 @@ use Rattle.lf_alone.specs.Ends.{IsNeverFull}
 use Rattle.lf_faults.specs.declared.fault.Parts.{Parts}
 use Rattle.lf_faults.specs.Allowed.{IsAllowed}
 use Rattle.lf_faults.specs.declared.spec.Bounds.{Bounds}
+use Rattle.lf_faults.proofs.Laws.{first_is_one}
 use Rattle.lf_scenario.specs.declared.error.ScenarioError.{ScenarioError}
 use Rattle.lf_scenario.specs.Limits.{longest}
 use Rattle.lf_scenario.specs.declared.scenario.Scenario.{Scenario}
@@ -24,37 +25,67 @@ use Rattle.lf_tree.specs.declared.fault.TreeFault.TheVariants as tree
 use Rattle.lf_tree.specs.FirstFaults.{IsFirstFault}
 use Rattle.lf_tree.specs.Texts.{most_bytes}
 use Rattle.leastfault.specs.declared.answering.Found.{Found}
-use Rattle.leastfault.specs.Answers.{reaches_in}
+use Rattle.leastfault.specs.declared.answering.Wanted.{Wanted}
+use Rattle.leastfault.specs.declared.answering.Wanted.TheVariants as wanted
+use Rattle.leastfault.specs.Answers.{AreLeastSets, IsAnswer, reaches_in}
 use Rattle.leastfault.specs.Searches.{IsFoundFor}
-use Rattle.leastfault.specs.Reports.{check_status, judgement, no_set_line, report, run_status, search_status}
-use Rattle.leastfault.specs.Replies.{IsCheckReply, IsRunReply, IsSearchReply, RepliesCheck, RepliesRefusal, ToBoth, ToHeld, WrotePart, WroteReply}
-use Rattle.leastfault.specs.Replies.{HandsOut, IsSearched, IsTreeFor, IsTreeText, RepliesFull, RepliesReport}
+use Rattle.leastfault.specs.Reports.{all_report, check_status, judgement, no_set_line, report, run_status, search_status}
+use Rattle.leastfault.specs.Replies.{IsCheckReply, IsReplyWith, IsRunReply, RepliesCheck, RepliesRefusal, ToBoth, ToHeld, WrotePart, WroteReply}
+use Rattle.leastfault.specs.Replies.{HandsOut, IsSearchedWith, IsTreeFor, IsTreeText, RepliesAll, RepliesFull, RepliesReport, reports_of}
+use Rattle.leastfault.proofs.LeastSets.{first_of_least}
 
 -- the reply of a search, from what it came to for the scenario
-replied : (text reply : List ℕ) (status : ℕ) (tree : Option Tree) (s : Scenario) → IsText s text
+replied : (Reports : Scenario → List ℕ → ℕ → Type 0) (text reply : List ℕ) (status : ℕ) (tree : Option Tree) (s : Scenario) → IsText s text
     → (RepliesFull s reply status × (tree ≡ None))
-    ⊎ (RepliesReport s reply status × ((t : Tree) × (tree ≡ Some t) × IsTreeFor s t × (status ≡ search_status t.answer)))
-    → IsSearched tree text reply status
-replied text reply status tree s reads (inl full) =
+    ⊎ (Reports s reply status × ((t : Tree) × (tree ≡ Some t) × IsTreeFor s t × (status ≡ search_status t.answer)))
+    → IsSearchedWith Reports tree text reply status
+replied Reports text reply status tree s reads (inl full) =
     (inr (s, reads, inl full.0), subst (λ t. HandsOut text t status) (sym full.1) full.0.4)
-replied text reply status tree s reads (inr report) = (
+replied Reports text reply status tree s reads (inr report) = (
   inr (s, reads, inr report.0),
   subst (λ t. HandsOut text t status) (sym report.1.1) (s, reads, report.1.2, report.1.3),
 )
 
-pub search_found : (text : List ℕ) (s : Scenario) (found : Found) → IsText s text → IsFoundFor s found
-    → IsSearched found.tree text (string_bytes found.reply.text) found.reply.status
-search_found text s found reads is = replied text (string_bytes found.reply.text) found.reply.status found.tree s reads is
+pub search_found : (wanted : Wanted) (text : List ℕ) (s : Scenario) (found : Found) → IsText s text → IsFoundFor wanted s found
+    → IsSearchedWith (reports_of wanted) found.tree text (string_bytes found.reply.text) found.reply.status
+search_found wanted text s found reads is =
+    replied (reports_of wanted) text (string_bytes found.reply.text) found.reply.status found.tree s reads is
+
+-- the answer is one
+same_answer : (s : Scenario) (x y : Option (List Parts)) → IsAnswer s x → IsAnswer s y → x ≡ y
+same_answer s x y = first_is_one s.setting.spec (λ faults. not (reaches_in s faults)) x y
+
+-- and the first of all least sets
+first_answer : (s : Scenario) (answer : Option (List Parts)) (sets : List (List Parts)) → IsAnswer s answer → AreLeastSets s sets
+    → answer ≡ slice_get sets 0
+first_answer s = first_of_least (world_of s.setting) s.setting.spec s.formula
+
+-- what is reported of a search that has ended
+pub report_of : (s : Scenario) (answer : Option (List Parts)) (budget : ℕ) (text : List ℕ) (status : ℕ) → IsNeverFull s → IsAnswer s answer
+    → budget ≡ s.setting.spec.budget → text ≡ report budget answer → status ≡ search_status answer → RepliesReport s text status
+report_of s answer budget text status never is within told ends = (answer, never, is, told ∙ ap (λ b. report b answer) within, ends)
+
+pub all_report_of : (s : Scenario) (answer : Option (List Parts)) (sets : List (List Parts)) (budget : ℕ) (text : List ℕ) (status : ℕ)
+    → IsNeverFull s → IsAnswer s answer → AreLeastSets s sets → budget ≡ s.setting.spec.budget → text ≡ all_report budget sets
+    → status ≡ search_status answer → RepliesAll s text status
+all_report_of s answer sets budget text status never is all within told ends =
+    (sets, never, all, told ∙ ap (λ b. all_report b sets) within, ends ∙ ap search_status (first_answer s answer sets is all))
+
+-- the status is that of the answer
+status_is : (wanted : Wanted) (s : Scenario) (text : List ℕ) (status : ℕ) (answer : Option (List Parts)) → reports_of wanted s text status
+    → IsAnswer s answer → status ≡ search_status answer
+status_is wanted.Answer s text status answer told is = told.4 ∙ ap search_status (same_answer s told.0 answer told.2 is)
+status_is wanted.AllLeast s text status answer told is = told.4 ∙ sym (ap search_status (first_answer s answer told.0 is told.2))
 
 -- what a search comes to that has ended, with its tree
-pub found_for : (s t : Scenario) (tree : Tree) (found : Found) (budget : ℕ) → t ≡ s → IsNeverFull t → IsTreeFor t tree
-    → budget ≡ s.setting.spec.budget → found.tree ≡ Some tree → string_bytes found.reply.text ≡ report budget tree.answer
-    → found.reply.status ≡ search_status tree.answer → IsFoundFor s found
-found_for s t tree found budget same never is within hands told ends =
+pub found_for : (wanted : Wanted) (s t : Scenario) (tree : Tree) (found : Found) → t ≡ s → IsTreeFor t tree → found.tree ≡ Some tree
+    → reports_of wanted t (string_bytes found.reply.text) found.reply.status → IsFoundFor wanted s found
+found_for wanted s t tree found same is hands told =
     let for_s = subst (λ x. IsTreeFor x tree) same is in
+    let told_of_s = subst (λ x. reports_of wanted x (string_bytes found.reply.text) found.reply.status) same told in
     inr (
-      (tree.answer, subst IsNeverFull same never, for_s.search.answer, told ∙ ap (λ b. report b tree.answer) within, ends),
-      (tree, hands, for_s, ends),
+      told_of_s,
+      (tree, hands, for_s, status_is wanted s (string_bytes found.reply.text) found.reply.status tree.answer told_of_s for_s.search.answer),
     )
 
 -- the allowed set that the words name, from the set that they name
@@ -125,17 +156,18 @@ module _ (held reply : List ℕ) (status : ℕ) where
   refused_reply : longest < length held → RepliesRefusal (take (longest + 1) held) reply status → RepliesRefusal held reply status
   refused_reply more refusal = (refusal.0, refused refusal.0 more refusal.1, refusal.2, refusal.3)
 
-  search_long : longest < length held → IsSearchReply (take (longest + 1) held) reply status → IsSearchReply held reply status
-  search_long more (inl refusal) = inl (refused_reply more refusal)
-  search_long more (inr found) = absurd (front more found.1.short)
+  search_long : (Reports : Scenario → List ℕ → ℕ → Type 0) → longest < length held → IsReplyWith Reports (take (longest + 1) held) reply status
+      → IsReplyWith Reports held reply status
+  search_long Reports more (inl refusal) = inl (refused_reply more refusal)
+  search_long Reports more (inr found) = absurd (front more found.1.short)
 
   hands_long : (tree : Option Tree) → longest < length held → HandsOut (take (longest + 1) held) tree status → HandsOut held tree status
   hands_long None more is = is
   hands_long (Some t) more is = absurd (front more is.1.short)
 
-  searched_long : (tree : Option Tree) → longest < length held → IsSearched tree (take (longest + 1) held) reply status
-      → IsSearched tree held reply status
-  searched_long tree more is = (search_long more is.0, hands_long tree more is.1)
+  searched_long : (Reports : Scenario → List ℕ → ℕ → Type 0) (tree : Option Tree) → longest < length held
+      → IsSearchedWith Reports tree (take (longest + 1) held) reply status → IsSearchedWith Reports tree held reply status
+  searched_long Reports tree more is = (search_long Reports more is.0, hands_long tree more is.1)
 
   run_long : (words : List ℕ) → longest < length held → IsRunReply words (take (longest + 1) held) reply status → IsRunReply words held reply status
   run_long words more (inl refusal) = inl (refused_reply more refusal)
@@ -172,11 +204,12 @@ abbrev pub GoesByFront : ℕ → (List ℕ → List ℕ → ℕ → Type 0) → 
 GoesByFront most IsReply =
     (held reply : List ℕ) (status : ℕ) → most < length held → IsReply (take (most + 1) held) reply status → IsReply held reply status
 
-pub search_by_front : GoesByFront longest IsSearchReply
-search_by_front held reply status = search_long held reply status
+module _ (Reports : Scenario → List ℕ → ℕ → Type 0) where
+  pub search_by_front : GoesByFront longest (IsReplyWith Reports)
+  search_by_front held reply status = search_long held reply status Reports
 
-pub searched_by_front : (tree : Option Tree) → GoesByFront longest (IsSearched tree)
-searched_by_front tree held reply status = searched_long held reply status tree
+  pub searched_by_front : (tree : Option Tree) → GoesByFront longest (IsSearchedWith Reports tree)
+  searched_by_front tree held reply status = searched_long held reply status Reports tree
 
 pub run_by_front : (words : List ℕ) → GoesByFront longest (IsRunReply words)
 run_by_front words held reply status = run_long held reply status words

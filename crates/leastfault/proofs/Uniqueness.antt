@@ -1,22 +1,24 @@
 -- A text, and words, have one reply at most.
 use Rattle.std.proofs.Common.{◌≡◌, ℕ, List, not, refl, sym, ap, ◌∙◌, subst, inl, inr, arith}
-use Rattle.std.specs.Prelude.{◌⊎◌, Ok, Option, None, Some}
+use Rattle.std.specs.Prelude.{◌⊎◌, Ok, Option, None, Some, slice_get}
+use Rattle.std.specs.Cmp.{IsTotalOrder}
 use Rattle.lf_faults.specs.declared.fault.Parts.{Parts}
 use Rattle.lf_faults.specs.Allowed.{IsAllowed, IsFirst}
+use Rattle.lf_faults.specs.Faults.{set_cmp}
 use Rattle.lf_faults.specs.declared.spec.Bounds.{Bounds}
 use Rattle.lf_faults.proofs.Laws.{first_is_one}
 use Rattle.lf_sim.specs.Runs.{World}
 use Rattle.lf_sim.specs.Settings.{world_of}
 use Rattle.lf_outcome.specs.declared.formula.Formula.{Formula}
 use Rattle.lf_outcome.specs.Truth.{reaches}
-use Rattle.lf_alone.specs.Ends.{IsFull}
+use Rattle.lf_alone.specs.Ends.{IsFull, IsNeverFull}
 use Rattle.lf_alone.proofs.Laws.{full_is_one}
 use Rattle.lf_certificate.specs.Grown.{IsTreeOf}
 use Rattle.lf_certificate.proofs.Laws.{accepted_has_none, first_fault_one, tree_one}
 use Rattle.lf_scenario.specs.declared.scenario.Scenario.{Scenario}
 use Rattle.lf_scenario.specs.Sameness.{AreSame}
 use Rattle.lf_scenario.proofs.Laws.{refusals_are_one, refused_is_no_text, scenarios_are_one, worlds_are_one}
-use Rattle.lf_search.specs.Levels.{IsFullAt}
+use Rattle.lf_search.specs.Levels.{AreAllLeast, IsFullAt}
 use Rattle.lf_trace.specs.Namings.{Names}
 use Rattle.lf_trace.specs.Traces.{trace}
 use Rattle.lf_tree.specs.declared.tree.Tree.{Tree}
@@ -25,10 +27,12 @@ use Rattle.lf_tree.specs.Reading.{tree_in}
 use Rattle.lf_tree.specs.Texts.{IsInRange, tree_text}
 use Rattle.lf_tree.specs.Trees.{IsTree}
 use Rattle.lf_tree.specs.Values.{tree_value}
-use Rattle.leastfault.specs.Answers.{IsAnswer, reaches_in}
-use Rattle.leastfault.specs.Reports.{full_line, no_line, refusal, report, run_status, search_status, tree_refusal}
-use Rattle.leastfault.specs.Replies.{HandsOut, HasOneReply, IsCheckReply, IsRunReply, IsSearchReply, IsTreeFor, RepliesCheck, RepliesNoSet}
+use Rattle.leastfault.specs.Answers.{AreLeastSets, IsAnswer, reaches_in}
+use Rattle.leastfault.specs.Reports.{all_report, full_line, no_line, refusal, report, run_status, search_status, tree_refusal}
+use Rattle.leastfault.specs.Replies.{HandsOut, HasOneReply, IsAllReply, IsCheckReply, IsReplyWith, IsRunReply, IsSearchReply, IsTreeFor}
+use Rattle.leastfault.specs.Replies.{RepliesAll, RepliesCheck, RepliesNoSet, RepliesReport}
 use Rattle.leastfault.specs.Replies.{RepliesRefusal, RepliesSearch, RepliesTrace, RepliesTreeRefusal, RepliesVerdict}
+use Rattle.leastfault.proofs.LeastSets.{first_of_least, least_one}
 use Rattle.leastfault.proofs.TreeTexts.{tree_faults_one, tree_not_refused, trees_one}
 
 -- scenarios that are the same have one answer
@@ -62,26 +66,79 @@ back s t same = record {
   max_sets = sym same.max_sets;
 }
 
+-- they have one report, which comes where no level is too full
+record HaveOneReport (Reports : Scenario → List ℕ → ℕ → Type 0) : Type 0 where
+  pub never_full : (s : Scenario) (reply : List ℕ) (status : ℕ) → Reports s reply status → IsNeverFull s
+  pub one : (s t : Scenario) → AreSame s t → (one other : List ℕ) (m n : ℕ) → Reports s one m → Reports t other n → (one ≡ other) × (m ≡ n)
+
+report_one : HaveOneReport RepliesReport
+report_one = record {
+  never_full = λ s reply status told. told.1;
+  one = λ s t same one other m n a b.
+      let answers = answers_one s t a.0 b.0 same a.2 b.2 in (
+        a.3 ∙ ap (λ bounds. report bounds.budget a.0) same.bounds ∙ ap (report t.setting.spec.budget) answers ∙ sym b.3,
+        a.4 ∙ ap search_status answers ∙ sym b.4,
+      );
+}
+
+-- and one list of all least sets
+least_of_same : (s t : Scenario) (sets : List (List Parts)) → AreSame s t → AreLeastSets s sets → AreLeastSets t sets
+least_of_same s t sets same all =
+    subst (λ f. AreAllLeast (world_of t.setting) t.setting.spec f sets) same.formula
+    (subst (λ w. AreAllLeast w t.setting.spec s.formula sets) (worlds_are_one s t same)
+    (subst (λ b. AreAllLeast (world_of s.setting) b s.formula sets) same.bounds all))
+
+all_report_one : IsTotalOrder set_cmp → HaveOneReport RepliesAll
+all_report_one total = record {
+  never_full = λ s reply status told. told.1;
+  one = λ s t same one other m n a b.
+      let lists = least_one (world_of t.setting) t.setting.spec t.formula total a.0 b.0 (least_of_same s t a.0 same a.2) b.2 in (
+        a.3 ∙ ap (λ bounds. all_report bounds.budget a.0) same.bounds ∙ ap (all_report t.setting.spec.budget) lists ∙ sym b.3,
+        a.4 ∙ ap (λ sets. search_status (slice_get sets 0)) lists ∙ sym b.4,
+      );
+}
+
 -- and one reply of a search
-searches_one : (s t : Scenario) → AreSame s t → (one other : List ℕ) (m n : ℕ) → RepliesSearch s one m → RepliesSearch t other n
-    → (one ≡ other) × (m ≡ n)
-searches_one s t same one other m n (inl a) (inl b) =
-    let levels = full_is_one t a.0 b.0 a.1 b.1 (full_of_same s t same a.0 a.1 a.2) b.2 in
-    (a.3 ∙ ap (λ k. full_line k a.1) levels.0 ∙ ap (full_line b.0) levels.1 ∙ sym b.3, a.4 ∙ sym b.4)
-searches_one s t same one other m n (inl a) (inr b) = absurd (b.1 a.0 a.1 (full_of_same s t same a.0 a.1 a.2))
-searches_one s t same one other m n (inr a) (inl b) = absurd (a.1 b.0 b.1 (full_of_same t s (back s t same) b.0 b.1 b.2))
-searches_one s t same one other m n (inr a) (inr b) =
-    let answers = answers_one s t a.0 b.0 same a.2 b.2 in (
-      a.3 ∙ ap (λ bounds. report bounds.budget a.0) same.bounds ∙ ap (report t.setting.spec.budget) answers ∙ sym b.3,
-      a.4 ∙ ap search_status answers ∙ sym b.4,
-    )
+module _ (Reports : Scenario → List ℕ → ℕ → Type 0) (reports : HaveOneReport Reports) where
+  searches_one : (s t : Scenario) → AreSame s t → (one other : List ℕ) (m n : ℕ) → RepliesSearch Reports s one m → RepliesSearch Reports t other n
+      → (one ≡ other) × (m ≡ n)
+  searches_one s t same one other m n (inl a) (inl b) =
+      let levels = full_is_one t a.0 b.0 a.1 b.1 (full_of_same s t same a.0 a.1 a.2) b.2 in
+      (a.3 ∙ ap (λ k. full_line k a.1) levels.0 ∙ ap (full_line b.0) levels.1 ∙ sym b.3, a.4 ∙ sym b.4)
+  searches_one s t same one other m n (inl a) (inr b) = absurd (reports.never_full t other n b a.0 a.1 (full_of_same s t same a.0 a.1 a.2))
+  searches_one s t same one other m n (inr a) (inl b) =
+      absurd (reports.never_full s one m a b.0 b.1 (full_of_same t s (back s t same) b.0 b.1 b.2))
+  searches_one s t same one other m n (inr a) (inr b) = reports.one s t same one other m n a b
+
+  with_one : (text : List ℕ) → HasOneReply (IsReplyWith Reports text)
+  with_one text one other m n (inl a) (inl b) = refusals_one text one other m n a b
+  with_one text one other m n (inl a) (inr b) = absurd (refused_is_no_text text a.0 b.0 a.1 b.1)
+  with_one text one other m n (inr a) (inl b) = absurd (refused_is_no_text text b.0 a.0 b.1 a.1)
+  with_one text one other m n (inr a) (inr b) =
+      searches_one a.0 b.0 (scenarios_are_one text a.0 b.0 a.1 b.1) one other m n a.2 b.2
 
 pub search_replies_one : (text : List ℕ) → HasOneReply (IsSearchReply text)
-search_replies_one text one other m n (inl a) (inl b) = refusals_one text one other m n a b
-search_replies_one text one other m n (inl a) (inr b) = absurd (refused_is_no_text text a.0 b.0 a.1 b.1)
-search_replies_one text one other m n (inr a) (inl b) = absurd (refused_is_no_text text b.0 a.0 b.1 a.1)
-search_replies_one text one other m n (inr a) (inr b) =
-    searches_one a.0 b.0 (scenarios_are_one text a.0 b.0 a.1 b.1) one other m n a.2 b.2
+search_replies_one text = with_one RepliesReport report_one text
+
+pub all_replies_one : IsTotalOrder set_cmp → (text : List ℕ) → HasOneReply (IsAllReply text)
+all_replies_one total text = with_one RepliesAll (all_report_one total) text
+
+-- which reports what plays no part in the status
+statuses_one : (s t : Scenario) → AreSame s t → (one other : List ℕ) (m n : ℕ) → RepliesSearch RepliesReport s one m → RepliesSearch RepliesAll t other n
+    → m ≡ n
+statuses_one s t same one other m n (inl a) (inl b) = a.4 ∙ sym b.4
+statuses_one s t same one other m n (inl a) (inr b) = absurd (b.1 a.0 a.1 (full_of_same s t same a.0 a.1 a.2))
+statuses_one s t same one other m n (inr a) (inl b) = absurd (a.1 b.0 b.1 (full_of_same t s (back s t same) b.0 b.1 b.2))
+statuses_one s t same one other m n (inr a) (inr b) =
+    let first = first_of_least (world_of s.setting) s.setting.spec s.formula a.0 b.0 a.2 (least_of_same t s b.0 (back s t same) b.2) in
+    a.4 ∙ ap search_status first ∙ sym b.4
+
+pub statuses_agree : (text one other : List ℕ) (m n : ℕ) → IsSearchReply text one m → IsAllReply text other n → m ≡ n
+statuses_agree text one other m n (inl a) (inl b) = a.3 ∙ sym b.3
+statuses_agree text one other m n (inl a) (inr b) = absurd (refused_is_no_text text a.0 b.0 a.1 b.1)
+statuses_agree text one other m n (inr a) (inl b) = absurd (refused_is_no_text text b.0 a.0 b.1 a.1)
+statuses_agree text one other m n (inr a) (inr b) =
+    statuses_one a.0 b.0 (scenarios_are_one text a.0 b.0 a.1 b.1) one other m n a.2 b.2
 
 -- one tree is handed out
 tree_of_same : (s t : Scenario) (tree : Tree) → AreSame s t → IsTreeFor s tree → IsTreeOf (world_of t.setting) t.setting.spec t.formula tree

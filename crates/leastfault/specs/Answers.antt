@@ -1,4 +1,4 @@
--- The answer to a scenario: the first allowed set of faults that misses its outcome.
+-- The answer to a scenario: the first allowed set of faults that misses its outcome; and all least sets.
 use Rattle.std.specs.Prelude.{◌≡◌, ◌<◌, Bool, true, false, not, List, length, Option, MatchOption}
 use Rattle.lf_faults.specs.declared.fault.Parts.{Parts}
 use Rattle.lf_faults.specs.Allowed.{IsAllowed, IsFirst}
@@ -6,6 +6,7 @@ use Rattle.lf_faults.specs.declared.spec.Bounds.{Bounds}
 use Rattle.lf_sim.specs.Settings.{world_of}
 use Rattle.lf_outcome.specs.Truth.{reaches}
 use Rattle.lf_scenario.specs.declared.scenario.Scenario.{Scenario}
+use Rattle.lf_search.specs.Levels.{AreAllLeast}
 
 -- the run of the faults reaches the scenario's outcome, and elsewhere it misses
 abbrev pub reaches_in : Scenario → List Parts → Bool
@@ -26,3 +27,7 @@ IsFewest b reaching answer =
 
 abbrev pub IsLeast : Scenario → Option (List Parts) → Type 0
 IsLeast s answer = IsFewest s.setting.spec (reaches_in s) answer
+
+-- all allowed sets that miss while none with fewer faults does, in the order of sets, each once
+abbrev pub AreLeastSets : Scenario → List (List Parts) → Type 0
+AreLeastSets s = AreAllLeast (world_of s.setting) s.setting.spec s.formula

@@ -1,5 +1,5 @@
 -- The reply to a text, and what an engine answers.
-use Rattle.std.specs.Prelude.{◌≡◌, ◌⊎◌, ℕ, ◌<◌, ◌≤◌, Bool, true, false, List, length, take, drop, Option, None, Some, Result, Ok, Err, IfSome}
+use Rattle.std.specs.Prelude.{◌≡◌, ◌⊎◌, ℕ, ◌<◌, ◌≤◌, Bool, true, false, List, length, take, drop, slice_get, Option, None, Some, Result, Ok, Err, IfSome}
 use Rattle.std.specs.Io.KnownBytes.{Appends}
 use Rattle.lf_certificate.specs.declared.reason.Reason.{Reason}
 use Rattle.lf_certificate.specs.Accepted.{IsAccepted}
@@ -22,10 +22,12 @@ use Rattle.lf_tree.specs.declared.tree.Tree.{Tree}
 use Rattle.lf_tree.specs.FirstFaults as trees
 use Rattle.lf_tree.specs.Texts.{IsInRange, tree_text}
 use Rattle.lf_tree.specs.Trees.{IsTree}
+use Rattle.leastfault.specs.declared.answering.Wanted.{Wanted}
+use Rattle.leastfault.specs.declared.answering.Wanted.TheVariants as wanted
 use Rattle.leastfault.specs.declared.engine.BytesFault.{BytesFault}
 use Rattle.leastfault.specs.declared.engine.BytesFault.TheVariants as faults
-use Rattle.leastfault.specs.Answers.{IsAnswer, reaches_in}
-use Rattle.leastfault.specs.Reports.{full_line, no_line, no_set_line, refusal, report, run_status, search_status, tree_refusal, yes_line}
+use Rattle.leastfault.specs.Answers.{AreLeastSets, IsAnswer, reaches_in}
+use Rattle.leastfault.specs.Reports.{all_report, full_line, no_line, no_set_line, refusal, report, run_status, search_status, tree_refusal, yes_line}
 
 -- the line of the refusal, where the text is refused, with status 2
 abbrev pub RepliesRefusal : List ℕ → List ℕ → ℕ → Type 0
@@ -41,14 +43,34 @@ RepliesReport s reply status =
     (answer : Option (List Parts)) × IsNeverFull s × IsAnswer s answer
     × (reply ≡ report s.setting.spec.budget answer) × (status ≡ search_status answer)
 
--- the reply of a search for the scenario
-abbrev pub RepliesSearch : Scenario → List ℕ → ℕ → Type 0
-RepliesSearch s reply status = RepliesFull s reply status ⊎ RepliesReport s reply status
+-- the report of all least sets, where no level is too full before them, with the status of the first of them, which is the answer
+abbrev pub RepliesAll : Scenario → List ℕ → ℕ → Type 0
+RepliesAll s reply status =
+    (sets : List (List Parts)) × IsNeverFull s × AreLeastSets s sets
+    × (reply ≡ all_report s.setting.spec.budget sets) × (status ≡ search_status (slice_get sets 0))
 
--- the reply of a search
+-- of a search, by what it reports where it has ended
+module _ (Reports : Scenario → List ℕ → ℕ → Type 0) where
+  -- its reply for the scenario
+  abbrev pub RepliesSearch : Scenario → List ℕ → ℕ → Type 0
+  RepliesSearch s reply status = RepliesFull s reply status ⊎ Reports s reply status
+
+  -- its reply
+  abbrev pub IsReplyWith : List ℕ → List ℕ → ℕ → Type 0
+  IsReplyWith text reply status = RepliesRefusal text reply status ⊎ ((s : Scenario) × IsText s text × RepliesSearch s reply status)
+
+-- the reply of a search that reports the answer
 abbrev pub IsSearchReply : List ℕ → List ℕ → ℕ → Type 0
-IsSearchReply text reply status =
-    RepliesRefusal text reply status ⊎ ((s : Scenario) × IsText s text × RepliesSearch s reply status)
+IsSearchReply = IsReplyWith RepliesReport
+
+-- and of one that reports all least sets
+abbrev pub IsAllReply : List ℕ → List ℕ → ℕ → Type 0
+IsAllReply = IsReplyWith RepliesAll
+
+-- what is reported, by what is wanted
+abbrev pub reports_of : Wanted → Scenario → List ℕ → ℕ → Type 0
+reports_of wanted.Answer = RepliesReport
+reports_of wanted.AllLeast = RepliesAll
 
 -- the tree of the search for the scenario, which is accepted
 pub record IsTreeFor (s : Scenario) (tree : Tree) : Type 0 where
@@ -61,8 +83,14 @@ HandsOut text None status = status ≡ 2
 HandsOut text (Some tree) status = (s : Scenario) × IsText s text × IsTreeFor s tree × (status ≡ search_status tree.answer)
 
 -- the reply of a search, and what is handed out with it
+abbrev pub IsSearchedWith : (Scenario → List ℕ → ℕ → Type 0) → Option Tree → List ℕ → List ℕ → ℕ → Type 0
+IsSearchedWith Reports tree text reply status = IsReplyWith Reports text reply status × HandsOut text tree status
+
 abbrev pub IsSearched : Option Tree → List ℕ → List ℕ → ℕ → Type 0
-IsSearched tree text reply status = IsSearchReply text reply status × HandsOut text tree status
+IsSearched = IsSearchedWith RepliesReport
+
+abbrev pub IsSearchedAll : Option Tree → List ℕ → List ℕ → ℕ → Type 0
+IsSearchedAll = IsSearchedWith RepliesAll
 
 -- the line that no allowed set has this name, where the words name none, or none that the scenario allows, with status 2
 abbrev pub RepliesNoSet : List ℕ → Scenario → List ℕ → ℕ → Type 0

@@ -1,5 +1,6 @@
 -- The lines of replies.
-use Rattle.std.specs.Prelude.{ℕ, Bool, true, false, List, [], ◌∷◌, ◌++◌, length, codes, Option, Some, None}
+use Rattle.std.specs.Prelude.{ℕ, Bool, true, false, List, [], ◌∷◌, ◌++◌, length, map, codes, Option, Some, None}
+use Rattle.std.specs.List.{join_with_byte}
 use Rattle.std.specs.Fmt.{decimal}
 use Rattle.lf_faults.specs.declared.fault.Parts.{Parts}
 use Rattle.lf_faults.specs.Texts.{spelling}
@@ -24,6 +25,30 @@ fault_lines (f ∷ fs) = line (spelling f) ++ fault_lines fs
 abbrev pub report : ℕ → Option (List Parts) → List ℕ
 report budget None = line (codes "none " ++ decimal budget)
 report budget (Some faults) = line (codes "least " ++ decimal (length faults)) ++ fault_lines faults
+
+-- the faults, each after a comma
+abbrev pub more_text : List Parts → List ℕ
+more_text [] = []
+more_text (f ∷ fs) = 44 ∷ (spelling f ++ more_text fs)
+
+-- a set of faults: with a comma (44) between any two, or `-` for the empty set
+abbrev pub set_text : List Parts → List ℕ
+set_text [] = codes "-"
+set_text (f ∷ fs) = join_with_byte 44 (map spelling (f ∷ fs))
+
+-- the sets, one on each line
+abbrev pub set_lines : List (List Parts) → List ℕ
+set_lines [] = []
+set_lines (set ∷ sets) = line (set_text set) ++ set_lines sets
+
+-- `all`, how many faults each set has, and how many sets there are
+abbrev pub all_line : ℕ → ℕ → List ℕ
+all_line size count = codes "all " ++ (decimal size ++ (codes " " ++ line (decimal count)))
+
+-- `none`, and the budget; or that line, with the number of faults of the first set, and then the sets
+abbrev pub all_report : ℕ → List (List Parts) → List ℕ
+all_report budget [] = line (codes "none " ++ decimal budget)
+all_report budget (set ∷ sets) = all_line (length set) (length (set ∷ sets)) ++ set_lines (set ∷ sets)
 
 -- `full`, how many faults the sets of the level have that is too full, and how many there are
 abbrev pub full_line : ℕ → ℕ → List ℕ

@@ -1,18 +1,21 @@
 //! The replies of the engines, before they are written.
 
-ghost use Rattle.std.specs.Prelude.{◌≡◌, ◌≢◌, ◌↔◌, List, Some, string_bytes, IfOk};
+ghost use Rattle.std.specs.Prelude.{◌≡◌, ◌≢◌, ◌↔◌, List, Some, true, string_bytes, IfOk};
+ghost use Rattle.lf_alone.specs.Ends.{IsNeverFull};
+ghost use Rattle.lf_book.specs.Books.{scenario_of, state_of};
 ghost use Rattle.lf_faults.specs.declared.fault.Parts.{Parts};
 ghost use Rattle.lf_faults.specs.Allowed.{IsAllowed};
 ghost use Rattle.lf_sim.specs.Settings.{world_of};
 ghost use Rattle.lf_trace.specs.Namings.{Names};
 ghost use Rattle.lf_trace.specs.Traces.{trace};
-ghost use Rattle.leastfault.specs.Answers.{reaches_in};
-ghost use Rattle.leastfault.specs.Replies.{IsRunReply, IsSearched};
+ghost use Rattle.leastfault.specs.Answers.{AreLeastSets, reaches_in};
+ghost use Rattle.leastfault.specs.Replies.{IsRunReply, IsSearchedWith, reports_of};
 ghost use Rattle.leastfault.specs.Searches.{IsFoundFor};
-ghost use Rattle.leastfault.specs.Reports.{full_line, no_set_line, refusal, report, run_status, search_status};
+ghost use Rattle.leastfault.specs.Reports.{full_line, no_set_line, refusal, run_status, search_status};
 
-use crate::{full_line, refusal, report};
+use crate::{all_report, full_line, refusal, report};
 use lf_alone::{Ended, solve};
+use lf_book::Book;
 use lf_faults::{FaultSet, admits};
 use lf_outcome::holds;
 use lf_scenario::{Scenario, ScenarioError, read};
@@ -36,12 +39,22 @@ pub(crate) struct Found {
     pub(crate) tree: Option<Tree>,
 }
 
+/// What a search is to report.
+#[derive(Clone, Copy)]
+pub(crate) enum Wanted {
+    /// The answer: the first of the least sets.
+    Answer,
+    /// All least sets.
+    AllLeast,
+}
+
 /// The reply of a search to a scenario's text.
-pub(crate) fn search_reply(alloc: Global, text: &[u8]) -> Result<Found, AllocError>
-    ensures { IfOk result (λ found. IsSearched found.tree text.now (string_bytes found.reply.text) found.reply.status) }
+pub(crate) fn search_reply(alloc: Global, wanted: Wanted, text: &[u8]) -> Result<Found, AllocError>
+    ensures { IfOk result (λ found.
+        IsSearchedWith (reports_of wanted) found.tree text.now (string_bytes found.reply.text) found.reply.status) }
 {
     match read(alloc, text) {
-        Ok(scenario) => searched(alloc, scenario),
+        Ok(scenario) => searched(alloc, wanted, scenario),
         Err(error) => Ok(Found {
             reply: refused(alloc, error)?,
             tree: None,
@@ -50,16 +63,16 @@ pub(crate) fn search_reply(alloc: Global, text: &[u8]) -> Result<Found, AllocErr
 }
 
 /// The reply of a search for a scenario.
-fn searched(alloc: Global, scenario: Scenario) -> Result<Found, AllocError>
-    ensures { IfOk result (IsFoundFor scenario) }
+fn searched(alloc: Global, wanted: Wanted, scenario: Scenario) -> Result<Found, AllocError>
+    ensures { IfOk result (IsFoundFor wanted scenario) }
 {
-    let budget = scenario.setting().spec.budget();
     match solve(alloc, Arc::new(alloc, scenario)?)? {
         Ended::Finished(book) => {
+            let reply = reported(alloc, wanted, &book)?;
             let made = book.into_tree();
             let Ok(tree) = made else { unreachable!() };
             Ok(Found {
-                reply: reported(alloc, budget, &tree.answer)?,
+                reply,
                 tree: Some(tree),
             })
         }
@@ -70,15 +83,32 @@ fn searched(alloc: Global, scenario: Scenario) -> Result<Found, AllocError>
     }
 }
 
-/// The reply that reports an answer.
-fn reported(alloc: Global, budget: u32, answer: &Option<FaultSet>) -> Result<Reply, AllocError>
-    ensures { IfOk result (λ reply.
-        (string_bytes reply.text ≡ report budget answer.now) × (reply.status ≡ search_status answer.now)) }
+/// The reply that reports what a search found that has ended.
+fn reported(alloc: Global, wanted: Wanted, book: &Book) -> Result<Reply, AllocError>
+    requires finished { (state_of book.now).finished ≡ true }
+    requires never_full { IsNeverFull (scenario_of book.now) }
+    ensures { IfOk result (λ reply. reports_of wanted (scenario_of book.now) (string_bytes reply.text) reply.status) }
 {
+    let budget = book.scenario().setting().spec.budget();
+    let answer = book.answer();
+    let text = match wanted {
+        Wanted::Answer => report(alloc, budget, &answer)?,
+        Wanted::AllLeast => all_report(alloc, budget, least_sets(book)?.as_slice())?,
+    };
     Ok(Reply {
-        text: report(alloc, budget, answer)?,
-        status: search_status(answer),
+        text,
+        status: search_status(&answer),
     })
+}
+
+/// All least sets of a search that has ended.
+fn least_sets(book: &Book) -> Result<Vec<FaultSet>, AllocError>
+    requires { (state_of book.now).finished ≡ true }
+    ensures { IfOk result (λ sets. AreLeastSets (scenario_of book.now) sets.items) }
+{
+    let found = book.all_least()?;
+    let Some(sets) = found else { unreachable!() };
+    Ok(sets)
 }
 
 /// The reply where a level is too full.

@@ -4,10 +4,11 @@ ghost use Rattle.std.specs.Prelude.{◌≡◌, ◌≢◌, ℕ, ◌+◌, ◌<◌,
 ghost use Rattle.std.specs.Io.KnownBytes.{Appends};
 ghost use Rattle.lf_scenario.specs.Limits.{longest};
 ghost use Rattle.lf_tree.specs.Texts.{most_bytes};
-ghost use Rattle.leastfault.specs.Replies.{IsCheckReply, IsRunReply, IsSearchReply, IsSearched};
+ghost use Rattle.leastfault.specs.Replies.{IsAllReply, IsCheckReply, IsReplyWith, IsRunReply, IsSearchReply};
+ghost use Rattle.leastfault.specs.Replies.{IsSearched, IsSearchedAll, IsSearchedWith, reports_of};
 ghost use Rattle.leastfault.specs.Replies.{ToBoth, ToHeld, TookAtMost, WrotePart, WroteReply, tells_read, tells_write};
 
-use crate::answering::{Reply, run_reply, search_reply};
+use crate::answering::{Reply, Wanted, run_reply, search_reply};
 use crate::checking::{check_reply, check_reply_rows};
 use lf_scenario::LONGEST;
 use lf_streams::{ReadFault, Sink, Source, read_up_to, write_all};
@@ -69,8 +70,55 @@ pub fn search_bytes<R: Source, W: Sink>(
     // No more than one byte past the longest text is taken.
     ensures taken { TookAtMost (longest + 1) (R.left reader.old) (R.left reader.new) }
 {
+    search_for(alloc, Wanted::Answer, reader, writer)
+}
+
+/// The same as `search_bytes`, but where there is an answer the reply reports all least sets: `all K M`, and the M allowed sets of K
+/// faults that defeat the outcome, where none with fewer faults does, each on a line of its own. The tree and the status are those of
+/// `search_bytes`.
+pub fn all_bytes<R: Source, W: Sink>(
+    alloc: Global,
+    reader: &mut R,
+    writer: &mut W,
+) -> Result<Searched, BytesFault>
+    requires reader { R.has_failed reader.old ≡ false }
+    requires writer { W.has_failed writer.old ≡ false }
+    // The reply to what the source held was written, the status is that of the reply, and the tree is the scenario's.
+    ensures reply { IfOk result (λ searched.
+        WroteReply (ToHeld (IsSearchedAll searched.tree) (R.left reader.old)) (W.written writer.old) (W.written writer.new) searched.status) }
+    // `Write` leaves a part of the reply, and any other fault nothing.
+    ensures part { result ≡ Err BytesFault.Write →
+        WrotePart (ToHeld IsAllReply (R.left reader.old)) (W.written writer.old) (W.written writer.new) }
+    ensures unwritten { IfErr result (λ e. e ≢ BytesFault.Write → writer.new ≡ writer.old) }
+    // `Read` says that the source failed, and `Write` that the sink did.
+    ensures source { R.has_failed reader.new ≡ tells_read result }
+    ensures sink { W.has_failed writer.new ≡ tells_write result }
+    // No more than one byte past the longest text is taken.
+    ensures taken { TookAtMost (longest + 1) (R.left reader.old) (R.left reader.new) }
+{
+    search_for(alloc, Wanted::AllLeast, reader, writer)
+}
+
+/// Reads a scenario, searches it, and writes the reply that reports what is wanted.
+fn search_for<R: Source, W: Sink>(
+    alloc: Global,
+    wanted: Wanted,
+    reader: &mut R,
+    writer: &mut W,
+) -> Result<Searched, BytesFault>
+    requires reader { R.has_failed reader.old ≡ false }
+    requires writer { W.has_failed writer.old ≡ false }
+    ensures reply { IfOk result (λ searched. WroteReply (ToHeld (IsSearchedWith (reports_of wanted) searched.tree) (R.left reader.old))
+        (W.written writer.old) (W.written writer.new) searched.status) }
+    ensures part { result ≡ Err BytesFault.Write →
+        WrotePart (ToHeld (IsReplyWith (reports_of wanted)) (R.left reader.old)) (W.written writer.old) (W.written writer.new) }
+    ensures unwritten { IfErr result (λ e. e ≢ BytesFault.Write → writer.new ≡ writer.old) }
+    ensures source { R.has_failed reader.new ≡ tells_read result }
+    ensures sink { W.has_failed writer.new ≡ tells_write result }
+    ensures taken { TookAtMost (longest + 1) (R.left reader.old) (R.left reader.new) }
+{
     let text = read_text(alloc, reader, LONGEST)?;
-    let Ok(found) = search_reply(alloc, text.as_slice()) else {
+    let Ok(found) = search_reply(alloc, wanted, text.as_slice()) else {
         return Err(BytesFault::Memory);
     };
     let status = send(writer, &found.reply)?;

@@ -1,14 +1,16 @@
 //! What the definitions of this crate promise, for every scenario and every text: calls whose contracts are the laws.
 
-ghost use Rattle.std.specs.Prelude.{◌≡◌, ℕ, List, Option};
+ghost use Rattle.std.specs.Prelude.{◌≡◌, ℕ, List, Option, length, slice_get};
+ghost use Rattle.std.specs.List.{Contains};
 ghost use Rattle.lf_faults.specs.declared.fault.Parts.{Parts};
 ghost use Rattle.lf_scenario.specs.declared.scenario.Scenario.{Scenario};
 ghost use Rattle.lf_scenario.specs.Scenarios.{IsText};
 ghost use Rattle.lf_tree.specs.declared.tree.Tree.{Tree};
-ghost use Rattle.leastfault.specs.Answers.{IsAnswer, IsLeast};
-ghost use Rattle.leastfault.specs.Replies.{HandsOut, HasOneReply, IsCheckReply, IsRunReply, IsSearchReply, IsTreeText};
+ghost use Rattle.leastfault.specs.Answers.{AreLeastSets, IsAnswer, IsLeast};
+ghost use Rattle.leastfault.specs.Replies.{HandsOut, HasOneReply, IsAllReply, IsCheckReply, IsRunReply, IsSearchReply, IsTreeText};
 ghost use Rattle.leastfault.specs.Reports.{yes_line};
 
+use lf_faults::orders_are_total;
 use lf_trace::names_are_one;
 use lf_tree::texts_are_json;
 
@@ -17,13 +19,28 @@ pub fn answers_are_one()
     ensures { (s : Scenario) (x y : Option (List Parts)) → IsAnswer s x → IsAnswer s y → x ≡ y }
 {}
 
-/// A text has at most one reply of a search, with one status and one tree that is handed out, and with these words at most one of
-/// a run.
+/// A scenario has at most one list of all least sets. The answer is the first of them, or none where there is none, and they have as
+/// many faults as it.
+pub fn least_sets_are_one()
+    ensures one { (s : Scenario) (xs ys : List (List Parts)) → AreLeastSets s xs → AreLeastSets s ys → xs ≡ ys }
+    ensures first { (s : Scenario) (answer : Option (List Parts)) (sets : List (List Parts)) → IsAnswer s answer → AreLeastSets s sets →
+        answer ≡ slice_get sets 0 }
+    ensures size { (s : Scenario) (sets : List (List Parts)) (one other : List Parts) → AreLeastSets s sets → Contains sets one → Contains sets other →
+        length one ≡ length other }
+{
+    orders_are_total();
+}
+
+/// A text has at most one reply of a search that reports the answer, and one of a search that reports all least sets, both with one
+/// status and one tree that is handed out; and with these words at most one of a run.
 pub fn replies_are_one(faults: &str)
     ensures search { (text : List ℕ) → HasOneReply (IsSearchReply text) }
+    ensures all { (text : List ℕ) → HasOneReply (IsAllReply text) }
+    ensures status { (text one other : List ℕ) (m n : ℕ) → IsSearchReply text one m → IsAllReply text other n → m ≡ n }
     ensures tree { (text : List ℕ) (status : ℕ) (one other : Option Tree) → HandsOut text one status → HandsOut text other status → one ≡ other }
     ensures run { (text : List ℕ) → HasOneReply (IsRunReply faults.now text) }
 {
+    orders_are_total();
     names_are_one(faults);
 }
 

@@ -1,7 +1,8 @@
 //! The least faults that defeat an outcome.
 //!
-//! An engine reads a scenario's text and writes a reply: the fewest faults that defeat the scenario's outcome, or that no
-//! allowed set of faults does, with a certificate of that; or the trace of one run; or, of a certificate's text beside it, whether it is right.
+//! An engine reads a scenario's text and writes a reply: the fewest faults that defeat the scenario's outcome, or all sets with so few,
+//! or that no allowed set of faults does, with a certificate of that; or the trace of one run; or, of a certificate's text beside it,
+//! whether it is right.
 #![tactic(auto)]
 
 mod answer;
@@ -9,14 +10,19 @@ mod answering;
 mod checking;
 mod engine;
 mod laws;
+mod least;
 mod replies;
 
 pub use answer::plain_answer;
 pub use engine::{
-    BytesFault, LONGEST_TREE, Searched, check_bytes, check_bytes_rows, run_bytes, search_bytes,
+    BytesFault, LONGEST_TREE, Searched, all_bytes, check_bytes, check_bytes_rows, run_bytes,
+    search_bytes,
 };
-pub use laws::{answers_are_one, check_replies_are_one, replies_are_one, yes_is_the_answer};
+pub use laws::{
+    answers_are_one, check_replies_are_one, least_sets_are_one, replies_are_one, yes_is_the_answer,
+};
+pub use least::plain_all;
 pub use lf_streams::{Failed, FromRead, Sink, Source, ToWrite};
 pub use lf_tree::{Tree, TreeFault, to_text};
 pub use lf_words::{Asked, Unasked, asked};
-pub use replies::{full_line, judgement, refusal, report, tree_refusal};
+pub use replies::{all_report, full_line, judgement, refusal, report, tree_refusal};

@@ -1,10 +1,11 @@
 //! The lines of replies.
 
 ghost use Rattle.std.specs.Prelude.{◌≡◌, ◌++◌, IfOk, string_bytes};
-ghost use Rattle.leastfault.specs.Reports.{dotted, fault_lines, full_line, judgement, path_text, refusal, report, tree_refusal};
+ghost use Rattle.leastfault.specs.Reports.{all_report, dotted, fault_lines, full_line, judgement, more_text, path_text, refusal, report};
+ghost use Rattle.leastfault.specs.Reports.{set_lines, set_text, tree_refusal};
 
 use lf_check::Verdict;
-use lf_faults::{FaultSet, fault_text};
+use lf_faults::{Fault, FaultSet, fault_text};
 use lf_scenario::ScenarioError;
 use lf_tree::TreeFault;
 use std::alloc::{AllocError, Global};
@@ -22,6 +23,57 @@ pub fn report(alloc: Global, budget: u32, answer: &Option<FaultSet>) -> Result<S
             Ok(text)
         }
     }
+}
+
+/// The report of all least sets: `all K M`, with the number K of faults that each has and the number M of sets, and the sets in their
+/// order, each on a line of its own; or `none B` with the budget B, where there is none. The faults of a set stand in their order with
+/// one comma between any two, and `-` is the empty set.
+pub fn all_report(alloc: Global, budget: u32, sets: &[FaultSet]) -> Result<String, AllocError>
+    ensures { IfOk result (λ text. string_bytes text ≡ all_report budget sets.now) }
+{
+    match sets.first() {
+        None => format!(in alloc; "none {budget}\n"),
+        Some(least) => {
+            let mut text = format!(in alloc; "all {} {}\n", least.len(), sets.len())?;
+            push_sets(alloc, sets, &mut text)?;
+            Ok(text)
+        }
+    }
+}
+
+/// Adds sets of faults, each on a line of its own.
+fn push_sets(alloc: Global, sets: &[FaultSet], text: &mut String) -> Result<(), AllocError>
+    ensures { IfOk result (λ _. string_bytes text.new ≡ string_bytes text.old ++ set_lines sets.now) }
+{
+    'sets: for set in sets {
+        push_set(alloc, set.items(), text)?;
+        text.push('\n')?;
+    }
+    Ok(())
+}
+
+/// Adds a set: its faults with a comma between any two, or `-` for the empty set.
+fn push_set(alloc: Global, faults: &[Fault], text: &mut String) -> Result<(), AllocError>
+    ensures { IfOk result (λ _. string_bytes text.new ≡ string_bytes text.old ++ set_text faults.now) }
+{
+    match faults.split_first() {
+        None => text.push('-'),
+        Some((first, rest)) => {
+            text.push_str(fault_text(alloc, first)?.as_str())?;
+            push_more(alloc, rest, text)
+        }
+    }
+}
+
+/// Adds faults, each after a comma.
+fn push_more(alloc: Global, faults: &[Fault], text: &mut String) -> Result<(), AllocError>
+    ensures { IfOk result (λ _. string_bytes text.new ≡ string_bytes text.old ++ more_text faults.now) }
+{
+    'faults: for fault in faults {
+        text.push(',')?;
+        text.push_str(fault_text(alloc, fault)?.as_str())?;
+    }
+    Ok(())
 }
 
 /// The line of a level that is too full: `full LEVEL COUNT`, with the number of faults of its sets and the number of these.

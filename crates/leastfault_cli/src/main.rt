@@ -1,13 +1,14 @@
 //! The program `leastfault`: it reads a scenario and prints the fewest faults that defeat its outcome, or one run, or whether
 //! a certificate of its answer is right.
 //!
-//!     leastfault search FILE [--tree TREE]
+//!     leastfault search FILE [--all] [--tree TREE]
 //!     leastfault run FILE FAULTS
 //!     leastfault check FILE TREE
 //!
 //! FILE is a scenario, and `-` is standard input. FAULTS are faults joined by single commas, and the empty word is none. TREE
 //! is a certificate, and `-` is standard input; it can't be that of FILE and of TREE at once. With no words it is `search -`.
-//! With `--tree` a search writes the certificate of its answer into the file TREE, and then the reply.
+//! With `--all` a search prints all sets with so few faults, and with `--tree` it writes the certificate of its answer into the
+//! file TREE, and then the reply.
 //!
 //! The status is 0 where no allowed set of faults defeats the outcome, where the run reaches it, where the certificate is
 //! right, and after help or the version; 1 where a set defeats it, the run misses it, or the certificate is wrong; 2 where the
@@ -21,8 +22,8 @@ mod stop;
 mod texts;
 
 use leastfault::{
-    Asked, BytesFault, FromRead, LONGEST_TREE, Searched, ToWrite, Tree, TreeFault, Unasked, asked,
-    check_bytes_rows, run_bytes, search_bytes, to_text, tree_refusal,
+    Asked, BytesFault, FromRead, LONGEST_TREE, Searched, ToWrite, Tree, TreeFault, Unasked,
+    all_bytes, asked, check_bytes_rows, run_bytes, search_bytes, to_text, tree_refusal,
 };
 use lf_hints::{check_hint, run_hint, search_hint, tree_hint};
 use lf_scenario::LONGEST;
@@ -90,11 +91,11 @@ fn told(rt: &HostRuntime, unasked: &Unasked) -> Result<u8, Stop> {
 /// Does what is asked.
 fn done(rt: &HostRuntime, threads: &(impl Threads + Sync), asked: &Asked) -> Result<u8, Stop> {
     match asked {
-        Asked::Search { file, tree } => {
+        Asked::Search { file, tree, all } => {
             let text = held(rt, file.as_str(), LONGEST as u64 + 1)?;
             match tree {
-                Some(tree) => certified(rt, text.as_slice(), tree.as_str()),
-                None => searched(rt, text.as_slice()),
+                Some(tree) => certified(rt, text.as_slice(), *all, tree.as_str()),
+                None => searched(rt, text.as_slice(), *all),
             }
         }
         Asked::Run { file, faults } => {
@@ -119,9 +120,9 @@ fn hint(rt: &HostRuntime, words: Result<String, AllocError>) {
 }
 
 /// Searches a scenario, and writes the reply to standard output.
-fn searched(rt: &HostRuntime, text: &[u8]) -> Result<u8, Stop> {
+fn searched(rt: &HostRuntime, text: &[u8], all: bool) -> Result<u8, Stop> {
     let mut reply = Vec::new(rt.alloc());
-    let Searched { status, .. } = search_to(rt, text, &mut reply)?;
+    let Searched { status, .. } = search_to(rt, text, all, &mut reply)?;
     replied(rt, text, reply.as_slice(), status)
 }
 
@@ -136,9 +137,9 @@ fn replied(rt: &HostRuntime, text: &[u8], reply: &[u8], status: u8) -> Result<u8
 
 /// Searches a scenario, and writes the certificate of its answer into a file, and then the reply to standard output. Without an
 /// answer the file stays as it is, and so it does where the certificate's text is too long: that is told in place of the reply.
-fn certified(rt: &HostRuntime, text: &[u8], file: &str) -> Result<u8, Stop> {
+fn certified(rt: &HostRuntime, text: &[u8], all: bool, file: &str) -> Result<u8, Stop> {
     let mut reply = Vec::new(rt.alloc());
-    let Searched { status, tree } = search_to(rt, text, &mut reply)?;
+    let Searched { status, tree } = search_to(rt, text, all, &mut reply)?;
     match tree {
         Some(tree) => written(rt, file, &tree, reply.as_slice(), status),
         None => replied(rt, text, reply.as_slice(), status),
@@ -171,13 +172,21 @@ fn written(
     }
 }
 
-/// Searches a scenario, with its reply into memory: where that can't be written memory has run out.
-fn search_to(rt: &HostRuntime, text: &[u8], reply: &mut Vec<u8>) -> Result<Searched, BytesFault> {
-    match search_bytes(
-        rt.alloc(),
-        &mut FromRead::new(text),
-        &mut ToWrite::new(reply),
-    ) {
+/// Searches a scenario for one least set or for all, with its reply into memory: where that can't be written memory has run out.
+fn search_to(
+    rt: &HostRuntime,
+    text: &[u8],
+    all: bool,
+    reply: &mut Vec<u8>,
+) -> Result<Searched, BytesFault> {
+    let mut source = FromRead::new(text);
+    let mut sink = ToWrite::new(reply);
+    let answered = if all {
+        all_bytes(rt.alloc(), &mut source, &mut sink)
+    } else {
+        search_bytes(rt.alloc(), &mut source, &mut sink)
+    };
+    match answered {
         Err(BytesFault::Write) => Err(BytesFault::Memory),
         answered => answered,
     }

@@ -17,12 +17,15 @@ use Rattle.lf_words.specs.declared.types.Asked.{Asked}
 use Rattle.lf_words.specs.declared.types.Asked.TheVariants as asked
 use Rattle.lf_words.specs.declared.unasked.Unasked.{Unasked}
 use Rattle.lf_words.specs.declared.unasked.Unasked.TheVariants as unasked
-use Rattle.lf_words.proofs.Plain.{IsTaken, is_taken, named_both, check_fault, check_names, run_fault, run_names, search_fault, search_names}
+use Rattle.lf_words.proofs.Plain.{IsTaken, is_taken, named_both, named_search, check_fault, check_names, run_fault, run_names, search_fault, search_names}
 use Rattle.lf_words.proofs.Plain.{help_fault, short_help_fault, short_version_fault, unknown_fault, version_fault}
 use Rattle.lf_words.proofs.Reading.{apart, no_truth}
 
 abbrev Both : Type 0
 Both = Text × Option Text × Option Text
+
+abbrev Search : Type 0
+Search = Text × Option Text × Option Text × Bool
 
 both : (x y : Bool) → (x && y) ≡ true → (x ≡ true) × (y ≡ true)
 both true y h = (refl, h)
@@ -56,40 +59,46 @@ check_or_run : (name : Text) → name ≡ codes "check" → name ≡ codes "run"
 check_or_run name is_check is_run = apart 99 114 (omega arith) (ap first (sym is_check ∙ is_run))
 
 search_of : (words : List Text) (o : Option (Text × List Row)) (file : Text) (a : Asked)
-    → option_map (named_both (codes "tree")) o ≡ Some (codes "search", Some file, None)
+    → option_map named_search o ≡ Some (codes "search", Some file, None, false)
     → IsAskedIn words o a → IsPlainly (codes "search" ∷ file ∷ []) a
 search_of words None file a names asked = elim asked [ ]
-search_of words (Some p) file (asked.Search own tree) names asked =
-    let pair : named_both (codes "tree") p ≡ (codes "search", Some file, None) = some_is _ _ names in
-    let same : own.bytes.items ≡ file = some_is _ _ (sym asked.0.1 ∙ ap (λ (q : Both). q.1) pair) in
-    record { texts = ap (λ x. codes "search" ∷ x ∷ []) same; unwritten = sym asked.0.2 ∙ ap (λ (q : Both). q.2) pair }
+search_of words (Some p) file (asked.Search own tree all) names asked =
+    let found : named_search p ≡ (codes "search", Some file, None, false) = some_is _ _ names in
+    let same : own.bytes.items ≡ file = some_is _ _ (sym asked.0.1 ∙ ap (λ (q : Search). q.1) found) in
+    record {
+      texts = ap (λ x. codes "search" ∷ x ∷ []) same;
+      unwritten = sym asked.0.2 ∙ ap (λ (q : Search). q.2) found;
+      one = sym asked.0.3 ∙ ap (λ (q : Search). q.3) found;
+    }
 search_of words (Some p) file (asked.Run own faults) names asked =
-    let pair : named_both (codes "tree") p ≡ (codes "search", Some file, None) = some_is _ _ names in
-    absurd (run_or_search p.0 asked.0.0 (ap (λ (q : Both). q.0) pair))
+    let found : named_search p ≡ (codes "search", Some file, None, false) = some_is _ _ names in
+    absurd (run_or_search p.0 asked.0.0 (ap (λ (q : Search). q.0) found))
 search_of words (Some p) file (asked.Check own tree) names asked =
-    let pair : named_both (codes "tree") p ≡ (codes "search", Some file, None) = some_is _ _ names in
-    absurd (check_or_search p.0 asked.0.0 (ap (λ (q : Both). q.0) pair))
+    let found : named_search p ≡ (codes "search", Some file, None, false) = some_is _ _ names in
+    absurd (check_or_search p.0 asked.0.0 (ap (λ (q : Search). q.0) found))
 
 asks_search : (words : List Text) (o : Option (Text × List Row)) (file : String Global)
-    → option_map (named_both (codes "tree")) o ≡ Some (codes "search", Some (string_bytes file), None)
-    → words ≡ codes "search" ∷ string_bytes file ∷ [] → IsAskedIn words o (asked.Search file None)
+    → option_map named_search o ≡ Some (codes "search", Some (string_bytes file), None, false)
+    → words ≡ codes "search" ∷ string_bytes file ∷ [] → IsAskedIn words o (asked.Search file None false)
 asks_search words None file names is = absurd (no_thing _ names)
 asks_search words (Some p) file names is =
-    let pair : named_both (codes "tree") p ≡ (codes "search", Some (string_bytes file), None) = some_is _ _ names in
-    ((ap (λ (q : Both). q.0) pair, ap (λ (q : Both). q.1) pair, ap (λ (q : Both). q.2) pair), rw (is) (inl (refl, inl (refl, tt))))
+    let found : named_search p ≡ (codes "search", Some (string_bytes file), None, false) = some_is _ _ names in (
+      (ap (λ (q : Search). q.0) found, ap (λ (q : Search). q.1) found, ap (λ (q : Search). q.2) found, ap (λ (q : Search). q.3) found),
+      rw (is) (inl (refl, inl (refl, tt))),
+    )
 
 run_of : (words : List Text) (o : Option (Text × List Row)) (file faults : Text) (a : Asked)
     → option_map (named_both (codes "faults")) o ≡ Some (codes "run", Some file, Some faults)
     → IsAskedIn words o a → IsPlainly (codes "run" ∷ file ∷ faults ∷ []) a
 run_of words None file faults a names asked = elim asked [ ]
-run_of words (Some p) file faults (asked.Search own tree) names asked =
+run_of words (Some p) file faults (asked.Search own tree all) names asked =
     let pair : named_both (codes "faults") p ≡ (codes "run", Some file, Some faults) = some_is _ _ names in
     absurd (run_or_search p.0 (ap (λ (q : Both). q.0) pair) asked.0.0)
 run_of words (Some p) file faults (asked.Run own own_faults) names asked =
     let pair : named_both (codes "faults") p ≡ (codes "run", Some file, Some faults) = some_is _ _ names in
     let same : own.bytes.items ≡ file = some_is _ _ (sym asked.0.1 ∙ ap (λ (q : Both). q.1) pair) in
     let same_too : own_faults.bytes.items ≡ faults = some_is _ _ (sym asked.0.2 ∙ ap (λ (q : Both). q.2) pair) in
-    record { texts = rw (same, same_too) refl; unwritten = refl }
+    record { texts = rw (same, same_too) refl; unwritten = refl; one = refl }
 run_of words (Some p) file faults (asked.Check own tree) names asked =
     let pair : named_both (codes "faults") p ≡ (codes "run", Some file, Some faults) = some_is _ _ names in
     absurd (check_or_run p.0 asked.0.0 (ap (λ (q : Both). q.0) pair))
@@ -106,7 +115,7 @@ check_of : (words : List Text) (o : Option (Text × List Row)) (file tree : Text
     → option_map (named_both (codes "tree")) o ≡ Some (codes "check", Some file, Some tree)
     → IsAskedIn words o a → IsPlainly (codes "check" ∷ file ∷ tree ∷ []) a
 check_of words None file tree a names asked = elim asked [ ]
-check_of words (Some p) file tree (asked.Search own written) names asked =
+check_of words (Some p) file tree (asked.Search own written all) names asked =
     let pair : named_both (codes "tree") p ≡ (codes "check", Some file, Some tree) = some_is _ _ names in
     absurd (check_or_search p.0 (ap (λ (q : Both). q.0) pair) asked.0.0)
 check_of words (Some p) file tree (asked.Run own faults) names asked =
@@ -116,7 +125,7 @@ check_of words (Some p) file tree (asked.Check own own_tree) names asked =
     let pair : named_both (codes "tree") p ≡ (codes "check", Some file, Some tree) = some_is _ _ names in
     let same : own.bytes.items ≡ file = some_is _ _ (sym asked.0.1 ∙ ap (λ (q : Both). q.1) pair) in
     let same_too : own_tree.bytes.items ≡ tree = some_is _ _ (sym asked.0.2 ∙ ap (λ (q : Both). q.2) pair) in
-    record { texts = rw (same, same_too) refl; unwritten = refl }
+    record { texts = rw (same, same_too) refl; unwritten = refl; one = refl }
 
 asks_check : (words : List Text) (o : Option (Text × List Row)) (file tree : String Global)
     → option_map (named_both (codes "tree")) o ≡ Some (codes "check", Some (string_bytes file), Some (string_bytes tree))
@@ -178,7 +187,7 @@ asks_plainly (command ∷ one ∷ other ∷ more ∷ rest) a plain asks = absurd
 
 -- what shares standard input isn't asked for by plain words
 shared_not_plain : (a : Asked) → shares_input a ≡ true → is_plain_command (texts_of a) ≡ true → ⊥
-shared_not_plain (asked.Search file tree) shared plain = no_truth shared
+shared_not_plain (asked.Search file tree all) shared plain = no_truth shared
 shared_not_plain (asked.Run file faults) shared plain = no_truth shared
 shared_not_plain (asked.Check file tree) shared plain =
     elim (two_are (codes "check") file.bytes.items tree.bytes.items plain).0 [
@@ -197,7 +206,7 @@ asks_some (command ∷ file ∷ []) plain =
     let is = search_is (string_bytes command) (string_bytes file) plain in
     let words = codes "search" ∷ string_bytes file ∷ [] in
     subst (λ c. (a : Asked) × Asks (c ∷ string_bytes file ∷ []) a) (sym is.0) (
-      asked.Search file None,
+      asked.Search file None false,
       (
         search_fault (string_bytes file) is.1,
         asks_search words (subcommand_of program words) file (search_names (string_bytes file) is.1) refl,
@@ -260,7 +269,7 @@ size (x ∷ y ∷ z ∷ []) = 3
 size (x ∷ y ∷ z ∷ more ∷ rest) = 4
 
 shared_is : (a : Asked) → texts_of a ≡ shared_words → shares_input a ≡ true
-shared_is (asked.Search file tree) is = absurd (apart 2 3 (omega arith) (ap size is))
+shared_is (asked.Search file tree all) is = absurd (apart 2 3 (omega arith) (ap size is))
 shared_is (asked.Run file faults) is = absurd (check_or_run (codes "check") refl (sym (ap head is)))
 shared_is (asked.Check file tree) is =
     let one : is_input file.bytes.items ≡ true = (bytes_eq-Decides file.bytes.items (codes "-")).1 (ap second is) in

@@ -2,6 +2,7 @@
 use Rattle.std.specs.Prelude.{codes, true, Some}
 use Rattle.clap.specs.Words.{App, Rule, new_app, new_rule, with_rule, with_subcommand}
 use Rattle.clap.specs.Simple.{on_top}
+use Rattle.clap.specs.declared.builder.action.ArgAction.TheVariants.{SetTrue}
 
 -- the argument FILE
 abbrev pub file : Rule
@@ -11,9 +12,13 @@ file = record (new_rule (codes "file")) { required = true; value_names = 1 }
 abbrev pub written : Rule
 written = record (new_rule (codes "tree")) { long = Some (codes "tree"); value_names = 1 }
 
+-- the flag --all
+abbrev pub each : Rule
+each = record (new_rule (codes "all")) { long = Some (codes "all"); action = Some SetTrue }
+
 -- search FILE
 abbrev pub search : App
-search = with_rule (with_rule (new_app (codes "search")) file) written
+search = with_rule (with_rule (with_rule (new_app (codes "search")) file) written) each
 
 -- the argument FAULTS
 abbrev pub faults : Rule

@@ -19,20 +19,27 @@ IsPartOf (text ∷ texts) (word ∷ words) = ((text ≡ word) × IsPartOf texts 
 
 -- the command, and what it requires
 abbrev pub texts_of : Asked → List Text
-texts_of (asked.Search file tree) = codes "search" ∷ file.bytes.items ∷ []
+texts_of (asked.Search file tree all) = codes "search" ∷ file.bytes.items ∷ []
 texts_of (asked.Run file faults) = codes "run" ∷ file.bytes.items ∷ faults.bytes.items ∷ []
 texts_of (asked.Check file tree) = codes "check" ∷ file.bytes.items ∷ tree.bytes.items ∷ []
 
 -- the file for a certificate that is to be written
 abbrev pub written_to : Asked → Option Text
-written_to (asked.Search file tree) = option_map (λ t. t.bytes.items) tree
+written_to (asked.Search file tree all) = option_map (λ t. t.bytes.items) tree
 written_to (asked.Run file faults) = None
 written_to (asked.Check file tree) = None
+
+-- all least sets are to be told
+abbrev pub wants_all : Asked → Bool
+wants_all (asked.Search file tree all) = all
+wants_all (asked.Run file faults) = false
+wants_all (asked.Check file tree) = false
 
 -- just these words are asked for, and no option
 pub record IsPlainly (words : List Text) (a : Asked) : Type 0 where
   pub texts : texts_of a ≡ words
   pub unwritten : written_to a ≡ None
+  pub one : wants_all a ≡ false
 
 -- the file is standard input
 abbrev pub is_input : Text → Bool
@@ -40,14 +47,19 @@ is_input file = bytes_eq file (codes "-")
 
 -- two texts are to be read from standard input
 abbrev pub shares_input : Asked → Bool
-shares_input (asked.Search file tree) = false
+shares_input (asked.Search file tree all) = false
 shares_input (asked.Run file faults) = false
 shares_input (asked.Check file tree) = is_input file.bytes.items && is_input tree.bytes.items
 
+-- what `clap` has of a flag, which is on where it is among the words
+abbrev pub is_set : Option Text → Bool
+is_set None = false
+is_set (Some text) = bytes_eq text (codes "true")
+
 -- the command of this name with these matches asks for this
 abbrev pub IsMatched : Text → List Row → Asked → Type 0
-IsMatched name rows (asked.Search file tree) = (name ≡ codes "search") × (first_of (codes "file") rows ≡ Some file.bytes.items)
-    × (first_of (codes "tree") rows ≡ option_map (λ t. t.bytes.items) tree)
+IsMatched name rows (asked.Search file tree all) = (name ≡ codes "search") × (first_of (codes "file") rows ≡ Some file.bytes.items)
+    × (first_of (codes "tree") rows ≡ option_map (λ t. t.bytes.items) tree) × (is_set (first_of (codes "all") rows) ≡ all)
 IsMatched name rows (asked.Run file faults) = (name ≡ codes "run") × (first_of (codes "file") rows ≡ Some file.bytes.items)
     × (first_of (codes "faults") rows ≡ Some faults.bytes.items)
 IsMatched name rows (asked.Check file tree) = (name ≡ codes "check") × (first_of (codes "file") rows ≡ Some file.bytes.items)

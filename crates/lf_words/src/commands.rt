@@ -3,9 +3,9 @@
 ghost use Rattle.std.specs.Prelude.{◌≡◌, IfOk, false};
 ghost use Rattle.clap.specs.Words.{app_of, rule_of};
 ghost use Rattle.clap.specs.declared.builder.command.Command.TheViews.{out-Command};
-ghost use Rattle.lf_words.specs.Commands.{check, file, plain, program, run, search, tree, written};
+ghost use Rattle.lf_words.specs.Commands.{check, each, file, plain, program, run, search, tree, written};
 
-use clap::{Arg, Command};
+use clap::{Arg, ArgAction, Command};
 use std::alloc::{AllocError, Global};
 
 /// The version of the program.
@@ -58,14 +58,15 @@ fn plain<'a>(alloc: Global) -> Command<'a>
         .after_help(WORDS)
 }
 
-/// The command `search FILE`, with the option `--tree TREE`.
+/// The command `search FILE`, with the option `--tree TREE` and the flag `--all`.
 fn search<'a>(alloc: Global) -> Result<Command<'a>, AllocError>
     ensures { IfOk result (λ c. (app_of c ≡ search) × ((out-Command c).has_globals ≡ false)) }
 {
     Command::new(alloc, "search")
         .about("Prints the fewest faults with which the scenario FILE misses its outcome, or none")
         .arg(file(alloc))?
-        .arg(written(alloc))
+        .arg(written(alloc))?
+        .arg(each(alloc))
 }
 
 /// The command `run FILE FAULTS`.
@@ -114,6 +115,16 @@ fn written<'a>(alloc: Global) -> Arg<'a>
         .long("tree")
         .value_name("TREE")
         .help("Writes a certificate of the answer to the file TREE")
+}
+
+/// The flag `--all`.
+fn each<'a>(alloc: Global) -> Arg<'a>
+    ensures { (rule_of result ≡ each) × (result.global ≡ false) }
+{
+    Arg::new(alloc, "all")
+        .long("all")
+        .action(ArgAction::SetTrue)
+        .help("Prints all sets with so few faults, each on a line")
 }
 
 /// The argument FILE.

@@ -13,6 +13,8 @@ pub enum Asked {
         file: String,
         /// The file into which the certificate of the answer is to be written, if one is named.
         tree: Option<String>,
+        /// Whether all sets with so few faults are to be told, and not the first alone.
+        all: bool,
     },
     /// To run a scenario once, under faults that are given.
     Run {

@@ -5,7 +5,7 @@ ghost use Rattle.std.specs.String.{string_bytes};
 ghost use Rattle.clap.specs.Words.{first_of, found_of, kind_of, rows_of, subcommand_rows_of};
 ghost use Rattle.lf_words.specs.Plain.{asks_help, asks_version, is_plain_command, is_unknown};
 ghost use Rattle.lf_words.specs.Statuses.{exit_status, goes_to_error};
-ghost use Rattle.lf_words.specs.Words.{Asks, IsAnswer, IsAskedBy, IsAskedIn, IsPartOf, IsPlainly, IsRefusal, IsToldFor, shares_input};
+ghost use Rattle.lf_words.specs.Words.{Asks, IsAnswer, IsAskedBy, IsAskedIn, IsPartOf, IsPlainly, IsRefusal, IsToldFor, is_set, shares_input};
 
 use crate::commands::program;
 use crate::{Asked, Unasked};
@@ -38,6 +38,7 @@ pub fn asked(alloc: Global, words: &[String]) -> Result<Asked, Unasked>
         return Ok(Asked::Search {
             file: String::from_str(alloc, "-")?,
             tree: None,
+            all: false,
         });
     }
     match program(alloc)?.try_get_matches_from(words) {
@@ -100,6 +101,7 @@ fn search(
     Ok(Some(Asked::Search {
         file: String::from_str(alloc, file)?,
         tree,
+        all: is_set(matches, "all"),
     }))
 }
 
@@ -149,6 +151,16 @@ fn check(
         file: String::from_str(alloc, file)?,
         tree: String::from_str(alloc, tree)?,
     }))
+}
+
+/// Whether a flag is set.
+fn is_set(matches: &ArgMatches<'_>, flag: &str) -> bool
+    ensures { result ≡ is_set (first_of flag.now (rows_of (found_of matches.now))) }
+{
+    match value(matches, flag) {
+        Some(text) => text == "true",
+        None => false,
+    }
 }
 
 /// The value of an argument.

@@ -4,6 +4,8 @@
 #![tactic(auto)]
 
 #[cfg(test)]
+mod all_sets;
+#[cfg(test)]
 mod check_devices;
 #[cfg(test)]
 mod checks;

@@ -1,6 +1,9 @@
 //! The texts of examples, and how the replies to them are compared.
 
-use leastfault::{check_bytes, check_bytes_rows, plain_answer, run_bytes, search_bytes};
+use leastfault::{
+    all_bytes, all_report, check_bytes, check_bytes_rows, plain_all, plain_answer, run_bytes,
+    search_bytes,
+};
 use lf_scenario::read;
 use lf_streams::{FromRead, ToWrite};
 use lf_tree::{Tree, to_text};
@@ -25,6 +28,17 @@ pub(crate) fn columns(line: &str) -> (&str, &str) {
 pub(crate) fn push_lines(text: &mut String, lines: &str) -> Result<(), AllocError> {
     for c in lines.chars() {
         text.push(if c == ';' { '\n' } else { c })?;
+    }
+    Ok(())
+}
+
+/// Adds lines that each have an end, with `;` between any two.
+fn push_row(row: &mut String, lines: &str) -> Result<(), AllocError> {
+    for (i, line) in lines.lines().enumerate() {
+        if i > 0 {
+            row.push(';')?;
+        }
+        row.push_str(line)?;
     }
     Ok(())
 }
@@ -87,7 +101,33 @@ fn is_certified(
     Ok(())
 }
 
-/// The search of the text has this status and this reply, and a certificate where there is an answer.
+/// The search of the text that reports all least sets has this status and this reply, and a certificate where there is an answer.
+pub(crate) fn all_replies(
+    rt: &impl Abort,
+    alloc: Global,
+    text: &[u8],
+    row: &str,
+    name: &str,
+) -> Result<(), Fail> {
+    let mut out = Vec::new(alloc);
+    let mut source = FromRead::new(text);
+    let searched = all_bytes(alloc, &mut source, &mut ToWrite::new(&mut out))?;
+    is_certified(rt, alloc, text, searched.status, &searched.tree, name)?;
+    is_reply(rt, alloc, out.as_slice(), searched.status, row, name)
+}
+
+/// What the plain search reports of all least sets of the text's scenario, as a row in which a `;` ends each line but the last.
+fn plain_row(alloc: Global, status: &str, text: &[u8]) -> Result<String, Fail> {
+    let scenario = read(alloc, text)?;
+    let sets = plain_all(alloc, &scenario)?;
+    let report = all_report(alloc, scenario.setting().spec.budget(), sets.as_slice())?;
+    let mut row = format!(in alloc; "{status}|")?;
+    push_row(&mut row, report.as_str())?;
+    Ok(row)
+}
+
+/// The search of the text has this status and this reply, and a certificate where there is an answer. One that reports all least sets
+/// replies the same without an answer, and else with what the plain search finds.
 pub(crate) fn search_replies(
     rt: &impl Abort,
     alloc: Global,
@@ -99,7 +139,13 @@ pub(crate) fn search_replies(
     let mut source = FromRead::new(text);
     let searched = search_bytes(alloc, &mut source, &mut ToWrite::new(&mut out))?;
     is_certified(rt, alloc, text, searched.status, &searched.tree, name)?;
-    is_reply(rt, alloc, out.as_slice(), searched.status, row, name)
+    is_reply(rt, alloc, out.as_slice(), searched.status, row, name)?;
+    let (status, _reply) = columns(row);
+    if status == "2" {
+        return all_replies(rt, alloc, text, row, name);
+    }
+    let all = plain_row(alloc, status, text)?;
+    all_replies(rt, alloc, text, all.as_str(), name)
 }
 
 /// The tree that the search of the text hands out has this text.
@@ -196,6 +242,18 @@ pub(crate) fn checks(
             expected,
             row,
         )?;
+    }
+    Ok(())
+}
+
+/// For each line of the table, bounds, further lines, a status and a reply: the search of that scenario that reports all least sets has
+/// this reply.
+pub(crate) fn searches_for_all(rt: &impl Abort, alloc: Global, table: &str) -> Result<(), Fail> {
+    for row in table.lines() {
+        let (numbers, rest) = columns(row);
+        let (lines, expected) = columns(rest);
+        let text = scenario(alloc, numbers, lines)?;
+        all_replies(rt, alloc, text.as_bytes(), expected, row)?;
     }
     Ok(())
 }

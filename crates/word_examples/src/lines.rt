@@ -31,10 +31,13 @@ fn why(unasked: &Unasked) -> &'static str {
 /// What the words ask for, as a table says it.
 fn said(alloc: Global, words: &str) -> Result<String, AllocError> {
     match asked(alloc, owned(alloc, words)?.as_slice()) {
-        Ok(Asked::Search { file, tree }) => match tree {
-            Some(tree) => format!(in alloc; ";search;{file};tree;{tree}"),
-            None => format!(in alloc; ";search;{file}"),
-        },
+        Ok(Asked::Search { file, tree, all }) => {
+            let told = if all { ";all" } else { "" };
+            match tree {
+                Some(tree) => format!(in alloc; ";search;{file};tree;{tree}{told}"),
+                None => format!(in alloc; ";search;{file}{told}"),
+            }
+        }
         Ok(Asked::Run { file, faults }) => format!(in alloc; ";run;{file};{faults}"),
         Ok(Asked::Check { file, tree }) => format!(in alloc; ";check;{file};{tree}"),
         Err(unasked) => String::from_str(alloc, why(&unasked)),
@@ -67,6 +70,11 @@ fn searches_name_their_file(rt: HostRuntime) -> Result<(), Fail> {
         ";search;--tree;a.json;a.toml|;search;a.toml;tree;a.json\n",
         ";search;-;--tree=-|;search;-;tree;-\n",
         ";search;a;--tree;-|;search;a;tree;-\n",
+        ";search;a;--all|;search;a;all\n",
+        ";search;--all;-|;search;-;all\n",
+        ";search;--;--all|;search;--all\n",
+        ";search;--all;a;--tree;t|;search;a;tree;t;all\n",
+        ";search;--tree=--all;a|;search;a;tree;--all\n",
     );
     check_lines(&rt, rt.alloc(), table)
 }
@@ -113,6 +121,13 @@ fn wrong_words_are_refused(rt: HostRuntime) -> Result<(), Fail> {
         ";search;--tree|wrong\n",
         ";search;--tree;a.json|wrong\n",
         ";search;a;--tree;b;--tree;c|wrong\n",
+        ";search;--all|wrong\n",
+        ";search;--tree;--all;a|wrong\n",
+        ";search;a;--all;--all|wrong\n",
+        ";search;a;--all=true|wrong\n",
+        ";search;a;--al|wrong\n",
+        ";run;a;;--all|wrong\n",
+        ";check;a;b;--all|wrong\n",
         ";run;a;;--tree;b|wrong\n",
         ";--;search;a|wrong\n",
         ";Search;a|wrong\n",
