@@ -27,7 +27,7 @@ build() {
 # The program, as it is called once it is installed.
 leastfault() { "$program" "$@"; }
 
-# The status that a reply ends with, by its first and its last line.
+# The status that a reply ends with, by its first and its last line. A command that isn't the program's prints nothing.
 status_of() {
     case "$1" in
     least* | all*) echo 1 ;;
@@ -36,6 +36,7 @@ status_of() {
     refused* | full*) echo 2 ;;
     *reaches) echo 0 ;;
     *misses) echo 1 ;;
+    "") echo 0 ;;
     *) echo "no known reply" ;;
     esac
 }
@@ -72,7 +73,7 @@ check_command() {
     compare "$(basename "$1"), $2" "${3%$'\n'}" "$printed" "$status"
 }
 
-# Of a page: each line '$ leastfault ..' of a block, with the lines that follow it in the block.
+# Of a page: each line '$ ..' of a block, with the lines that follow it in the block.
 check_page() {
     local line command="" expected="" inside=0
     while IFS= read -r line; do
@@ -81,7 +82,7 @@ check_page() {
             check_command "$1" "$command" "$expected"
             command="" expected="" inside=$((1 - inside))
             ;;
-        '$ leastfault '*)
+        '$ '*)
             check_command "$1" "$command" "$expected"
             command=${line#'$ '} expected=""
             ;;
@@ -103,5 +104,6 @@ build
 check_examples
 check_page "$top/README.md"
 check_page "$top/docs/GUIDE.md"
+check_page "$here/README.md"
 check_guide
 exit "$wrong"
