@@ -28,7 +28,7 @@ build() {
 # The program, as it is called once it is installed.
 leastfault() { "$program" "$@"; }
 
-# The status that a reply ends with, by its first and its last line.
+# The status that a reply ends with, by its first and its last line. A command that isn't the program's prints nothing.
 status_of() {
     case "$1" in
     least* | all*) echo 1 ;;
@@ -38,6 +38,7 @@ status_of() {
     read* | write* | memory*) echo 3 ;;
     *reaches) echo 0 ;;
     *misses) echo 1 ;;
+    "") echo 0 ;;
     *) echo "no known reply" ;;
     esac
 }
@@ -74,7 +75,7 @@ check_command() {
     compare "$(basename "$1"), $2" "${3%$'\n'}" "$printed" "$status"
 }
 
-# Of a page: each line '$ .. leastfault ..' of a block, with the lines that follow it in the block.
+# Of a page: each line '$ ..' of a block, with the lines that follow it in the block.
 check_page() {
     local line command="" expected="" inside=0
     while IFS= read -r line; do
@@ -83,7 +84,7 @@ check_page() {
             check_command "$1" "$command" "$expected"
             command="" expected="" inside=$((1 - inside))
             ;;
-        '$ '*'leastfault '*)
+        '$ '*)
             check_command "$1" "$command" "$expected"
             command=${line#'$ '} expected=""
             ;;
