@@ -1,9 +1,10 @@
 -- What each step keeps of a tree of marks, and how it changes the marks.
-use Rattle.std.proofs.Common.{◌≡◌, ℕ, zero, suc, ◌+◌, ◌-◌, ◌^◌, ◌<◌, ◌≤◌, refl, sym, ap, ◌∙◌, subst, arith, Option, Some, None, List, [], ◌∷◌, ◌++◌, length, take, get_or, true, false, Bool, nat_lt, inl, inr}
+use Rattle.std.proofs.Common.{◌≡◌, ℕ, zero, suc, ◌+◌, ◌-◌, ◌^◌, ◌<◌, ◌≤◌, refl, sym, ap, ◌∙◌, subst, arith, Option, Some, None, List, [], ◌∷◌, ◌++◌, length, take, drop, get_or, true, false, Bool, nat_lt, inl, inr}
 use Rattle.std.specs.Prelude.{◌==◌, ◌&&◌, nat_le}
-use Rattle.std.proofs.Common.{Result, Ok, Err, OnErr}
 use Rattle.std.proofs.lemmas.Bool.{cases_lt, eq-eqb, ne_eqb, ltb-true, and_parts, and_from, and_left, and_right}
-use Rattle.std.proofs.lemmas.List.{length_push, length-take-le, take_all}
+use Rattle.std.proofs.lemmas.List.{length_push, length-take-le, take_all, drop_more}
+use Rattle.std.proofs.lemmas.Option.{slice_get_read}
+use Rattle.std.specs.List.{slice_get}
 use Rattle.std.proofs.lemmas.List.Sums.{sum_by_more, sum_by-cons, count_by-le-length}
 use Rattle.lf_marks.specs.Steps.{Mark, Marking, kid_of, kids_beneath, IsAnswer, Took, Answered, GaveBack, WentDown, IsUnmarked, IsMarked, only_root}
 use Rattle.lf_marks.specs.Steps as mark
@@ -12,7 +13,7 @@ use Rattle.lf_marks.specs.Counting.{AreCounts}
 use Rattle.lf_marks.specs.Arena.{look, marks_of, IsState}
 use Rattle.lf_marks.specs.declared.claim.Claim.{Claim}
 use Rattle.lf_marks.specs.declared.set.Set.{Set}
-use Rattle.lf_marks.specs.Walks.{Spot, led_from, marked_from, untaken, width, width_of, is_set, is_open, is_claimed, is_waiting, is_answer, once, times, times_ticket, IsArena, AreListed, IsRemarked, IsGrownBy, IsKept}
+use Rattle.lf_marks.specs.Walks.{Spot, led_from, untaken, width, width_of, is_set, is_open, is_claimed, is_waiting, is_answer, once, times, times_ticket, IsArena, AreListed, IsRemarked, IsGrownBy}
 use Rattle.lf_marks.proofs.WalkLemmas.{marked-led, marked-past, lt-is, lt-not, led-some}
 use Rattle.lf_marks.proofs.ChangeLemmas.{remarked-at, remarked-kids, remarked-others, remarked-arena}
 use Rattle.lf_marks.proofs.GrowLemmas.{kid-open, grown-was, grown-is, grown-others, grown-arena}
@@ -54,6 +55,14 @@ open_low (Some mark.Misses) h k = absurd cc
 open_low (Some mark.Reaches) h k = absurd cc
 open_low (Some (mark.Branch reach edges)) h k = absurd cc
 
+pub last-read : (xs : List ℕ) (x k : ℕ) → 0 < length xs → k ≡ length xs → x ≡ get_or xs (k - 1) x → slice_get xs (length xs - 1) ≡ Some x
+last-read xs x k some ek at =
+    slice_get_read xs (length xs) (length xs - 1) x refl (omega (arith, some)) (at ∙ ap (λ z. get_or xs (z - 1) x) ek)
+
+-- the rest of a queue from a place on
+pub queue-head : (queue : List ℕ) (at x : ℕ) → at < length queue → x ≡ get_or queue at x → drop at queue ≡ x ∷ drop (at + 1) queue
+queue-head queue at x few read = drop_more queue at x few ∙ ap (λ y. y ∷ drop (at + 1) queue) (sym read)
+
 -- where an open or a claimed set stands
 set_within : (level start n : ℕ) (f : ℕ → Spot) (x : ℕ) (m : Mark) → IsArena level start n f → (f x).mark ≡ Some m → x < n
 set_within level start n f x m a h = elim (cases_lt x n) [
@@ -69,25 +78,6 @@ set_low level start n f x m a h plain = elim (cases_lt x start) [
 
 module _ (level start : ℕ) (sets : List Set) (queue next back : List ℕ) (claims : List Claim) (untaken waiting answered : ℕ)
     (s : IsState level start sets queue next back claims untaken waiting answered) where
-  -- the same tree in other places of memory
-  pub state-kept : (sets' : List Set) → IsKept (look sets) (look sets') → length sets' ≡ length sets
-      → IsState level start sets' queue next back claims untaken waiting answered
-  state-kept sets' kept long =
-      let e : look sets' ≡ look sets = λ i y. kept y i in record {
-        shallow = s.shallow;
-        sound = subst (λ f. IsArena level start (length sets') f) (sym e) (subst (λ n. IsArena level start n (look sets)) (sym long) s.sound);
-        listed = subst (λ f. AreListed start (length sets') f queue next back claims) (sym e)
-            (subst (λ n. AreListed start n (look sets) queue next back claims) (sym long) s.listed);
-        counted = subst (λ (f : ℕ → Spot). AreCounts (marked_from f start 0) (untaken + length back) (length claims) answered waiting) (sym e) s.counted;
-        all = omega (arith, s.all, long);
-        few = omega (arith, s.few, long);
-        few_waiting = omega (arith, s.few_waiting, long);
-      }
-
-  pub marks-kept : (sets' : List Set) → IsKept (look sets) (look sets') → (q : List ℕ) → marks_of sets' start q ≡ marks_of sets start q
-  marks-kept sets' kept q =
-      let e : look sets' ≡ look sets = λ i y. kept y i in ap (λ (f : ℕ → Spot). marked_from f start 0 q) e
-
   -- the same lists
   pub state-same : (sets' : List Set) (next' back' : List ℕ) (claims' : List Claim) → sets' ≡ sets → next' ≡ next → back' ≡ back → claims' ≡ claims
       → IsState level start sets' queue next' back' claims' untaken waiting answered
@@ -482,11 +472,6 @@ state-moved level start start' sets queue queue' next next' back claims untaken 
 pub once-le : (b : Bool) → once b ≤ 1
 once-le true = omega arith
 once-le false = omega arith
-
--- a fact of each outcome
-pub on-err : {T E P : Type 0} (r : Result T E) → P → OnErr r P
-on-err (Ok x) p = tt
-on-err (Err e) p = p
 
 -- where nobody gave a set back and the queue is empty, no set is open
 module _ (level start : ℕ) (sets : List Set) (queue next back : List ℕ) (claims : List Claim) (untaken waiting answered : ℕ)
