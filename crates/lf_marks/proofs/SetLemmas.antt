@@ -1,5 +1,6 @@
 -- What places tell after a write.
-use Rattle.std.proofs.Common.{◌≡◌, ◌≢◌, ℕ, zero, suc, ◌+◌, ◌<◌, ◌≤◌, refl, sym, ap, ◌∙◌, arith, cond, Option, Some, None, List, [], ◌∷◌, ◌++◌, length, get_or, slice_set, inl, inr}
+use Rattle.std.proofs.Common.{◌≡◌, ◌≢◌, ℕ, zero, suc, ◌+◌, ◌<◌, ◌≤◌, refl, sym, ap, ◌∙◌, arith, cond, Option, Some, None, List, [], ◌∷◌, ◌++◌, length, get_or}
+use Rattle.std.proofs.Common.{slice_set, inl, inr}
 use Rattle.std.specs.List.{slice_get}
 use Rattle.std.proofs.lemmas.Bool.{cases_eq, cases_lt, cond-true, cond-false, eq-eqb, ne_eqb}
 use Rattle.std.specs.Prelude.{◌==◌}
@@ -110,14 +111,21 @@ pub grown-by : (old wide : List Set) (x t kid depth : ℕ) → IsWidened (look o
     → IsGrownBy (look old) (look (wide ++ (record { parent = x; kid = kid; depth = depth; state = state.Claimed t }) ∷ [])) (length old) x t
 grown-by old wide x t kid depth w long within kid_is depth_is last =
     let k : Set = record { parent = x; kid = kid; depth = depth; state = state.Claimed t } in
-    let here : look (wide ++ k ∷ []) x ≡ look wide x = ap spot_of (slice_get-push_other wide k x (λ e. let never : ⊥ = omega (arith, e, within, long) in never)) in
+    let here : look (wide ++ k ∷ []) x ≡ look wide x = ap spot_of (slice_get-push_other wide k x
+    (λ e. let never : ⊥ = omega (arith, e, within, long) in never)) in
     let first : (look (wide ++ k ∷ []) x).first ≡ cond ((look old x).taken == 0) (length old) (look old x).first =
     ap (λ (p : Spot). p.first) here ∙ ap (λ (p : Spot). p.first) w.grown in record {
       others = λ y other apart. ap spot_of (slice_get-push_other wide k y (λ e. apart (e ∙ long))) ∙ w.others y other;
-      same = λ some. first ∙ cond-false ((look old x).taken == 0) (length old) (look old x).first (ne_eqb (look old x).taken 0 (λ e. let never : ⊥ = omega (arith, e, some) in never));
+      same = λ some. first ∙ cond-false ((look old x).taken == 0) (length old) (look old x).first
+          (ne_eqb (look old x).taken 0 (λ e. let never : ⊥ = omega (arith, e, some) in never));
       place = elim (cases_eq (look old x).taken 0) [
         | inl none ↦ omega (arith, none, first, cond-true ((look old x).taken == 0) (length old) (look old x).first (eq-eqb (look old x).taken 0 none))
-        | inr some ↦ omega (arith, first, cond-false ((look old x).taken == 0) (length old) (look old x).first (ne_eqb (look old x).taken 0 some), last (omega (arith, some)))
+        | inr some ↦ omega (
+          arith,
+          first,
+          cond-false ((look old x).taken == 0) (length old) (look old x).first (ne_eqb (look old x).taken 0 some),
+          last (omega (arith, some)),
+        )
       ];
       grown = here ∙ w.grown ∙ ap (λ f. widened (look old x) f) (sym first);
       kid = ap (look (wide ++ k ∷ [])) (sym long) ∙ ap spot_of (slice_get-push_last wide k)

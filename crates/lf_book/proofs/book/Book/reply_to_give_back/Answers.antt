@@ -24,7 +24,8 @@ returns-in-Ok-clause-held c =
 pub returns-in-Err-clause-gives : goal.returns-in-Err-clause-gives
 returns-in-Err-clause-gives c =
     keeps-held c.args.jobs.now.items c.args.place c.remove.result (omega (arith, c.len.ensures, c.if-place-len.false)) c.remove.ensures.value
-    c.args.self.now c.requires (state_of c.give_back.new.self) c.in-Err.ensures.refused (same-book c.args.self.now c.give_back.new.self c.in-Err.ensures.unchanged)
+    c.args.self.now c.requires (state_of c.give_back.new.self) c.in-Err.ensures.refused
+    (same-book c.args.self.now c.give_back.new.self c.in-Err.ensures.unchanged)
 
 pub returns-in-Err-clause-left : goal.returns-in-Err-clause-left
 returns-in-Err-clause-left c = left-held c.args.jobs.now.items c.remove.new.self.items c.args.place c.remove.ensures.by_index.2

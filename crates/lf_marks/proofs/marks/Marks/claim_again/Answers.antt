@@ -17,7 +17,8 @@ put_state-requires-clause-first c =
     let m = c.args.self.now in
     let some = last-some m.opened.items c.index-place.result.now c.len.result c.requires.some (omega (arith, c.len.ensures, m.opened.ok))
     c.index-place.ensures in
-    (open-kids (slice_get m.sets.items c.index-place.result.now) (again-was m.level m.start m.sets.items (drop m.at m.queue.items) m.coming.items m.opened.items m.claims.items m.untaken m.waiting
+    (open-kids (slice_get m.sets.items c.index-place.result.now) (again-was m.level m.start m.sets.items
+    (drop m.at m.queue.items) m.coming.items m.opened.items m.claims.items m.untaken m.waiting
     m.answered m.state c.index-place.result.now some)).0
 
 pub put_state-requires-clause-taken : goal.put_state-requires-clause-taken
@@ -25,7 +26,8 @@ put_state-requires-clause-taken c =
     let m = c.args.self.now in
     let some = last-some m.opened.items c.index-place.result.now c.len.result c.requires.some (omega (arith, c.len.ensures, m.opened.ok))
     c.index-place.ensures in
-    (open-kids (slice_get m.sets.items c.index-place.result.now) (again-was m.level m.start m.sets.items (drop m.at m.queue.items) m.coming.items m.opened.items m.claims.items m.untaken m.waiting
+    (open-kids (slice_get m.sets.items c.index-place.result.now) (again-was m.level m.start m.sets.items
+    (drop m.at m.queue.items) m.coming.items m.opened.items m.claims.items m.untaken m.waiting
     m.answered m.state c.index-place.result.now some)).1
 
 pub invariant_of-self : goal.invariant_of-self

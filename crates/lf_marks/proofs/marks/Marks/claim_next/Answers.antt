@@ -40,7 +40,8 @@ invariant_of-self-2 c =
     let m = c.args.self.now in
     let head = queue-head m.queue.items m.at c.index-parent.result.now c.requires.some c.index-parent.ensures in
     let n : length m.sets.items ≡ c.len-place.result = omega (arith, c.len-place.ensures, m.sets.ok) in
-    let widened = subst (λ (k : ℕ). IsWidened (look m.sets.items) (look c.add_kid.new.sets.items) c.index-parent.result.now k) (sym n) c.add_kid.ensures.widened in
+    let widened = subst (λ (k : ℕ). IsWidened (look m.sets.items) (look c.add_kid.new.sets.items) c.index-parent.result.now k)
+    (sym n) c.add_kid.ensures.widened in
     let level = next-level m.level m.start m.sets.items (drop m.at m.queue.items) m.coming.items m.opened.items m.claims.items m.untaken m.waiting
     m.answered m.state c.index-parent.result.now (drop (m.at + 1) m.queue.items) head in
     let by = grown-by m.sets.items c.add_kid.new.sets.items c.index-parent.result.now c.args.ticket c.taken-kid.result m.level widened c.add_kid.ensures.length
@@ -79,7 +80,8 @@ returns-clause-took c p it =
     let m = c.args.self.now in
     let head = queue-head m.queue.items m.at c.index-parent.result.now c.requires.some c.index-parent.ensures in
     let n : length m.sets.items ≡ c.len-place.result = omega (arith, c.len-place.ensures, m.sets.ok) in
-    let widened = subst (λ (k : ℕ). IsWidened (look m.sets.items) (look c.add_kid.new.sets.items) c.index-parent.result.now k) (sym n) c.add_kid.ensures.widened in
+    let widened = subst (λ (k : ℕ). IsWidened (look m.sets.items) (look c.add_kid.new.sets.items) c.index-parent.result.now k)
+    (sym n) c.add_kid.ensures.widened in
     let level = next-level m.level m.start m.sets.items (drop m.at m.queue.items) m.coming.items m.opened.items m.claims.items m.untaken m.waiting
     m.answered m.state c.index-parent.result.now (drop (m.at + 1) m.queue.items) head in
     let by = grown-by m.sets.items c.add_kid.new.sets.items c.index-parent.result.now c.args.ticket c.taken-kid.result m.level widened c.add_kid.ensures.length
@@ -92,7 +94,8 @@ returns-clause-took c p it =
     let long : length c.push_reserved.new.self.items ≡ length m.sets.items + 1 =
     omega (arith, c.push_reserved.ensures.len, c.push_reserved.new.self.ok, c.add_kid.new.sets.ok, c.add_kid.ensures.length) in
     let same : it.parent ≡ c.index-parent.result.now =
-    same_Some it.parent c.index-parent.result.now (sym it.first ∙ slice_get_read m.queue.items (length m.queue.items) m.at c.index-parent.result.now refl c.requires.some c.index-parent.ensures) in
+    same_Some it.parent c.index-parent.result.now (sym it.first ∙ slice_get_read m.queue.items
+    (length m.queue.items) m.at c.index-parent.result.now refl c.requires.some c.index-parent.ensures) in
     let led : led_from (look m.sets.items) 0 it.front ≡ Some c.index-parent.result.now = it.led ∙ ap (λ (x : ℕ). Some x) same in
     let path : p ≡ kid_of it.front (look m.sets.items c.index-parent.result.now).taken =
     it.whole ∙ ap (λ (x : ℕ). kid_of it.front (look m.sets.items x).taken) same in
