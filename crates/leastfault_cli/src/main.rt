@@ -44,6 +44,8 @@ fn word(fault: BytesFault) -> &'static str {
         BytesFault::Read => "read",
         BytesFault::Write => "write",
         BytesFault::Memory => "memory",
+        // No command asks for workers yet.
+        BytesFault::Pool(_) => "pool",
     }
 }
 
