@@ -1,6 +1,7 @@
 #!/usr/bin/env bash
 # Runs the built program on each example beside this script, and compares the report and the status with the example's
-# first comment; then runs the commands that the READMEs and the guide show, and compares what they print.
+# first comment; then runs the commands that the READMEs and the guide show, and compares what they print. What goes to
+# standard error counts as printed too.
 # Wants the Rattle kit; the first time it proves the program, which takes some minutes.
 set -euo pipefail
 here=$(cd "$(dirname "$0")" && pwd)
@@ -27,15 +28,17 @@ build() {
 # The program, as it is called once it is installed.
 leastfault() { "$program" "$@"; }
 
-# The status that a reply ends with, by its first and its last line.
+# The status that a reply ends with, by its first and its last line. A command that isn't the program's prints nothing.
 status_of() {
     case "$1" in
     least* | all*) echo 1 ;;
     none* | yes) echo 0 ;;
     "no "*) echo 1 ;;
     refused* | full*) echo 2 ;;
+    read* | write* | memory*) echo 3 ;;
     *reaches) echo 0 ;;
     *misses) echo 1 ;;
+    "") echo 0 ;;
     *) echo "no known reply" ;;
     esac
 }
@@ -59,7 +62,7 @@ check_examples() {
     for example in "$here"/*.toml; do
         report=$(awk '/^#   / { sub(/^#   /, ""); print; seen = 1; next } seen { exit }' "$example")
         status=0
-        printed=$(leastfault search "$example") || status=$?
+        printed=$(leastfault search "$example" 2>&1) || status=$?
         compare "$(basename "$example")" "$report" "$printed" "$status"
     done
 }
@@ -68,11 +71,11 @@ check_examples() {
 check_command() {
     local printed status=0
     [ -n "$2" ] || return 0
-    printed=$(cd "$room" && eval "$2") || status=$?
+    printed=$(cd "$room" && eval "$2" 2>&1) || status=$?
     compare "$(basename "$1"), $2" "${3%$'\n'}" "$printed" "$status"
 }
 
-# Of a page: each line '$ leastfault ..' of a block, with the lines that follow it in the block.
+# Of a page: each line '$ ..' of a block, with the lines that follow it in the block.
 check_page() {
     local line command="" expected="" inside=0
     while IFS= read -r line; do
@@ -81,7 +84,7 @@ check_page() {
             check_command "$1" "$command" "$expected"
             command="" expected="" inside=$((1 - inside))
             ;;
-        '$ leastfault '*)
+        '$ '*)
             check_command "$1" "$command" "$expected"
             command=${line#'$ '} expected=""
             ;;

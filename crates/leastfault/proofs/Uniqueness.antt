@@ -32,7 +32,7 @@ use Rattle.leastfault.specs.Reports.{all_report, full_line, no_line, refusal, re
 use Rattle.leastfault.specs.Replies.{HandsOut, HasOneReply, IsAllReply, IsCheckReply, IsReplyWith, IsRunReply, IsSearchReply, IsTreeFor}
 use Rattle.leastfault.specs.Replies.{RepliesAll, RepliesCheck, RepliesNoSet, RepliesReport}
 use Rattle.leastfault.specs.Replies.{RepliesRefusal, RepliesSearch, RepliesTrace, RepliesTreeRefusal, RepliesVerdict}
-use Rattle.leastfault.proofs.LeastSets.{least_one}
+use Rattle.leastfault.proofs.LeastSets.{first_of_least, least_one}
 use Rattle.leastfault.proofs.TreeTexts.{tree_faults_one, tree_not_refused, trees_one}
 
 -- scenarios that are the same have one answer
@@ -122,6 +122,23 @@ search_replies_one text = with_one RepliesReport report_one text
 
 pub all_replies_one : IsTotalOrder set_cmp → (text : List ℕ) → HasOneReply (IsAllReply text)
 all_replies_one total text = with_one RepliesAll (all_report_one total) text
+
+-- which reports what plays no part in the status
+statuses_one : (s t : Scenario) → AreSame s t → (one other : List ℕ) (m n : ℕ) → RepliesSearch RepliesReport s one m → RepliesSearch RepliesAll t other n
+    → m ≡ n
+statuses_one s t same one other m n (inl a) (inl b) = a.4 ∙ sym b.4
+statuses_one s t same one other m n (inl a) (inr b) = absurd (b.1 a.0 a.1 (full_of_same s t same a.0 a.1 a.2))
+statuses_one s t same one other m n (inr a) (inl b) = absurd (a.1 b.0 b.1 (full_of_same t s (back s t same) b.0 b.1 b.2))
+statuses_one s t same one other m n (inr a) (inr b) =
+    let first = first_of_least (world_of s.setting) s.setting.spec s.formula a.0 b.0 a.2 (least_of_same t s b.0 (back s t same) b.2) in
+    a.4 ∙ ap search_status first ∙ sym b.4
+
+pub statuses_agree : (text one other : List ℕ) (m n : ℕ) → IsSearchReply text one m → IsAllReply text other n → m ≡ n
+statuses_agree text one other m n (inl a) (inl b) = a.3 ∙ sym b.3
+statuses_agree text one other m n (inl a) (inr b) = absurd (refused_is_no_text text a.0 b.0 a.1 b.1)
+statuses_agree text one other m n (inr a) (inl b) = absurd (refused_is_no_text text b.0 a.0 b.1 a.1)
+statuses_agree text one other m n (inr a) (inr b) =
+    statuses_one a.0 b.0 (scenarios_are_one text a.0 b.0 a.1 b.1) one other m n a.2 b.2
 
 -- one tree is handed out
 tree_of_same : (s t : Scenario) (tree : Tree) → AreSame s t → IsTreeFor s tree → IsTreeOf (world_of t.setting) t.setting.spec t.formula tree

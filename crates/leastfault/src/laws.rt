@@ -31,11 +31,12 @@ pub fn least_sets_are_one()
     orders_are_total();
 }
 
-/// A text has at most one reply of a search, with one status and one tree that is handed out, whether it reports the answer or all
-/// least sets, and with these words at most one of a run.
+/// A text has at most one reply of a search that reports the answer, and one of a search that reports all least sets, both with one
+/// status and one tree that is handed out; and with these words at most one of a run.
 pub fn replies_are_one(faults: &str)
     ensures search { (text : List ℕ) → HasOneReply (IsSearchReply text) }
     ensures all { (text : List ℕ) → HasOneReply (IsAllReply text) }
+    ensures status { (text one other : List ℕ) (m n : ℕ) → IsSearchReply text one m → IsAllReply text other n → m ≡ n }
     ensures tree { (text : List ℕ) (status : ℕ) (one other : Option Tree) → HandsOut text one status → HandsOut text other status → one ≡ other }
     ensures run { (text : List ℕ) → HasOneReply (IsRunReply faults.now text) }
 {

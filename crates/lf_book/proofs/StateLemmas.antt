@@ -1,10 +1,9 @@
 -- States of a book, and what events make of them.
-use Rattle.std.proofs.Common.{◌≡◌, ℕ, ◌+◌, ◌<◌, ◌≤◌, refl, sym, ap, ◌∙◌, subst, arith, Bool, List, [], ◌∷◌, inl, inr, true, false, IsSome, is_some}
+use Rattle.std.proofs.Common.{◌≡◌, ℕ, ◌+◌, ◌<◌, ◌≤◌, refl, sym, ap, ◌∙◌, subst, arith, Bool, List, inl, inr, true, false, IsSome, is_some}
 use Rattle.std.specs.Prelude.{◌⊎◌, Option, None, Some}
 use Rattle.std.proofs.Math.Bool.{Bool-set}
 use Rattle.std.proofs.Math.Nat.{ℕ_set}
 use Rattle.std.proofs.Math.Path.{fun_ext}
-use Rattle.std.proofs.lemmas.Bool.{cases_eq}
 use Rattle.std.specs.Coded.{le_prop}
 use mathlib.Core.HLevel.{Σ_prop_path}
 use mathlib.Core.List.{is_set}
@@ -24,7 +23,9 @@ use Rattle.lf_search.specs.Events.{TakesSet, IsDone, FindsFull}
 use Rattle.lf_search.specs.Levels.{IsFullAt}
 use Rattle.lf_search.specs.States.{State, IsSameState, last_ticket}
 use Rattle.lf_search.specs.Tasks.{Task, task_at}
-use Rattle.lf_search.proofs.Laws.{take_closed, take_first, take_tasks, task_stands, stands_once, finds_answer, finds_full}
+use Rattle.lf_search.proofs.Laws.{take_closed, take_first, task_stands, stands_once, finds_answer, finds_full}
+use Rattle.lf_book.specs.Books.{state_of}
+use Rattle.lf_book.specs.declared.book.Book.{Book}
 use Rattle.lf_book.proofs.CountLemmas.{count-most}
 
 -- a state in which nothing changed is the same
@@ -44,28 +45,18 @@ state-one old new same =
     ap (λ (x : Marking). make old.level old.next old.finished x) marks in
     by-level ∙ by-next ∙ by-end ∙ by-marks
 
+-- as the book that is the same shows it
+pub same-book : (old new : Book) → new ≡ old → IsSameState (state_of old) (state_of new)
+same-book old new is =
+    let e : state_of new ≡ state_of old = ap state_of is in record {
+      level = ap (λ (s : State). s.level) e;
+      next = ap (λ (s : State). s.next) e;
+      finished = ap (λ (s : State). s.finished) e;
+      marks = λ q. ap (λ (s : State). s.marks q) e;
+    }
+
 is-there : (o : Option Mark) (m : Mark) → o ≡ Some m → IsSome o
 is-there o m h = ap is_some h
-
--- whether two paths are one
-cases_path : (p q : List ℕ) → (p ≡ q) ⊎ (p ≡ q → ⊥)
-cases_path [] [] = inl refl
-cases_path [] (j ∷ q) = inr (λ e. cc)
-cases_path (i ∷ p) [] = inr (λ e. cc)
-cases_path (i ∷ p) (j ∷ q) = elim (cases_eq i j) [
-  | inr other ↦ inr (λ e. other cc)
-  | inl same ↦ elim (cases_path p q) [
-    | inl rest ↦ inl cc
-    | inr apart ↦ inr (λ e. apart cc)
-  ]
-]
-
--- a set that is taken and given back is as it was
-pub taken-back : (p : List ℕ) (t : ℕ) (old mid new : Marking) → Took p t old mid → GaveBack p t mid new → IsSame old new
-taken-back p t old mid new took back q = elim (cases_path q p) [
-  | inl same ↦ ap new same ∙ back.is ∙ sym took.was ∙ ap old (sym same)
-  | inr other ↦ back.others q other ∙ took.others q other
-]
 
 -- where no open set and no claim is counted, each set of the level is answered
 pub all-done : (at : Marking) (r c a w : ℕ) → r ≤ 0 → c ≤ 0 → AreCounts at r c a w → IsDone at
@@ -104,7 +95,7 @@ module _ {Local Note Fact : Type 0} (w : World Local Note Fact) (b : Bounds) (fo
   -- an open set was claimed by the next ticket
   module _ (path : List ℕ) (going : old.finished ≡ false) (room : old.next < last_ticket) (took : Took path old.next old.marks new.marks)
       (next : new.next ≡ old.next + 1) (level : new.level ≡ old.level) (finished : new.finished ≡ old.finished) where
-    takes : (task : Task) → task_at old.marks path ≡ Some task → TakesSet path old.next task old new
+    pub takes : (task : Task) → task_at old.marks path ≡ Some task → TakesSet path old.next task old new
     takes task works = record {
       going = going;
       room = room;
@@ -115,19 +106,6 @@ module _ {Local Note Fact : Type 0} (w : World Local Note Fact) (b : Bounds) (fo
       level = level;
       finished = finished;
     }
-
-    task_by : (o : Option Task) → task_at old.marks path ≡ o → (t : Task) × (task_at old.marks path ≡ Some t)
-    task_by None is = absurd (∥∥₁_elim mere (λ x y. absurd x) (λ closed.
-        let t = task_stands w b formula most old closed path (is-there (old.marks path) mark.Open took.was) in
-        let no : None ≡ Some t.0 = sym is ∙ t.1 in
-        cc))
-    task_by (Some t) is = (t, is)
-
-    -- and is worked with what leads to it
-    pub took-set : (task : Task) → task_at new.marks path ≡ Some task → TakesSet path old.next task old new
-    took-set task works =
-        let t = task_by (task_at old.marks path) refl in
-        takes task (take_tasks path old.next t.0 old new (takes t.0 t.1) path ∙ works)
 
     pub claimed-closed : IsShape new.level new.marks → ∥ IsClosed w b formula most new ∥₁
     claimed-closed shape = ∥∥₁_map mere (λ closed.

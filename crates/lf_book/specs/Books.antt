@@ -59,6 +59,14 @@ IsTaken old new taken.LevelDone = FindsLevelDone (state_of old) (state_of new)
 IsTaken old new taken.Finished = FindsFinished (state_of old) (state_of new)
 IsTaken old new taken.Spent = FindsSpent (state_of old) (state_of new)
 
+-- where a take gives no job
+abbrev pub IfNoJob : Taken → Type 0 → Type 0
+IfNoJob (taken.Job job) P = ⊤
+IfNoJob taken.Busy P = P
+IfNoJob taken.LevelDone P = P
+IfNoJob taken.Finished P = P
+IfNoJob taken.Spent P = P
+
 -- a take was near what it took: the steps are at most one more than the kids of the sets above, and at most one where there is no job
 abbrev pub IsNear : Marking → Taken → ℕ → ℕ → Type 0
 IsNear at (taken.Job job) old new = new ≤ old + 1 + kids_above at job.path.items
@@ -111,6 +119,14 @@ Deepens s deepened.Down old new = GoesDown s.setting.spec s.max_sets old new
 
 abbrev pub IsDeepened : Book → Book → Deepened → Type 0
 IsDeepened old new d = Deepens (scenario_of old) d (state_of old) (state_of new)
+
+-- where the search neither ends nor goes on
+abbrev pub IfStays : Deepened → Type 0 → Type 0
+IfStays deepened.NotDone P = P
+IfStays deepened.Answer P = ⊤
+IfStays deepened.NoneWithin P = ⊤
+IfStays (deepened.Full count) P = P
+IfStays deepened.Down P = ⊤
 
 -- where a search is full, the next level is the first that is too full, it has so many sets, and all smaller allowed sets reach
 abbrev pub ShowsFull : Scenario → State → Deepened → Type 0

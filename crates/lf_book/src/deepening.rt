@@ -1,7 +1,7 @@
 //! The next level, or the end of a search.
 
-ghost use Rattle.std.specs.Prelude.{◌≡◌, ℕ, ◌+◌, ◌^◌, ◌<◌};
-ghost use Rattle.lf_book.specs.Books.{scenario_of, state_of, IsDeepened, ShowsFull};
+ghost use Rattle.std.specs.Prelude.{◌≡◌, ℕ, ◌+◌, ◌^◌, ◌<◌, true};
+ghost use Rattle.lf_book.specs.Books.{scenario_of, state_of, IfStays, IsDeepened, ShowsFull};
 ghost use Rattle.lf_marks.specs.Marks.{mark_at, level_of, waiting_of};
 ghost use Rattle.lf_marks.specs.Steps.{IsShape, IsUnmarked, WentDown};
 ghost use Rattle.lf_marks.specs.Steps as mark;
@@ -30,13 +30,18 @@ pub enum Deepened {
 
 impl Book {
     /// Ends the search, or goes on to the sets with one fault more, once each set of the level is answered. Only `Down` and the first
-    /// `Answer` or `NoneWithin` change the book. `Full` tells that the next level is the first that is too full, and that every allowed set
-    /// with fewer faults reaches. It takes no memory.
+    /// `Answer` or `NoneWithin` change the book: once the search has ended the answer is the same again. `Full` tells that the next level
+    /// is the first that is too full, and that every allowed set with fewer faults reaches. It takes no memory.
     pub fn deepen(&mut self) -> Deepened
         ensures deepened { IsDeepened self.old self.new result }
         ensures full { ShowsFull (scenario_of self.old) (state_of self.old) result }
+        ensures unchanged { IfStays result (self.new ≡ self.old) }
+        ensures again { (state_of self.old).finished ≡ true → self.new ≡ self.old }
         ensures scenario { scenario_of self.new ≡ scenario_of self.old }
     {
+        if self.finished {
+            return self.ending();
+        }
         let counts = self.marks.counts();
         if counts.ready > 0 {
             return Deepened::NotDone;
@@ -60,6 +65,18 @@ impl Book {
         }
         lower(&mut self.marks);
         Deepened::Down
+    }
+
+    /// How the search has ended.
+    fn ending(&self) -> Deepened
+        requires { (state_of self.now).finished ≡ true }
+        ensures deepened { IsDeepened self.now self.now result }
+        ensures full { ShowsFull (scenario_of self.now) (state_of self.now) result }
+    {
+        match self.least {
+            Some(_) => Deepened::Answer,
+            None => Deepened::NoneWithin,
+        }
     }
 }
 

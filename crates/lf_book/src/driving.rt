@@ -4,7 +4,6 @@ ghost use Rattle.std.specs.Prelude.{◌≡◌, [], map, slice_get, IfOk, OnOk, O
 ghost use Rattle.lf_book.specs.Books.{scenario_of, state_of};
 ghost use Rattle.lf_book.specs.Drives.{Does, DoesFile, DoesGiveBack, DoesTake, Drives, DrivesSome, without};
 ghost use Rattle.lf_book.specs.Holding.{IsHeldOf, held_of};
-ghost use Rattle.lf_search.specs.States.{IsSameState};
 
 use crate::book::Book;
 use crate::deepening::Deepened;
@@ -83,7 +82,7 @@ impl Book {
         ensures does { IfOk result (λ reply. Does (scenario_of self.old) (map held_of jobs.old.items) event reply (map held_of jobs.new.items)
             (state_of self.old) (state_of self.new)) }
         ensures held { OnOk result (All (IsHeldOf (scenario_of self.new) (state_of self.new)) jobs.new.items) }
-        ensures err { OnErr result (IsSameState (state_of self.old) (state_of self.new)) }
+        ensures err { OnErr result (self.new ≡ self.old) }
         ensures scenario { scenario_of self.new ≡ scenario_of self.old }
     {
         match event {
@@ -104,7 +103,7 @@ impl Book {
         ensures takes { IfOk result (λ reply. DoesTake (map held_of jobs.old.items) reply (map held_of jobs.new.items)
             (state_of self.old) (state_of self.new)) }
         ensures held { OnOk result (All (IsHeldOf (scenario_of self.new) (state_of self.new)) jobs.new.items) }
-        ensures err { OnErr result (IsSameState (state_of self.old) (state_of self.new)) }
+        ensures err { OnErr result (self.new ≡ self.old) }
         ensures scenario { scenario_of self.new ≡ scenario_of self.old }
     {
         jobs.reserve(1)?;
@@ -128,7 +127,7 @@ impl Book {
             (state_of self.old) (state_of self.new)) }
         ensures left { OnOk result (map held_of jobs.new.items ≡ without (map held_of jobs.old.items) place) }
         ensures held { OnOk result (All (IsHeldOf (scenario_of self.new) (state_of self.new)) jobs.new.items) }
-        ensures err { OnErr result (IsSameState (state_of self.old) (state_of self.new)) }
+        ensures err { OnErr result (self.new ≡ self.old) }
         ensures scenario { scenario_of self.new ≡ scenario_of self.old }
     {
         if place >= jobs.len() {

@@ -10,7 +10,6 @@ ghost use Rattle.lf_marks.specs.Marks.{mark_at, level_of};
 ghost use Rattle.lf_marks.specs.Steps.{Answered, GaveBack, Reclaimed, IsMarked, IsShape};
 ghost use Rattle.lf_marks.specs.Steps as marking;
 ghost use Rattle.lf_search.specs.Events.{Reclaims};
-ghost use Rattle.lf_search.specs.States.{IsSameState};
 
 use crate::book::Book;
 use lf_faults::{Fault, FaultSet};
@@ -52,7 +51,7 @@ impl Book {
         ensures refused { IfErr result (λ back. IsRefusedFor self.old finding.ticket (arc_value finding.scenario) finding.path.items
             (task_of_finding finding) back.0) }
         ensures back { IfErr result (λ back. back.1 ≡ finding) }
-        ensures same { OnErr result (IsSameState (state_of self.old) (state_of self.new)) }
+        ensures unchanged { OnErr result (self.new ≡ self.old) }
         ensures scenario { scenario_of self.new ≡ scenario_of self.old }
     {
         let refusal = self.refusal(
@@ -90,7 +89,7 @@ impl Book {
         ensures given { OnOk result (IsGivenBack job self.old self.new) }
         ensures refused { OnErr result (¬ IsClaimOf self.old job.ticket (arc_value job.scenario) job.path.items (task_of_job job)) }
         ensures back { IfErr result (λ back. back ≡ job) }
-        ensures same { OnErr result (IsSameState (state_of self.old) (state_of self.new)) }
+        ensures unchanged { OnErr result (self.new ≡ self.old) }
         ensures scenario { scenario_of self.new ≡ scenario_of self.old }
     {
         let refusal = self.refusal(

@@ -1,14 +1,14 @@
 //! Taking a set to work it.
 
 ghost use Rattle.std.specs.Prelude.{◌≡◌, ◌<◌, false, IsSome, IfOk, OnErr};
-ghost use Rattle.lf_book.specs.Books.{scenario_of, state_of, IsTaken, IsNear, IsJobFor};
+ghost use Rattle.lf_book.specs.Books.{scenario_of, state_of, IfNoJob, IsTaken, IsNear, IsJobFor};
 ghost use Rattle.lf_book.specs.declared.taking.Taken.TheVariants as taken;
 ghost use Rattle.lf_marks.specs.Steps.{IsUnmarked};
 ghost use Rattle.lf_marks.specs.Steps as mark;
-ghost use Rattle.lf_search.specs.States.{IsSameState, last_ticket};
+ghost use Rattle.lf_search.specs.States.{last_ticket};
 
 use crate::book::Book;
-use lf_marks::Steps;
+use lf_marks::{Claimable, Steps};
 use lf_work::Job;
 use std::alloc::AllocError;
 use std::marker::Brand;
@@ -38,7 +38,8 @@ impl Book {
     /// any answer but a job, the book is as it was.
     pub fn take(&mut self) -> Result<Taken, AllocError>
         ensures taken { IfOk result (IsTaken self.old self.new) }
-        ensures err { OnErr result (IsSameState (state_of self.old) (state_of self.new)) }
+        ensures unchanged { IfOk result (λ taken. IfNoJob taken (self.new ≡ self.old)) }
+        ensures err { OnErr result (self.new ≡ self.old) }
         ensures scenario { scenario_of self.new ≡ scenario_of self.old }
     {
         self.take_from::<Brand>(Blank::new(1))
@@ -50,7 +51,8 @@ impl Book {
         requires parts { blank.parts ≡ L.parts }
         requires some { 0 < blank.parts }
         ensures taken { IfOk result (IsTaken self.old self.new) }
-        ensures err { OnErr result (IsSameState (state_of self.old) (state_of self.new)) }
+        ensures unchanged { IfOk result (λ taken. IfNoJob taken (self.new ≡ self.old)) }
+        ensures err { OnErr result (self.new ≡ self.old) }
         ensures scenario { scenario_of self.new ≡ scenario_of self.old }
     {
         let mut steps = Steps::<L>::new(blank);
@@ -62,7 +64,8 @@ impl Book {
     pub fn take_counted<L: Ledger>(&mut self, steps: &mut Steps<L>) -> Result<Taken, AllocError>
         ensures taken { IfOk result (IsTaken self.old self.new) }
         ensures steps { IfOk result (λ taken. IsNear (state_of self.old).marks taken steps.old steps.new) }
-        ensures err { OnErr result (IsSameState (state_of self.old) (state_of self.new)) }
+        ensures unchanged { IfOk result (λ taken. IfNoJob taken (self.new ≡ self.old)) }
+        ensures err { OnErr result (self.new ≡ self.old) }
         ensures scenario { scenario_of self.new ≡ scenario_of self.old }
     {
         if self.finished {
@@ -81,32 +84,29 @@ impl Book {
         Ok(Taken::Job(self.claim(steps)?))
     }
 
-    /// Claims an open set, and tells its job.
+    /// Claims an open set, and tells its job. All memory is taken before the book is changed.
     fn claim<L: Ledger>(&mut self, steps: &mut Steps<L>) -> Result<Job, AllocError>
         requires going { (state_of self.old).finished ≡ false }
         requires ready { ¬ IsUnmarked (state_of self.old).marks mark.Open }
         requires room { (state_of self.old).next < last_ticket }
         ensures taken { IfOk result (λ job. IsTaken self.old self.new (taken.Job job)) }
         ensures steps { IfOk result (λ job. IsNear (state_of self.old).marks (taken.Job job) steps.old steps.new) }
-        ensures err { OnErr result (IsSameState (state_of self.old) (state_of self.new)) }
+        ensures err { OnErr result (self.new ≡ self.old) }
         ensures scenario { scenario_of self.new ≡ scenario_of self.old }
     {
         let ticket = self.next;
-        let claimed = self.marks.take_counted(ticket, steps)?;
-        let Some(path) = claimed else { unreachable!() };
+        let found = self.marks.find_open(steps)?;
+        let Some(Claimable { path, room }) = found else {
+            unreachable!()
+        };
+        let job = self.job(path, ticket)?;
+        self.marks.claim(ticket, room, steps);
         let _level = self.marks.level();
         self.next += 1;
-        match self.job(path, ticket) {
-            Ok(job) => Ok(job),
-            Err(error) => {
-                self.marks.give_back(ticket);
-                self.next = ticket;
-                Err(error)
-            }
-        }
+        Ok(job)
     }
 
-    /// The job of a set that was claimed.
+    /// The job of a set, by a ticket.
     fn job(&self, path: Vec<usize>, ticket: u64) -> Result<Job, AllocError>
         requires { IsSome ((state_of self.now).marks path.items) }
         ensures { IfOk result (IsJobFor self.now path.items ticket) }

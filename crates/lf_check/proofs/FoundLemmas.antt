@@ -1,15 +1,12 @@
 -- What is found where the nodes of a tree are judged one after another, and what it says of the tree.
-use Rattle.std.proofs.Common.{◌≡◌, ℕ, zero, suc, ◌+◌, ◌<◌, ◌≤◌, Bool, true, false, List, [], ◌∷◌, length}
+use Rattle.std.proofs.Common.{◌≡◌, ℕ, ◌+◌, ◌<◌, ◌≤◌, Bool, true, false, List, length}
 use Rattle.std.proofs.Common.{refl, sym, ap, ◌∙◌, subst, arith, inl, inr}
 use Rattle.std.specs.Prelude.{◌⊎◌, slice_get, Option, None, Some, MatchOption}
-use Rattle.std.specs.List.{Contains}
 use Rattle.std.proofs.lemmas.Bool.{both_ways, cases_lt, false≢true}
-use Rattle.std.proofs.lemmas.Option.{none-some, same_Some, slice_get_within, slice_get-get_or}
+use Rattle.std.proofs.lemmas.Option.{none-some, same_Some, slice_get_within}
 use Rattle.lf_faults.specs.declared.fault.Parts.{Parts}
 use Rattle.lf_faults.specs.declared.spec.Bounds.{Bounds}
-use Rattle.lf_faults.specs.Faults.{inserted, set_is_before}
-use Rattle.lf_faults.specs.Allowed.{CanAdd, IsAllowed, IsInLimits}
-use Rattle.lf_faults.proofs.Laws.{length-inserted}
+use Rattle.lf_faults.specs.Faults.{set_is_before}
 use Rattle.lf_sim.specs.Runs.{World}
 use Rattle.lf_outcome.specs.declared.formula.Formula.{Formula}
 use Rattle.lf_outcome.specs.Truth.{reaches}
@@ -18,10 +15,8 @@ use Rattle.lf_tree.specs.declared.tree.Node.{Node, out-Node}
 use Rattle.lf_tree.specs.declared.tree.Node.TheVariants as kind
 use Rattle.lf_tree.specs.declared.tree.Node.TheOpen.{Node-F}
 use Rattle.lf_certificate.specs.declared.reason.Reason.{Reason}
-use Rattle.lf_certificate.specs.Places.{Place, place_from, place_at, root_of}
-use Rattle.lf_certificate.specs.Accepted.{IsRight, IsRightNode, AreRight, MissesIn, IsFirstIn, last_depth}
-use Rattle.lf_certificate.specs.Faults.{path_is_before, Fails, FailsFirst, FailsFirstFrom}
-use Rattle.lf_certificate.proofs.Laws.{right_fails_not}
+use Rattle.lf_certificate.specs.Places.{Place}
+use Rattle.lf_certificate.specs.Accepted.{IsRightNode}
 use Rattle.lf_check.specs.declared.found.Found.TheVariants as found
 use Rattle.lf_check.specs.Nodes.{IsFaultAt, place_of}
 use Rattle.lf_check.specs.Walks.{IsFirstOf, Lowers}
@@ -30,7 +25,6 @@ use Rattle.lf_check.specs.Rows as rows
 use Rattle.lf_check.proofs.FirstsLemmas.{none_some, not_before, not_itself}
 use Rattle.lf_check.proofs.NodeLemmas.{opened-Misses, opened-Reaches, opened-Branch}
 use Rattle.lf_check.proofs.RowLemmas.{place_one, faults_at}
-use Rattle.lf_check.proofs.WayLemmas.{has_node, stands_before}
 
 abbrev is_other : Node-F Node → Bool
 is_other Node-F.Misses = false

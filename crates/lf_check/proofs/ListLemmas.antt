@@ -1,5 +1,5 @@
 -- What is found in the list of all nodes of a tree is what stands in the tree.
-use Rattle.std.proofs.Common.{◌≡◌, ℕ, zero, suc, ◌+◌, ◌<◌, ◌≤◌, false, List, [], ◌∷◌, length, refl, sym, ap, ◌∙◌, subst, arith, inl, inr}
+use Rattle.std.proofs.Common.{◌≡◌, ℕ, zero, suc, ◌+◌, ◌<◌, ◌≤◌, List, [], length, sym, ap, ◌∙◌, subst, arith, inl, inr}
 use Rattle.std.specs.Prelude.{slice_get, slice_index_or, Option, None, Some}
 use Rattle.std.specs.List.{Contains}
 use Rattle.std.proofs.lemmas.Bool.{cases_lt}
@@ -10,7 +10,6 @@ use Rattle.lf_faults.specs.Allowed.{CanAdd, IsInLimits}
 use Rattle.lf_faults.proofs.Laws.{length-inserted}
 use Rattle.lf_sim.specs.Runs.{World}
 use Rattle.lf_outcome.specs.declared.formula.Formula.{Formula}
-use Rattle.lf_outcome.specs.Truth.{reaches}
 use Rattle.lf_tree.specs.declared.tree.Tree.{Tree}
 use Rattle.lf_tree.specs.declared.tree.Node.{Node, out-Node}
 use Rattle.lf_tree.specs.declared.tree.Node.TheOpen.{Node-F}
@@ -21,7 +20,7 @@ use Rattle.lf_certificate.specs.Accepted.{IsRight, IsRightNode, AreRight, Misses
 use Rattle.lf_certificate.specs.Faults.{Fails, FailsFirst, FailsFirstFrom, IsFirstFault}
 use Rattle.lf_certificate.proofs.Laws.{right_fails_not, fault_beneath_root, fault_at_end, accepted_where, first_in_one}
 use Rattle.lf_check.specs.declared.found.Found.TheVariants as found
-use Rattle.lf_check.specs.Rows.{ways_of, StandsAt, edges_in, edges_of, IsBarred, IsSetAt, AreSets, IsFound, AreRightWithin, MissesWithin}
+use Rattle.lf_check.specs.Rows.{ways_of, StandsAt, edges_in, IsBarred, AreSets, IsFound, AreRightWithin, MissesWithin}
 use Rattle.lf_check.specs.Walks.{IsFirstOf}
 use Rattle.lf_check.proofs.FoundLemmas.{first-same}
 use Rattle.lf_check.proofs.RowLemmas.{place_one}

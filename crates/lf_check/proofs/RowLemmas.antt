@@ -1,5 +1,5 @@
 -- The rows of a tree with the ways to their nodes: how a row hangs in the row of its branch, and what it gets from there.
-use Rattle.std.proofs.Common.{◌≡◌, ℕ, zero, suc, ◌+◌, ◌<◌, ◌≤◌, List, [], ◌∷◌, ◌++◌, length, map, take}
+use Rattle.std.proofs.Common.{◌≡◌, ℕ, zero, suc, ◌+◌, ◌<◌, List, [], ◌∷◌, ◌++◌, length, map, take}
 use Rattle.std.proofs.Common.{refl, sym, ap, ◌∙◌, subst, append_assoc, arith}
 use Rattle.std.specs.Prelude.{◌↔◌, slice_get, IsSome, Option, None, Some}
 use Rattle.std.specs.List.{Contains}
@@ -18,7 +18,7 @@ use Rattle.lf_tree.specs.declared.preorder.Row.{Row}
 use Rattle.lf_tree.specs.Rows.{Seen, rows_of, seen}
 use Rattle.lf_tree.proofs.Laws.{linked}
 use Rattle.lf_certificate.specs.Places.{Place, kid_in, kid_at, place_from, root_of, place_at}
-use Rattle.lf_check.specs.Rows.{way_on, ways_of, StandsAt, IsBarred, IsSetAt, AreSets, edges_in, edges_of}
+use Rattle.lf_check.specs.Rows.{way_on, ways_of, StandsAt, IsSetAt, edges_in, edges_of}
 use Rattle.lf_check.proofs.WayLemmas.{all_ways, has_node, way_once, kid_there, last_kid, kid_leads, through}
 
 -- an element of a list that is made of another
@@ -195,8 +195,14 @@ by_level : (y : Node-F Node) (faults excluded : List Parts) (i : ℕ) (edge : Pa
 by_level Node-F.Misses faults excluded i edge node edge_is node_is = absurd (none-some edge edge_is)
 by_level Node-F.Reaches faults excluded i edge node edge_is node_is = absurd (none-some edge edge_is)
 by_level (Node-F.Branch reach edges kids) faults excluded i edge node edge_is node_is =
-    ap (λ (o : Option Parts). option_and_then (λ (e : Parts). option_map (λ (k : Node). let made : Place = record { node = k; faults = inserted e faults; excluded = excluded ++ take i edges } in made) (slice_get kids i)) o) edge_is
-    ∙ ap (λ (o : Option Node). option_map (λ (k : Node). let made : Place = record { node = k; faults = inserted edge faults; excluded = excluded ++ take i edges } in made) o) node_is
+    ap (λ (o : Option Parts). option_and_then (λ (e : Parts). option_map
+    (λ (k : Node). let made : Place = record { node = k; faults = inserted e faults; excluded = excluded ++ take i edges } in made)
+    (slice_get kids i)) o) edge_is
+    ∙ ap (λ (o : Option Node). option_map (λ (k : Node). let made : Place = record {
+      node = k;
+      faults = inserted edge faults;
+      excluded = excluded ++ take i edges;
+    } in made) o) node_is
 
 -- The set of a row, by that of its branch's row
 module _ (tree : Tree) (at above : ℕ) (r branch : Seen) (is : slice_get (rows_of tree) at ≡ Some r) (named : r.parent ≡ Some above)

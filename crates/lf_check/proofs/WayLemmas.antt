@@ -1,18 +1,18 @@
 -- The ways to the nodes of a tree: each place has one, and they stand in the order in which the places are visited.
-use Rattle.std.proofs.Common.{◌≡◌, ℕ, zero, suc, ◌+◌, ◌<◌, ◌≤◌, Bool, true, false, List, [], ◌∷◌, ◌++◌, length, map, take}
+use Rattle.std.proofs.Common.{◌≡◌, ℕ, zero, suc, ◌+◌, ◌<◌, ◌≤◌, true, false, List, [], ◌∷◌, ◌++◌, map, take}
 use Rattle.std.proofs.Common.{refl, sym, ap, ◌∙◌, subst, append_assoc, arith, inl, inr}
 use Rattle.std.specs.Prelude.{◌⊎◌, slice_get, Option, None, Some}
 use Rattle.std.specs.List.{AllByRecursion}
 use Rattle.std.specs.declared.cmp.Ordering.{Ordering}
 use Rattle.std.specs.declared.cmp.Ordering.TheVariants.{Less, Equal, Greater}
 use Rattle.std.specs.Ordering.{nat_cmp, ordering_then, is_lt}
-use Rattle.std.specs.Option.{is_some, option_map, option_and_then}
+use Rattle.std.specs.Option.{option_map, option_and_then}
 use Rattle.std.specs.Cmp.Lexicographic.{slice_cmp}
 use Rattle.std.specs.Cmp.{nat_cmp_is}
 use Rattle.std.proofs.lemmas.Cmp.{ranked}
 use Rattle.std.proofs.lemmas.Bool.{cases_lt, both_ways, false≢true}
 use Rattle.std.proofs.lemmas.List.{append-nil}
-use Rattle.std.proofs.lemmas.Option.{none-some, same_Some, slice_get-map, slice_get_within}
+use Rattle.std.proofs.lemmas.Option.{none-some, same_Some, slice_get-map}
 use Rattle.lf_faults.specs.declared.fault.Parts.{Parts}
 use Rattle.lf_faults.specs.Faults.{inserted}
 use Rattle.lf_tree.specs.declared.tree.Tree.{Tree}
@@ -25,7 +25,7 @@ use Rattle.lf_tree.specs.Heirs.{inherited, inherited_by}
 use Rattle.lf_tree.proofs.Laws.{inherited-leaf, inherited-Branch}
 use Rattle.lf_certificate.specs.Places.{Place, kid_in, kid_at, place_from, root_of, place_at}
 use Rattle.lf_certificate.specs.Faults.{path_is_before}
-use Rattle.lf_check.specs.Rows.{way_on, ways_of, edges_in}
+use Rattle.lf_check.specs.Rows.{way_on, ways_of}
 
 -- The order of ways
 no_order : (n : ℕ) → nat_cmp n n ≡ Equal
@@ -207,7 +207,11 @@ pub record KidOf (n : Node) (faults excluded : List Parts) (i : ℕ) (kid : Plac
 
 both_there : (n : Node) (reach : List ℕ) (edges : List Parts) (kids : List Node) (faults excluded : List Parts) (i : ℕ) (kid : Place)
     (e : Option Parts) (k : Option Node) → out-Node n ≡ Node-F.Branch reach edges kids → slice_get edges i ≡ e → slice_get kids i ≡ k
-    → option_and_then (λ (edge : Parts). option_map (λ (node : Node). let made : Place = record { node = node; faults = inserted edge faults; excluded = excluded ++ take i edges } in made) k) e ≡ Some kid
+    → option_and_then (λ (edge : Parts). option_map (λ (node : Node). let made : Place = record {
+      node = node;
+      faults = inserted edge faults;
+      excluded = excluded ++ take i edges;
+    } in made) k) e ≡ Some kid
     → KidOf n faults excluded i kid
 both_there n reach edges kids faults excluded i kid None k opened e_is k_is is = absurd (none-some kid is)
 both_there n reach edges kids faults excluded i kid (Some edge) None opened e_is k_is is = absurd (none-some kid is)

@@ -1,5 +1,6 @@
 -- The claim of a ticket.
-use Rattle.std.proofs.Common.{◌≡◌, ◌≢◌, ℕ, ◌+◌, ◌<◌, ◌≤◌, refl, sym, ap, ◌∙◌, arith, cond, Option, Some, None, List, [], ◌∷◌, length, get_or, true, false, Bool, inl, inr, is_some}
+use Rattle.std.proofs.Common.{◌≡◌, ◌≢◌, ℕ, ◌+◌, ◌<◌, ◌≤◌, refl, sym, ap, ◌∙◌, arith, cond, Option, Some, None, List, [], ◌∷◌, length, get_or, true, false, Bool}
+use Rattle.std.proofs.Common.{inl, inr, is_some}
 use Rattle.std.specs.Prelude.{◌&&◌, ◌==◌, not}
 use Rattle.std.specs.List.{count_by, position, position_or_len, remove}
 use Rattle.std.proofs.lemmas.Bool.{cases_lt, cases_Bool, eqb-true, eq-eqb}
@@ -41,7 +42,8 @@ position-some p xs i h = elim (cases_lt (position_or_len p xs) (length xs)) [
       (omega (arith, few, same), λ d. ap (λ k. p (get_or xs k d)) (sym same) ∙ passes_at_first p xs d few)
 ]
 
-pub position-counts : {X : Type 0} (p : X → Bool) (xs : List X) → (is_some (position p xs) ≡ true → 0 < count_by p xs) × (0 < count_by p xs → is_some (position p xs) ≡ true)
+pub position-counts : {X : Type 0} (p : X → Bool) (xs : List X) → (is_some (position p xs) ≡ true → 0 < count_by p xs)
+    × (0 < count_by p xs → is_some (position p xs) ≡ true)
 position-counts {X} p xs = elim (cases_lt (position_or_len p xs) (length xs)) [
   | inl few ↦ (λ h. passing xs few, λ h. ap is_some (ap (λ b. cond b (Some (position_or_len p xs)) None) (lt-is _ _ few)))
   | inr far ↦
@@ -54,7 +56,11 @@ position-counts {X} p xs = elim (cases_lt (position_or_len p xs) (length xs)) [
     passing : (ys : List X) → position_or_len p ys < length ys → 0 < count_by p ys
     passing [] h = absurd (omega (arith, h))
     passing (y ∷ ys) h =
-        omega (arith, get_or-le-sum_by (λ z. cond (p z) 1 0) (y ∷ ys) (position_or_len p (y ∷ ys)) y h, ap {B = ℕ} (λ b. cond b 1 0) (passes_at_first p (y ∷ ys) y h))
+        omega (
+          arith,
+          get_or-le-sum_by (λ z. cond (p z) 1 0) (y ∷ ys) (position_or_len p (y ∷ ys)) y h,
+          ap {B = ℕ} (λ b. cond b 1 0) (passes_at_first p (y ∷ ys) y h),
+        )
 
 pub removed-claim : (claims rest : List Claim) (t i : ℕ) (c : Claim) → position (λ (d : Claim). d.ticket == t) claims ≡ Some i
     → c ≡ get_or claims i c → rest ≡ remove claims i → length rest + 1 ≡ length claims → IsWithout claims rest t c.place

@@ -1,5 +1,6 @@
 -- How the counts of marks change with each step.
-use Rattle.std.proofs.Common.{◌≡◌, ◌≢◌, ℕ, zero, suc, ◌+◌, ◌<◌, refl, sym, ap, ◌∙◌, subst, arith, Option, Some, None, List, [], ◌∷◌, ◌++◌, length, inl, inr, length-append}
+use Rattle.std.proofs.Common.{◌≡◌, ◌≢◌, ℕ, zero, suc, ◌+◌, ◌<◌, refl, sym, ap, ◌∙◌, subst, arith, Option, Some, None, List, [], ◌∷◌, ◌++◌, length, inl, inr}
+use Rattle.std.proofs.Common.{length-append}
 use Rattle.std.specs.Prelude.{◌⊎◌}
 use Rattle.std.specs.Option.{option_map}
 use Rattle.std.specs.List.{Contains}
@@ -8,7 +9,8 @@ use Rattle.std.proofs.lemmas.Bool.{cases_eq, cases_lt}
 use Rattle.std.proofs.lemmas.List.{same_from_push}
 use Rattle.std.proofs.lemmas.List.Elements.{Contains-append_left, Contains-append_right, Contains-append_cases}
 use Rattle.lf_list.proofs.Laws.{none-in, Contains-first, Contains-more, cases_in, each-in, each-from, decide_some_below}
-use Rattle.lf_marks.specs.Steps.{Mark, Marking, kid_of, kids_beneath, IsAnswer, Took, Answered, GaveBack, Reclaimed, WentDown, freed, raised, IsMarked, IsUnmarked, only_root}
+use Rattle.lf_marks.specs.Steps.{Mark, Marking, kid_of, kids_beneath, IsAnswer, Took, Answered, GaveBack, Reclaimed, WentDown, freed, raised, IsMarked}
+use Rattle.lf_marks.specs.Steps.{IsUnmarked, only_root}
 use Rattle.lf_marks.specs.Steps as mark
 use Rattle.lf_marks.specs.Counting.{IsApart, AreThose, IsCount, IsClaim, OfKind, AreCounts}
 
@@ -147,7 +149,8 @@ kids_listing p (suc n) =
       | inr other ↦ inl (h.0, omega (arith, h.1, other), h.2)
     ]) n (kids_listing p n))
   where
-    more_next : (p : List ℕ) (n : ℕ) → Listing (λ q. (i : ℕ) × (i < suc n) × (q ≡ kid_of p i)) (n + 1) → Listing (λ q. (i : ℕ) × (i < suc n) × (q ≡ kid_of p i)) (suc n)
+    more_next : (p : List ℕ) (n : ℕ) → Listing (λ q. (i : ℕ) × (i < suc n) × (q ≡ kid_of p i)) (n + 1)
+        → Listing (λ q. (i : ℕ) × (i < suc n) × (q ≡ kid_of p i)) (suc n)
     more_next p n l = subst (λ k. Listing (λ q. (i : ℕ) × (i < suc n) × (q ≡ kid_of p i)) k) (omega arith) l
 
 to_count : (P : List ℕ → Type 0) (n : ℕ) → Listing P n → IsCount P n

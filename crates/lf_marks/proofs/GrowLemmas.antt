@@ -93,7 +93,11 @@ module _ (level start n : ℕ) (old new : ℕ → Spot) (x t : ℕ) (arena : IsA
       at_next : (r : List ℕ) → y ≡ x → i ≡ (old y).taken
           → marked_from old start y (i ∷ r) ≡ untaken (nat_lt y start) (nat_lt i (width (old y))) r
           → (marked_from new start y (i ∷ r) ≡ marked_from old start y (i ∷ r)) ⊎ IsNew old x y (i ∷ r)
-      at_next [] same next b = inr (record { front = []; whole = ap (λ (j : ℕ). j ∷ []) (next ∙ ap (λ z. (old z).taken) same); led = ap (λ (z : ℕ). Some z) same })
+      at_next [] same next b = inr (record {
+        front = [];
+        whole = ap (λ (j : ℕ). j ∷ []) (next ∙ ap (λ z. (old z).taken) same);
+        led = ap (λ (z : ℕ). Some z) same;
+      })
       at_next (j ∷ r) same next b =
           let taken : i < (new y).taken = omega (arith, next, grown_taken, ap (λ z. (old z).taken) same, ap (λ z. (new z).taken) same) in
           let there : (new y).first + i ≡ n = omega (arith, next, gr.place, ap (λ z. (old z).taken) same, ap (λ z. (new z).first) same) in

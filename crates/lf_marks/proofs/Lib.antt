@@ -8,8 +8,10 @@ mod GrowLemmas
 pub mod Laws
 mod ListedLemmas
 mod MissLemmas
+mod NextLemmas
 mod PathLemmas
 mod ReadLemmas
+mod RoomLemmas
 mod SetLemmas
 mod ShapeLemmas
 mod StateLemmas

@@ -1,5 +1,6 @@
 -- The lists of places after each step.
-use Rattle.std.proofs.Common.{◌≡◌, ◌≢◌, ℕ, suc, ◌+◌, ◌<◌, ◌≤◌, refl, sym, ap, ◌∙◌, arith, cond, Option, Some, None, List, [], ◌∷◌, ◌++◌, true, false, Bool, nat_lt, inl, inr}
+use Rattle.std.proofs.Common.{◌≡◌, ◌≢◌, ℕ, suc, ◌+◌, ◌<◌, ◌≤◌, refl, sym, ap, ◌∙◌, arith, cond, Option, Some, None, List, [], ◌∷◌, ◌++◌, true, false, Bool}
+use Rattle.std.proofs.Common.{nat_lt, inl, inr}
 use Rattle.std.specs.Prelude.{◌&&◌, ◌==◌, nat_le}
 use Rattle.std.specs.List.{slice_get}
 use Rattle.std.proofs.lemmas.Bool.{cases_lt, cases_eq, cases_Bool, eq-eqb, ne_eqb, eqb-true, lt-leb, le-leb, and_left, and_right, and_from}
@@ -8,7 +9,8 @@ use Rattle.lf_marks.specs.Steps.{Mark, kids_beneath}
 use Rattle.lf_marks.specs.Steps as mark
 use Rattle.lf_marks.specs.Claims.{IsWithout}
 use Rattle.lf_marks.specs.declared.claim.Claim.{Claim}
-use Rattle.lf_marks.specs.Walks.{Spot, width, width_of, is_set, is_open, is_claimed, once, times, times_ticket, times_claim, IsArena, IsRemarked, IsGrownBy, AreListed, IsPartly}
+use Rattle.lf_marks.specs.Walks.{Spot, width, width_of, is_set, is_open, is_claimed, once, times, times_ticket, times_claim, IsArena, IsRemarked, IsGrownBy}
+use Rattle.lf_marks.specs.Walks.{AreListed, IsPartly}
 use Rattle.lf_marks.proofs.WalkLemmas.{lt-is, lt-not}
 
 pub once-yes : (b : Bool) → b ≡ true → once b ≡ 1
@@ -50,7 +52,8 @@ times-push x y places = sum_by_push (λ z. cond (z == x) 1 0) places y
 pub times-cons : (x y : ℕ) (places : List ℕ) → times x (y ∷ places) ≡ once (y == x) + times x places
 times-cons x y places = sum_by-cons (λ z. cond (z == x) 1 0) y places
 
-pub claim-push : (t x : ℕ) (c : Claim) (claims : List Claim) → times_claim t x (claims ++ c ∷ []) ≡ times_claim t x claims + once (c.ticket == t && c.place == x)
+pub claim-push : (t x : ℕ) (c : Claim) (claims : List Claim) → times_claim t x (claims ++ c ∷ [])
+    ≡ times_claim t x claims + once (c.ticket == t && c.place == x)
 claim-push t x c claims = sum_by_push (λ (d : Claim). cond (d.ticket == t && d.place == x) 1 0) claims c
 
 pub ticket-push : (t : ℕ) (c : Claim) (claims : List Claim) → times_ticket t (claims ++ c ∷ []) ≡ times_ticket t claims + once (c.ticket == t)
@@ -316,7 +319,8 @@ module _ (level start n : ℕ) (old new : ℕ → Spot) (x t : ℕ) (arena : IsA
   listed-grown rest queue next back claims fresh stays leaves l =
       let c : Claim = record { ticket = t; place = n } in
       let taken : (new x).taken ≡ (old x).taken + 1 = ap (λ (s : Spot). s.taken) gr.grown in
-      let one : times x (x ∷ rest) ≡ 1 = l.queued x ∙ once-yes _ (and_from (nat_lt x start) (nat_lt (old x).taken (width (old x))) (lt-is x start high) (lt-is _ _ more)) in
+      let one : times x (x ∷ rest) ≡ 1 = l.queued x ∙ once-yes _ (and_from (nat_lt x start) (nat_lt (old x).taken (width (old x))) (lt-is x start high)
+      (lt-is _ _ more)) in
       let none : times x rest ≡ 0 = omega (arith, one, times-cons x x rest, once-yes _ (here x)) in record {
         queued = λ y. elim (cases_eq y x) [
           | inl same ↦ elim (cases_lt ((old x).taken + 1) (width (old x))) [
@@ -343,7 +347,16 @@ module _ (level start n : ℕ) (old new : ℕ → Spot) (x t : ℕ) (arena : IsA
               let a = ap (λ z. times_claim u z claims) same in
               let b = ap (λ z. once (t == u && n == z)) same in
               let d = ap (λ z. once (is_claimed u (new z).mark)) same in
-              omega (arith, a, b, d, pair-here t u n, l.claimed n u, ap once (unset_claimed u (old n).mark (arena.past n (omega arith))), ap (λ (s : Spot). once (is_claimed u s.mark)) gr.kid)
+              omega (
+                arith,
+                a,
+                b,
+                d,
+                pair-here t u n,
+                l.claimed n u,
+                ap once (unset_claimed u (old n).mark (arena.past n (omega arith))),
+                ap (λ (s : Spot). once (is_claimed u s.mark)) gr.kid,
+              )
         ];
         tickets = λ u. elim (cases_eq t u) [
           | inl same ↦ omega (arith, ticket-push u c claims, ap (λ z. times_ticket z claims) same, fresh, once-one (t == u))

@@ -1,18 +1,15 @@
 -- What places tell after a write.
-use Rattle.std.proofs.Common.{◌≡◌, ◌≢◌, ℕ, zero, suc, ◌+◌, ◌<◌, ◌≤◌, refl, sym, ap, ◌∙◌, arith, cond, Option, Some, None, List, [], ◌∷◌, ◌++◌, length, get_or, slice_set, inl, inr}
+use Rattle.std.proofs.Common.{◌≡◌, ◌≢◌, ℕ, zero, suc, ◌+◌, ◌<◌, ◌≤◌, refl, sym, ap, ◌∙◌, arith, cond, Option, Some, None, List, [], ◌∷◌, ◌++◌, length, get_or}
+use Rattle.std.proofs.Common.{slice_set, inl, inr}
 use Rattle.std.specs.List.{slice_get}
 use Rattle.std.proofs.lemmas.Bool.{cases_eq, cases_lt, cond-true, cond-false, eq-eqb, ne_eqb}
 use Rattle.std.specs.Prelude.{◌==◌}
 use Rattle.std.proofs.lemmas.Option.{slice_get_read, slice_get_past}
-use Rattle.std.proofs.Common.{Box, Global}
-use Rattle.std.specs.Box.{with_value}
-use Rattle.lf_marks.specs.Branches.{KeepsKids}
 use Rattle.lf_marks.specs.Steps.{Mark}
 use Rattle.lf_marks.specs.Steps as mark
-use Rattle.lf_marks.specs.declared.set.Branch.{Branch}
 use Rattle.lf_marks.specs.declared.set.State.TheVariants as state
 use Rattle.lf_marks.specs.Arena.{look, spot_of, mark_in, first_in, taken_in}
-use Rattle.lf_marks.specs.Walks.{Spot, IsRemarked, IsKept, IsWidened, IsGrownBy, width}
+use Rattle.lf_marks.specs.Walks.{Spot, IsRemarked, IsWidened, IsGrownBy, width}
 use Rattle.lf_marks.specs.declared.set.Set.{Set}
 use Rattle.lf_marks.specs.declared.set.State.{State}
 
@@ -37,15 +34,6 @@ slice_get-push_other [] x zero h = absurd (h refl)
 slice_get-push_other [] x (suc j) h = refl
 slice_get-push_other (y ∷ ys) x zero h = refl
 slice_get-push_other (y ∷ ys) x (suc j) h = slice_get-push_other ys x j (λ e. h (ap suc e))
-
--- a write of a set that tells the same
-pub kept-put : (sets : List Set) (x : ℕ) (s t : Set) → x < length sets → s ≡ get_or sets x s → spot_of (Some t) ≡ spot_of (Some s)
-    → IsKept (look sets) (look (slice_set sets x t))
-kept-put sets x s t few read same y = elim (cases_eq y x) [
-  | inl e ↦ ap (look (slice_set sets x t)) e ∙ ap spot_of (slice_get-set_same sets x t few) ∙ same
-      ∙ ap spot_of (sym (slice_get_read sets (length sets) x s refl few read)) ∙ ap (look sets) (sym e)
-  | inr other ↦ ap spot_of (slice_get-set_other sets x y t other)
-]
 
 -- a write of a set
 pub put-same : (sets : List Set) (x : ℕ) (t : Set) → x < length sets → look (slice_set sets x t) x ≡ spot_of (Some t)
@@ -81,23 +69,6 @@ remarked-put sets x s st few read first taken =
       is = ap (λ (p : Spot). p.mark) here;
       others = λ y other. ap (λ (p : Spot). p.mark) (put-other sets x t y other);
     }
-
--- a branch of which the same kids were taken
-pub kept-branch : (sets : List Set) (x : ℕ) (s : Set) (b : Box Branch Global) (new : Branch) → x < length sets → s ≡ get_or sets x s
-    → s.state ≡ state.Branch b → KeepsKids b.value new
-    → IsKept (look sets) (look (slice_set sets x (record s { state = state.Branch (with_value b new) })))
-kept-branch sets x s b new few read is k =
-    kept-put sets x s (record s { state = state.Branch (with_value b new) }) few read
-    (told s new k (ap first_in (sym is)) (ap taken_in (sym is)) (ap mark_in (sym is)))
-  where
-    told : (s : Set) (new : Branch) → KeepsKids b.value new → b.value.first ≡ first_in s.state → length b.value.kids.items ≡ taken_in s.state
-        → mark.Branch b.value.reach b.value.edges ≡ mark_in s.state
-        → spot_of (Some (record s { state = state.Branch (with_value b new) })) ≡ spot_of (Some s)
-    told s new k f t m =
-        ap (λ n. record { parent = s.parent; kid = s.kid; depth = s.depth; first = n; taken = length new.kids.items; mark = Some (mark.Branch new.reach new.edges) }) (k.first ∙ f)
-        ∙ ap (λ n. record { parent = s.parent; kid = s.kid; depth = s.depth; first = first_in s.state; taken = n; mark = Some (mark.Branch new.reach new.edges) }) (k.kids ∙ t)
-        ∙ ap (λ o. record { parent = s.parent; kid = s.kid; depth = s.depth; first = first_in s.state; taken = taken_in s.state; mark = Some o })
-        (ap (λ r. mark.Branch r new.edges) k.reach ∙ ap (mark.Branch b.value.reach) k.edges ∙ m)
 
 -- past the end no set stands
 pub look-past : (sets : List Set) (x : ℕ) → length sets ≤ x → look sets x ≡ spot_of None
@@ -140,14 +111,21 @@ pub grown-by : (old wide : List Set) (x t kid depth : ℕ) → IsWidened (look o
     → IsGrownBy (look old) (look (wide ++ (record { parent = x; kid = kid; depth = depth; state = state.Claimed t }) ∷ [])) (length old) x t
 grown-by old wide x t kid depth w long within kid_is depth_is last =
     let k : Set = record { parent = x; kid = kid; depth = depth; state = state.Claimed t } in
-    let here : look (wide ++ k ∷ []) x ≡ look wide x = ap spot_of (slice_get-push_other wide k x (λ e. let never : ⊥ = omega (arith, e, within, long) in never)) in
+    let here : look (wide ++ k ∷ []) x ≡ look wide x = ap spot_of (slice_get-push_other wide k x
+    (λ e. let never : ⊥ = omega (arith, e, within, long) in never)) in
     let first : (look (wide ++ k ∷ []) x).first ≡ cond ((look old x).taken == 0) (length old) (look old x).first =
     ap (λ (p : Spot). p.first) here ∙ ap (λ (p : Spot). p.first) w.grown in record {
       others = λ y other apart. ap spot_of (slice_get-push_other wide k y (λ e. apart (e ∙ long))) ∙ w.others y other;
-      same = λ some. first ∙ cond-false ((look old x).taken == 0) (length old) (look old x).first (ne_eqb (look old x).taken 0 (λ e. let never : ⊥ = omega (arith, e, some) in never));
+      same = λ some. first ∙ cond-false ((look old x).taken == 0) (length old) (look old x).first
+          (ne_eqb (look old x).taken 0 (λ e. let never : ⊥ = omega (arith, e, some) in never));
       place = elim (cases_eq (look old x).taken 0) [
         | inl none ↦ omega (arith, none, first, cond-true ((look old x).taken == 0) (length old) (look old x).first (eq-eqb (look old x).taken 0 none))
-        | inr some ↦ omega (arith, first, cond-false ((look old x).taken == 0) (length old) (look old x).first (ne_eqb (look old x).taken 0 some), last (omega (arith, some)))
+        | inr some ↦ omega (
+          arith,
+          first,
+          cond-false ((look old x).taken == 0) (length old) (look old x).first (ne_eqb (look old x).taken 0 some),
+          last (omega (arith, some)),
+        )
       ];
       grown = here ∙ w.grown ∙ ap (λ f. widened (look old x) f) (sym first);
       kid = ap (look (wide ++ k ∷ [])) (sym long) ∙ ap spot_of (slice_get-push_last wide k)

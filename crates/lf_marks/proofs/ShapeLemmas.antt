@@ -1,12 +1,14 @@
 -- What every tree of marks is.
-use Rattle.std.proofs.Common.{◌≡◌, ℕ, suc, ◌+◌, ◌<◌, ◌≤◌, refl, sym, ap, ◌∙◌, arith, cond, Option, Some, None, List, [], ◌∷◌, length, true, false, nat_lt, inl, inr, IsSome, is_some}
+use Rattle.std.proofs.Common.{◌≡◌, ℕ, suc, ◌+◌, ◌<◌, ◌≤◌, refl, sym, ap, ◌∙◌, arith, cond, Option, Some, None, List, [], ◌∷◌, length, true, false, nat_lt, inl}
+use Rattle.std.proofs.Common.{inr, IsSome, is_some}
 use Rattle.std.proofs.lemmas.Bool.{cases_lt}
 use Rattle.std.proofs.lemmas.List.{same_from_push, length_push}
 use Rattle.lf_marks.specs.Steps.{Mark, Marking, kid_of, kids_beneath, IsAnswer, IsShape}
 use Rattle.lf_marks.specs.Steps as mark
 use Rattle.lf_marks.specs.declared.claim.Claim.{Claim}
 use Rattle.lf_marks.specs.Walks.{Spot, led_from, marked_from, untaken, width, width_of, is_set, is_waiting, is_answer, IsArena, AreListed}
-use Rattle.lf_marks.proofs.WalkLemmas.{lt-is, lt-not, led-taken, marked-taken, marked-past, marked-led, marked-append, led-one, led-within, led-depth, last-of, IsLast}
+use Rattle.lf_marks.proofs.WalkLemmas.{lt-is, lt-not, led-taken, marked-taken, marked-past, marked-led, marked-append, led-one, led-within, led-depth, last-of}
+use Rattle.lf_marks.proofs.WalkLemmas.{IsLast}
 use Rattle.lf_marks.proofs.ListedLemmas.{one-claim}
 
 -- a set stands at a place, or it is a kid that nobody has taken
@@ -140,9 +142,23 @@ module _ (level start n : ℕ) (look : ℕ → Spot) (arena : IsArena level star
     | inr low ↦ let never : ⊥ = omega (arith, deep_at p y led, arena.on y low (within p y led), high) in absurd never
   ]
   above_of p m high (opened front j y whole led far more h is) =
-      let never : ⊥ = omega (arith, deep_at front y led, arena.last y h (omega (arith, far, more)), high, ap (λ (r : List ℕ). length r) whole, length_push front j) in absurd never
+      let never : ⊥ = omega (
+        arith,
+        deep_at front y led,
+        arena.last y h (omega (arith, far, more)),
+        high,
+        ap (λ (r : List ℕ). length r) whole,
+        length_push front j,
+      ) in absurd never
   above_of p m high (waits front j y whole led far more low is) =
-      let never : ⊥ = omega (arith, deep_at front y led, arena.on y low (within front y led), high, ap (λ (r : List ℕ). length r) whole, length_push front j) in absurd never
+      let never : ⊥ = omega (
+        arith,
+        deep_at front y led,
+        arena.on y low (within front y led),
+        high,
+        ap (λ (r : List ℕ). length r) whole,
+        length_push front j,
+      ) in absurd never
 
   -- where a claimed set stands
   pub claimed-place : (t : ℕ) (p : List ℕ) (m : Mark) → m ≡ mark.Claimed t → Stands look start 0 p m

@@ -1,9 +1,11 @@
 -- What each step keeps of a tree of marks, and how it changes the marks.
-use Rattle.std.proofs.Common.{◌≡◌, ℕ, zero, suc, ◌+◌, ◌-◌, ◌^◌, ◌<◌, ◌≤◌, refl, sym, ap, ◌∙◌, subst, arith, Option, Some, None, List, [], ◌∷◌, ◌++◌, length, take, get_or, true, false, Bool, nat_lt, inl, inr}
+use Rattle.std.proofs.Common.{◌≡◌, ℕ, zero, suc, ◌+◌, ◌-◌, ◌^◌, ◌<◌, ◌≤◌, refl, sym, ap, ◌∙◌, subst, arith, Option, Some, None, List, [], ◌∷◌, ◌++◌, length}
+use Rattle.std.proofs.Common.{take, drop, get_or, true, false, Bool, nat_lt, inl, inr}
 use Rattle.std.specs.Prelude.{◌==◌, ◌&&◌, nat_le}
-use Rattle.std.proofs.Common.{Result, Ok, Err, OnErr}
 use Rattle.std.proofs.lemmas.Bool.{cases_lt, eq-eqb, ne_eqb, ltb-true, and_parts, and_from, and_left, and_right}
-use Rattle.std.proofs.lemmas.List.{length_push, length-take-le, take_all}
+use Rattle.std.proofs.lemmas.List.{length_push, length-take-le, take_all, drop_more}
+use Rattle.std.proofs.lemmas.Option.{slice_get_read}
+use Rattle.std.specs.List.{slice_get}
 use Rattle.std.proofs.lemmas.List.Sums.{sum_by_more, sum_by-cons, count_by-le-length}
 use Rattle.lf_marks.specs.Steps.{Mark, Marking, kid_of, kids_beneath, IsAnswer, Took, Answered, GaveBack, WentDown, IsUnmarked, IsMarked, only_root}
 use Rattle.lf_marks.specs.Steps as mark
@@ -12,19 +14,22 @@ use Rattle.lf_marks.specs.Counting.{AreCounts}
 use Rattle.lf_marks.specs.Arena.{look, marks_of, IsState}
 use Rattle.lf_marks.specs.declared.claim.Claim.{Claim}
 use Rattle.lf_marks.specs.declared.set.Set.{Set}
-use Rattle.lf_marks.specs.Walks.{Spot, led_from, marked_from, untaken, width, width_of, is_set, is_open, is_claimed, is_waiting, is_answer, once, times, times_ticket, IsArena, AreListed, IsRemarked, IsGrownBy, IsKept}
+use Rattle.lf_marks.specs.Walks.{Spot, led_from, untaken, width, width_of, is_set, is_open, is_claimed, is_waiting, is_answer, once, times, times_ticket}
+use Rattle.lf_marks.specs.Walks.{IsArena, AreListed, IsRemarked, IsGrownBy}
 use Rattle.lf_marks.proofs.WalkLemmas.{marked-led, marked-past, lt-is, lt-not, led-some}
 use Rattle.lf_marks.proofs.ChangeLemmas.{remarked-at, remarked-kids, remarked-others, remarked-arena}
 use Rattle.lf_marks.proofs.GrowLemmas.{kid-open, grown-was, grown-is, grown-others, grown-arena}
 use Rattle.lf_marks.proofs.DownLemmas.{raised-from, raised-arena, all-taken, past-width}
-use Rattle.lf_marks.proofs.ListedLemmas.{listed-claimed, listed-freed, listed-answered, listed-grown, listed-down, without-was, open-is, claimed-is, is-claimed, from-once, once-yes, once-no, one-claim, ticket-of, ticket-some, times-cons}
+use Rattle.lf_marks.proofs.ListedLemmas.{listed-claimed, listed-freed, listed-answered, listed-grown, listed-down, without-was, open-is, claimed-is, is-claimed}
+use Rattle.lf_marks.proofs.ListedLemmas.{from-once, once-yes, once-no, one-claim, ticket-of, ticket-some, times-cons}
 use Rattle.lf_marks.proofs.CountLemmas.{counts-took, counts-back, counts-answered, counts-down, counts-root, some-counted}
 use Rattle.lf_marks.proofs.ShapeLemmas.{bare, claimed-led, Stands, placed, opened, waits, stands}
 use Rattle.lf_marks.specs.declared.set.State.TheVariants as state
 
 pub counts-at : (at : Marking) (r r' c c' a a' w w' : ℕ) → r ≡ r' → c ≡ c' → a ≡ a' → w ≡ w' → AreCounts at r c a w → AreCounts at r' c' a' w'
 counts-at at r r' c c' a a' w w' er ec ea ew k =
-    subst (λ z. AreCounts at z c' a' w') er (subst (λ z. AreCounts at r z a' w') ec (subst (λ z. AreCounts at r c z w') ea (subst (λ z. AreCounts at r c a z) ew k)))
+    subst (λ z. AreCounts at z c' a' w') er (subst (λ z. AreCounts at r z a' w') ec
+    (subst (λ z. AreCounts at r c z w') ea (subst (λ z. AreCounts at r c a z) ew k)))
 
 -- the last of a list, without it
 pub last-times : (xs left : List ℕ) (x n k : ℕ) → 0 < length xs → n ≡ length xs → k ≡ length xs → left ≡ take (n - 1) xs → x ≡ get_or xs (k - 1) x
@@ -54,6 +59,14 @@ open_low (Some mark.Misses) h k = absurd cc
 open_low (Some mark.Reaches) h k = absurd cc
 open_low (Some (mark.Branch reach edges)) h k = absurd cc
 
+pub last-read : (xs : List ℕ) (x k : ℕ) → 0 < length xs → k ≡ length xs → x ≡ get_or xs (k - 1) x → slice_get xs (length xs - 1) ≡ Some x
+last-read xs x k some ek at =
+    slice_get_read xs (length xs) (length xs - 1) x refl (omega (arith, some)) (at ∙ ap (λ z. get_or xs (z - 1) x) ek)
+
+-- the rest of a queue from a place on
+pub queue-head : (queue : List ℕ) (at x : ℕ) → at < length queue → x ≡ get_or queue at x → drop at queue ≡ x ∷ drop (at + 1) queue
+queue-head queue at x few read = drop_more queue at x few ∙ ap (λ y. y ∷ drop (at + 1) queue) (sym read)
+
 -- where an open or a claimed set stands
 set_within : (level start n : ℕ) (f : ℕ → Spot) (x : ℕ) (m : Mark) → IsArena level start n f → (f x).mark ≡ Some m → x < n
 set_within level start n f x m a h = elim (cases_lt x n) [
@@ -69,25 +82,6 @@ set_low level start n f x m a h plain = elim (cases_lt x start) [
 
 module _ (level start : ℕ) (sets : List Set) (queue next back : List ℕ) (claims : List Claim) (untaken waiting answered : ℕ)
     (s : IsState level start sets queue next back claims untaken waiting answered) where
-  -- the same tree in other places of memory
-  pub state-kept : (sets' : List Set) → IsKept (look sets) (look sets') → length sets' ≡ length sets
-      → IsState level start sets' queue next back claims untaken waiting answered
-  state-kept sets' kept long =
-      let e : look sets' ≡ look sets = λ i y. kept y i in record {
-        shallow = s.shallow;
-        sound = subst (λ f. IsArena level start (length sets') f) (sym e) (subst (λ n. IsArena level start n (look sets)) (sym long) s.sound);
-        listed = subst (λ f. AreListed start (length sets') f queue next back claims) (sym e)
-            (subst (λ n. AreListed start n (look sets) queue next back claims) (sym long) s.listed);
-        counted = subst (λ (f : ℕ → Spot). AreCounts (marked_from f start 0) (untaken + length back) (length claims) answered waiting) (sym e) s.counted;
-        all = omega (arith, s.all, long);
-        few = omega (arith, s.few, long);
-        few_waiting = omega (arith, s.few_waiting, long);
-      }
-
-  pub marks-kept : (sets' : List Set) → IsKept (look sets) (look sets') → (q : List ℕ) → marks_of sets' start q ≡ marks_of sets start q
-  marks-kept sets' kept q =
-      let e : look sets' ≡ look sets = λ i y. kept y i in ap (λ (f : ℕ → Spot). marked_from f start 0 q) e
-
   -- the same lists
   pub state-same : (sets' : List Set) (next' back' : List ℕ) (claims' : List Claim) → sets' ≡ sets → next' ≡ next → back' ≡ back → claims' ≡ claims
       → IsState level start sets' queue next' back' claims' untaken waiting answered
@@ -161,8 +155,10 @@ module _ (level start : ℕ) (sets : List Set) (queue next back : List ℕ) (cla
           sound = subst (λ n. IsArena level start n (look sets')) (sym long)
               (remarked-arena level start (length sets) (look sets) (look sets') x (mark.Claimed t) s.sound re low (again-within x some_back) refl);
           listed = subst (λ n. AreListed start n (look sets') queue next left (claims ++ c ∷ [])) (sym long)
-              (listed-claimed start (length sets) (look sets) (look sets') x (mark.Claimed t) re t queue next back left claims refl (again-was x some_back) s.listed fewer fresh);
-          counted = counts-at (marks_of sets' start) (untaken + length left) (untaken + length left) (length claims + 1) (length (claims ++ c ∷ [])) answered answered waiting waiting
+              (listed-claimed start (length sets) (look sets) (look sets') x (mark.Claimed t) re t queue next back left claims refl
+              (again-was x some_back) s.listed fewer fresh);
+          counted = counts-at (marks_of sets' start) (untaken + length left) (untaken + length left) (length claims + 1)
+              (length (claims ++ c ∷ [])) answered answered waiting waiting
               refl (sym (length_push claims c)) refl refl
               (counts-took (marks_of sets start) (marks_of sets' start) way.0 t (untaken + length back) (untaken + length left) (length claims) answered waiting
               (again-took way.0 way.1) (omega (arith, short)) s.counted);
@@ -224,11 +220,14 @@ module _ (level start : ℕ) (sets : List Set) (queue next back : List ℕ) (cla
           sound = subst (λ n. IsArena level start n (look sets')) (sym long)
               (grown-arena level start (length sets) (look sets) (look sets') x t s.sound gr next_high next_more);
           listed = subst (λ n. AreListed start n (look sets') queue' next back (claims ++ c ∷ [])) (sym long)
-              (listed-grown level start (length sets) (look sets) (look sets') x t s.sound gr next_high next_more rest queue' next back claims fresh stays leaves
+              (listed-grown level start (length sets) (look sets) (look sets') x t s.sound gr next_high next_more rest queue' next back claims fresh stays
+              leaves
               (subst (λ q. AreListed start (length sets) (look sets) q next back claims) head s.listed));
-          counted = counts-at (marks_of sets' start) (u + length back) (u + length back) (length claims + 1) (length (claims ++ c ∷ [])) answered answered waiting waiting
+          counted = counts-at (marks_of sets' start) (u + length back) (u + length back) (length claims + 1)
+              (length (claims ++ c ∷ [])) answered answered waiting waiting
               refl (sym (length_push claims c)) refl refl
-              (counts-took (marks_of sets start) (marks_of sets' start) (kid_of way.0 (look sets x).taken) t (untaken + length back) (u + length back) (length claims) answered waiting
+              (counts-took (marks_of sets start) (marks_of sets' start) (kid_of way.0 (look sets x).taken) t (untaken + length back) (u + length back)
+              (length claims) answered waiting
               (next-took way.0 way.1) (omega (arith, less)) s.counted);
           all = omega (arith, s.all, long, length_push claims c);
           few = omega (arith, s.few, long, less);
@@ -274,7 +273,8 @@ module _ (level start : ℕ) (sets : List Set) (queue next back : List ℕ) (cla
                 (remarked-arena level start (length sets) (look sets) (look sets') x mark.Open s.sound re claim_low claim-within refl);
             listed = subst (λ n. AreListed start n (look sets') queue next (back ++ x ∷ []) rest) (sym long)
                 (listed-freed start (length sets) (look sets) (look sets') x mark.Open re t queue next back claims rest refl s.listed less);
-            counted = counts-at (marks_of sets' start) (untaken + length back + 1) (untaken + length (back ++ x ∷ [])) (length rest) (length rest) answered answered waiting waiting
+            counted = counts-at (marks_of sets' start) (untaken + length back + 1) (untaken + length (back ++ x ∷ [])) (length rest)
+                (length rest) answered answered waiting waiting
                 (omega (arith, length_push back x)) refl refl refl
                 (counts-back (marks_of sets start) (marks_of sets' start) way.0 t (untaken + length back) (length claims) (length rest) answered waiting
                 (freed-back re way.0 way.1) less.count s.counted);
@@ -288,7 +288,8 @@ module _ (level start : ℕ) (sets : List Set) (queue next back : List ℕ) (cla
         answered-is p led = record {
           was = marked-led (look sets) start 0 p x led ∙ claim-was;
           is = remarked-at level start (length sets) (look sets) (look sets') x m s.sound re claim-within claim-none (ap width_of claim-was) p led;
-          kids = remarked-kids level start (length sets) (look sets) (look sets') x m s.sound re claim-within claim-none (ap width_of claim-was) p led claim_low;
+          kids = remarked-kids level start (length sets) (look sets) (look sets') x m s.sound re claim-within claim-none
+              (ap width_of claim-was) p led claim_low;
           others = remarked-others level start (length sets) (look sets) (look sets') x m s.sound re claim-within claim-none (ap width_of claim-was) p led;
         }
 
@@ -324,7 +325,8 @@ module _ (level start : ℕ) (sets : List Set) (queue next back : List ℕ) (cla
               sound = subst (λ n. IsArena level start n (look sets')) (sym long)
                   (remarked-arena level start (length sets) (look sets) (look sets') x m s.sound re claim_low claim-within (still m is));
               listed = subst (λ n. AreListed start n (look sets') queue more back rest) (sym long)
-                  (listed-answered start (length sets) (look sets) (look sets') x m re t queue next more back claims rest (shut m is) (free m is) claim_low s.listed less noted);
+                  (listed-answered start (length sets) (look sets) (look sets') x m re t queue next more back claims rest (shut m is)
+                  (free m is) claim_low s.listed less noted);
               counted = counts-answered (marks_of sets start) (marks_of sets' start) way.0 t m is (answered-is way.0 way.1)
                   (λ i. bare level start (length sets) (look sets) s.sound way.0 x i way.1 (ap width_of claim-was))
                   (untaken + length back) (length claims) (length rest) answered waiting less.count s.counted;
@@ -362,7 +364,8 @@ module _ (level start : ℕ) (sets : List Set) (queue next back : List ℕ) (cla
         of_claims (c ∷ cs) h = absurd (h c.ticket (omega (arith, ticket-head c cs)))
           where
             ticket-head : (c : Claim) (cs : List Claim) → times_ticket c.ticket (c ∷ cs) ≡ 1 + times_ticket c.ticket cs
-            ticket-head c cs = sum_by-cons (λ (d : Claim). once (d.ticket == c.ticket)) c cs ∙ ap (λ b. b + times_ticket c.ticket cs) (once-yes _ (eq-eqb c.ticket c.ticket refl))
+            ticket-head c cs = sum_by-cons (λ (d : Claim). once (d.ticket == c.ticket)) c cs
+                ∙ ap (λ b. b + times_ticket c.ticket cs) (once-yes _ (eq-eqb c.ticket c.ticket refl))
 
     pub state-down : waiting < 2 ^ 32 → level < 16 → IsState (level + 1) (length sets) sets next [] back claims waiting 0 answered
     state-down few high = record {
@@ -483,11 +486,6 @@ pub once-le : (b : Bool) → once b ≤ 1
 once-le true = omega arith
 once-le false = omega arith
 
--- a fact of each outcome
-pub on-err : {T E P : Type 0} (r : Result T E) → P → OnErr r P
-on-err (Ok x) p = tt
-on-err (Err e) p = p
-
 -- where nobody gave a set back and the queue is empty, no set is open
 module _ (level start : ℕ) (sets : List Set) (queue next back : List ℕ) (claims : List Claim) (untaken waiting answered : ℕ)
     (s : IsState level start sets queue next back claims untaken waiting answered) (none : length back ≡ 0) (done : queue ≡ []) where
@@ -500,7 +498,8 @@ module _ (level start : ℕ) (sets : List Set) (queue next back : List ℕ) (cla
       omega (arith, no_back y, s.listed.opened y, one)
   closed p m e (opened front i y whole led far more high is) =
       let one = once-yes (nat_lt y start && nat_lt (look sets y).taken (width (look sets y)))
-      (and_from (nat_lt y start) (nat_lt (look sets y).taken (width (look sets y))) (lt-is y start high) (lt-is (look sets y).taken (width (look sets y)) (omega (arith, far, more)))) in
+      (and_from (nat_lt y start) (nat_lt (look sets y).taken (width (look sets y))) (lt-is y start high)
+      (lt-is (look sets y).taken (width (look sets y)) (omega (arith, far, more)))) in
       let empty : times y queue ≡ 0 = ap (times y) done in
       omega (arith, empty, s.listed.queued y, one)
   closed p m e (waits front i y whole led far more low is) = let never : mark.Waiting ≡ mark.Open = sym is ∙ e in absurd cc

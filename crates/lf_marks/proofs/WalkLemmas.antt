@@ -1,5 +1,6 @@
 -- Where paths lead, and what the sets are marked with there.
-use Rattle.std.proofs.Common.{◌≡◌, ℕ, zero, suc, ◌+◌, ◌<◌, ◌≤◌, refl, sym, ap, ◌∙◌, subst, arith, cond, Some, None, List, [], ◌∷◌, ◌++◌, length, true, false, nat_lt, inl, inr}
+use Rattle.std.proofs.Common.{◌≡◌, ℕ, zero, suc, ◌+◌, ◌<◌, ◌≤◌, refl, sym, ap, ◌∙◌, subst, arith, cond, Some, None, List, [], ◌∷◌, ◌++◌, length, true, false}
+use Rattle.std.proofs.Common.{nat_lt, inl, inr}
 use Rattle.std.proofs.lemmas.Bool.{cases_lt}
 use Rattle.lf_marks.specs.Steps.{kid_of}
 use Rattle.lf_marks.specs.Walks.{Spot, led_from, marked_from, untaken, width, IsArena}

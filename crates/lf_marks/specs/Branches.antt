@@ -15,13 +15,6 @@ pub record AddsKid (old new : Branch) (place : ℕ) : Type 0 where
   pub first : new.first ≡ (if length old.kids.items == 0 then place else old.first)
   pub kids : length new.kids.items ≡ length old.kids.items + 1
 
--- the same kids were taken
-pub record KeepsKids (old new : Branch) : Type 0 where
-  pub reach : new.reach ≡ old.reach
-  pub edges : new.edges ≡ old.edges
-  pub first : new.first ≡ old.first
-  pub kids : length new.kids.items ≡ length old.kids.items
-
 -- a kid has this node
 pub record PutsKid (old new : Branch) (kid : ℕ) (node : Node) : Type 0 where
   pub reach : new.reach ≡ old.reach

@@ -4,7 +4,9 @@ pub mod Branches
 pub mod Building
 pub mod Claims
 pub mod Counting
+pub mod Fits
 pub mod Marks
 pub mod Nodes
+pub mod Room
 pub mod Steps
 pub mod Walks

@@ -1,7 +1,8 @@
 //! A set that was taken, and the branch that it may become.
 
-ghost use Rattle.std.specs.Prelude.{◌≡◌, ◌<◌, ◌≤◌, OnOk, OnErr, length, nat_lt};
+ghost use Rattle.std.specs.Prelude.{◌≡◌, ◌<◌, ◌≤◌, IfOk, length};
 
+use crate::room::enlarge;
 use lf_faults::Fault;
 use lf_list::Listed;
 use lf_outcome::Reach;
@@ -52,29 +53,31 @@ pub(crate) struct Branch {
 }
 
 impl Branch {
-    ghost use Rattle.lf_marks.specs.Branches.{AddsKid, KeepsKids, PutsKid};
+    ghost use Rattle.lf_marks.specs.Branches.{AddsKid, PutsKid};
+    ghost use Rattle.lf_marks.specs.Fits.{Fits};
 
-    /// Whether there is a kid that nobody has taken.
-    pub(crate) fn has_more(&self) -> bool
-        ensures { result ≡ nat_lt (length self.now.kids.items) (length self.now.edges) }
+    /// A larger list for the kids that are taken, where one kid more has no place: it has a place for each kid.
+    pub(crate) fn kid_room(&self) -> Result<Option<Vec<Node>>, AllocError>
+        requires { length self.now.kids.items < length self.now.edges }
+        ensures { IfOk result (Fits self.now.kids 1) }
     {
-        self.kids.len() < self.edges.len()
+        if self.kids.len() < self.kids.capacity() {
+            return Ok(None);
+        }
+        Ok(Some(Vec::with_capacity(*self.kids.allocator(), self.edges.len())?))
     }
 
-    /// Makes room for one more kid that is taken, at a place if it is the first. With the first it makes room for all.
-    pub(crate) fn add_kid(&mut self, place: usize) -> Result<(), AllocError>
-        requires { length self.old.kids.items < length self.old.edges }
-        ensures ok { OnOk result (AddsKid self.old self.new place) }
-        ensures err { OnErr result (KeepsKids self.old self.new) }
+    /// One kid more is taken, at a place if it is the first, with the larger list for the kids, where there is one.
+    pub(crate) fn add_kid(&mut self, place: usize, larger: Option<Vec<Node>>)
+        requires more { length self.old.kids.items < length self.old.edges }
+        requires room { Fits self.old.kids 1 larger }
+        ensures { AddsKid self.old self.new place }
     {
-        if self.kids.is_empty() {
-            self.kids.reserve_exact(self.edges.len())?;
-        }
-        self.kids.push(Node::Misses)?;
+        enlarge(&mut self.kids, larger);
+        self.kids.push_reserved(Node::Misses);
         if self.kids.len() == 1 {
             self.first = place;
         }
-        Ok(())
     }
 
     /// Puts a node in place of another, of a kid that was taken.

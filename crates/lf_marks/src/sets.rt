@@ -1,10 +1,12 @@
 //! Changes of the sets that were taken.
 
-ghost use Rattle.std.specs.Prelude.{◌≡◌, ℕ, ◌+◌, ◌<◌, OnOk, OnErr, length, vec_capacity};
+ghost use Rattle.std.specs.Prelude.{◌≡◌, ◌<◌, IfOk, length, slice_get, vec_capacity};
 ghost use Rattle.lf_marks.specs.Arena.{look, mark_in, first_in, taken_in};
-ghost use Rattle.lf_marks.specs.Walks.{IsRemarked, IsKept, IsWidened, width};
+ghost use Rattle.lf_marks.specs.Room.{FitsKidOf};
+ghost use Rattle.lf_marks.specs.Walks.{IsRemarked, IsWidened, width};
 
 use crate::set::{Set, State};
+use lf_tree::Node;
 use std::alloc::AllocError;
 
 /// Puts a state in place of another, of a set of which no kid was taken.
@@ -19,17 +21,28 @@ pub(crate) fn put_state(sets: &mut Vec<Set>, place: usize, state: State)
     set.state = state;
 }
 
-/// Makes room for one more kid of a branch that is taken, at a place if it is the first.
-pub(crate) fn widen(sets: &mut Vec<Set>, parent: usize, place: usize) -> Result<(), AllocError>
-    requires { (look sets.old.items parent).taken < width (look sets.old.items parent) }
-    ensures ok { OnOk result (IsWidened (look sets.old.items) (look sets.new.items) parent place) }
-    ensures err { OnErr result (IsKept (look sets.old.items) (look sets.new.items)) }
+/// A larger list for the kids of a branch that are taken, where one kid more has no place.
+pub(crate) fn kid_room(sets: &[Set], parent: usize) -> Result<Option<Vec<Node>>, AllocError>
+    requires { (look sets.now parent).taken < width (look sets.now parent) }
+    ensures { IfOk result (FitsKidOf (slice_get sets.now parent)) }
+{
+    match &sets[parent].state {
+        State::Branch(branch) => branch.kid_room(),
+        _ => unreachable!(),
+    }
+}
+
+/// Takes one more kid of a branch, at a place if it is the first, with the larger list of its kids, where there is one.
+pub(crate) fn add_kid(sets: &mut Vec<Set>, parent: usize, place: usize, larger: Option<Vec<Node>>)
+    requires more { (look sets.old.items parent).taken < width (look sets.old.items parent) }
+    requires room { FitsKidOf (slice_get sets.old.items parent) larger }
+    ensures widened { IsWidened (look sets.old.items) (look sets.new.items) parent place }
     ensures length { length sets.new.items ≡ length sets.old.items }
     ensures capacity { vec_capacity sets.new ≡ vec_capacity sets.old }
 {
     let set = &mut sets[parent];
     match &mut set.state {
-        State::Branch(branch) => branch.add_kid(place),
+        State::Branch(branch) => branch.add_kid(place, larger),
         _ => unreachable!(),
     }
 }

@@ -1,13 +1,12 @@
 -- What the holds of the lock leave of the number of answered sets.
 use mathlib.Core.Logic.{∥∥₁_elim, ∥∥₁_prop}
-use Rattle.std.proofs.Common.{◌≡◌, ℕ, ◌+◌, true, false}
+use Rattle.std.proofs.Common.{◌≡◌, ℕ, ◌+◌, sym, subst, true, false}
 use Rattle.std.specs.Prelude.{Result, Ok, Err, IfOk, OnOk, OnErr, is_err}
 use Rattle.lf_marks.specs.Steps.{IsAnswer}
 use Rattle.lf_marks.specs.Answers.{mark_for}
 use Rattle.lf_marks.specs.Counting.{OfKind}
 use Rattle.lf_marks.specs.declared.grown.Answer.{Answer}
 use Rattle.lf_marks.specs.declared.grown.Answer.TheVariants.{Misses, Reaches, Branch}
-use Rattle.lf_search.specs.States.{IsSameState}
 use Rattle.lf_book.specs.Books.{scenario_of, state_of, IsClosedFor, IsTaken, IsDeepened, IsFiled, IsGivenBack}
 use Rattle.lf_book.specs.declared.book.Book.{Book}
 use Rattle.lf_book.specs.declared.taking.Taken.{Taken}
@@ -54,19 +53,19 @@ filed-counted-book old new finding n closed e c = ∥∥₁_elim closed ∥∥�
 
 -- what a result says of its cases
 pub take-counted : {Failed : Type 0} (old new : Book) (r : Result Taken Failed) (n : ℕ) → IfOk r (IsTaken old new)
-    → OnErr r (IsSameState (state_of old) (state_of new)) → IsAnsweredCount old n → IsAnsweredCount new n
+    → OnErr r (new ≡ old) → IsAnsweredCount old n → IsAnsweredCount new n
 take-counted old new (Ok t) n taken err = taken-counted old new t n taken
-take-counted old new (Err e) n taken err = same-counted (state_of old).marks (state_of new).marks n err.marks
+take-counted old new (Err e) n taken err = subst (λ b. IsAnsweredCount b n) (sym err)
 
 pub back-job-counted : {Done Back : Type 0} (old new : Book) (job : Job) (r : Result Done Back) (n : ℕ) → OnOk r (IsGivenBack job old new)
-    → OnErr r (IsSameState (state_of old) (state_of new)) → IsAnsweredCount old n → IsAnsweredCount new n
+    → OnErr r (new ≡ old) → IsAnsweredCount old n → IsAnsweredCount new n
 back-job-counted old new job (Ok t) n given err = given-counted old new job n given
-back-job-counted old new job (Err e) n given err = same-counted (state_of old).marks (state_of new).marks n err.marks
+back-job-counted old new job (Err e) n given err = subst (λ b. IsAnsweredCount b n) (sym err)
 
 pub refused-counted : {Done Back : Type 0} (old new : Book) (r : Result Done Back) (n : ℕ) → is_err r ≡ true
-    → OnErr r (IsSameState (state_of old) (state_of new)) → IsAnsweredCount old n → IsAnsweredCount new n
+    → OnErr r (new ≡ old) → IsAnsweredCount old n → IsAnsweredCount new n
 refused-counted old new (Ok t) n failed err = absurd cc
-refused-counted old new (Err e) n failed err = same-counted (state_of old).marks (state_of new).marks n err.marks
+refused-counted old new (Err e) n failed err = subst (λ b. IsAnsweredCount b n) (sym err)
 
 pub file-counted : {Done Back : Type 0} (old new : Book) (finding : Finding) (r : Result Done Back) (n : ℕ) → is_err r ≡ false
     → OnOk r (IsFiled finding old new) → ∥ IsClosedFor (scenario_of old) (state_of old) ∥₁ → IsAnsweredCount old n → IsAnsweredCount new (n + 1)

@@ -35,9 +35,8 @@ pub(crate) enum Begun {
 impl<L: Ledger> Locked<L> {
     ghost use Rattle.std.specs.Prelude.{◌≡◌, ◌+◌, IfOk, OnErr, MatchBool};
     ghost use Rattle.std.specs.Arc.{arc_value};
-    ghost use Rattle.lf_book.specs.Books.{scenario_of, state_of, IsFiled, IsGivenBack, IsClaimOf, task_of_job};
+    ghost use Rattle.lf_book.specs.Books.{scenario_of, IsFiled, IsGivenBack, IsClaimOf, task_of_job};
     ghost use Rattle.lf_pool.specs.Holds.{IsBegun};
-    ghost use Rattle.lf_search.specs.States.{IsSameState};
 
     /// How many sets are filed, as many as are answered.
     pub(crate) fn counted(&self) -> u64
@@ -49,7 +48,7 @@ impl<L: Ledger> Locked<L> {
     /// Takes a set, and where the level is done deepens the book. The error is that memory has run out, and changes nothing.
     pub(crate) fn begin(&mut self) -> Result<Begun, AllocError>
         ensures begun { IfOk result (IsBegun self.old.book self.new.book) }
-        ensures err { OnErr result (IsSameState (state_of self.old.book) (state_of self.new.book)) }
+        ensures err { OnErr result (self.new.book ≡ self.old.book) }
         ensures scenario { scenario_of self.new.book ≡ scenario_of self.old.book }
         ensures total { self.new.total ≡ self.old.total }
     {
@@ -67,7 +66,7 @@ impl<L: Ledger> Locked<L> {
     pub(crate) fn file(&mut self, share: &mut Share<L>, finding: Finding) -> bool
         ensures filed { MatchBool result
             (IsFiled finding self.old.book self.new.book × (share.new.filed ≡ share.old.filed + 1))
-            (IsSameState (state_of self.old.book) (state_of self.new.book) × (share.new.filed ≡ share.old.filed)) }
+            ((self.new.book ≡ self.old.book) × (share.new.filed ≡ share.old.filed)) }
         ensures scenario { scenario_of self.new.book ≡ scenario_of self.old.book }
     {
         let Locked { book, total } = self;
@@ -87,7 +86,7 @@ impl<L: Ledger> Locked<L> {
     pub(crate) fn give_back(&mut self, job: Job) -> bool
         ensures given { MatchBool result (IsGivenBack job self.old.book self.new.book)
             ((¬ IsClaimOf self.old.book job.ticket (arc_value job.scenario) job.path.items (task_of_job job))
-            × IsSameState (state_of self.old.book) (state_of self.new.book)) }
+            × (self.new.book ≡ self.old.book)) }
         ensures scenario { scenario_of self.new.book ≡ scenario_of self.old.book }
         ensures total { self.new.total ≡ self.old.total }
     {

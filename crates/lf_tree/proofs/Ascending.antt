@@ -1,5 +1,6 @@
 -- Lists of faults that ascend.
-use Rattle.std.proofs.Common.{◌≡◌, ℕ, Bool, true, false, cond, List, [], ◌∷◌, ◌++◌, get_or, take, drop, length, ◌+◌, ◌<◌, suc, inl, inr, refl, sym, ap, ◌∙◌, drop-cons}
+use Rattle.std.proofs.Common.{◌≡◌, ℕ, Bool, true, false, cond, List, [], ◌∷◌, ◌++◌, get_or, take, drop, length, ◌+◌, ◌<◌, suc, inl, inr, refl, sym, ap, ◌∙◌}
+use Rattle.std.proofs.Common.{drop-cons}
 use Rattle.std.proofs.lemmas.List.{take_more, take-append-drop}
 use Rattle.std.specs.List.{list_all, Contains}
 use Rattle.std.proofs.lemmas.Bool.{and_from, and_parts, and_left, and_right, and_cases, true≢false}

@@ -52,8 +52,10 @@ pub own-not_refused : (bytes : List ℕ) (t : Tree) → IsTree t → IsInRange t
 own-not_refused bytes t is range same none = none (tree_value t) (subst (λ b. IsJson b (tree_value t)) same (own-json t is range))
 
 -- what the reader of values gives for a tree's own text
-pub own-given : (bytes : List ℕ) (d : Data) (r : Reading Tree) → read bytes ≡ Some d → IfOk r (λ t. tree_in d ≡ Ok t) → IfErr r (λ e. e ≢ Memory → tree_in d ≡ Err e)
-    → (memory : (e : TreeFault) → (e ≢ Memory → ⊥) → e ≡ Memory) → (t : Tree) → IsTree t → IsInRange t → tree_text t ≡ bytes → MatchResult r (λ x. x ≡ t) (λ e. e ≡ Memory)
+pub own-given : (bytes : List ℕ) (d : Data) (r : Reading Tree) → read bytes ≡ Some d → IfOk r (λ t. tree_in d ≡ Ok t)
+    → IfErr r (λ e. e ≢ Memory → tree_in d ≡ Err e)
+    → (memory : (e : TreeFault) → (e ≢ Memory → ⊥) → e ≡ Memory) → (t : Tree) → IsTree t → IsInRange t → tree_text t ≡ bytes
+    → MatchResult r (λ x. x ≡ t) (λ e. e ≡ Memory)
 own-given bytes d (Ok x) reads ok err memory t is range same = let given = own-read bytes d t is range same reads in cc
 own-given bytes d (Err e) reads ok err memory t is range same =
     let given = own-read bytes d t is range same reads in
@@ -72,7 +74,8 @@ pub own-value : (bytes : List ℕ) (d : Data) (r : Reading Tree) → IsJson byte
 own-value bytes d r json ok err = own-given bytes d r json.1 ok err is_memory
 
 -- the two clauses on what is read
-pub value-said : (bytes : List ℕ) (d : Data) (r : Reading Tree) → IsJson bytes d → IfOk r (λ t. tree_in d ≡ Ok t) → IfOk r (λ t. (v : Data) × IsJson bytes v × (tree_in v ≡ Ok t))
+pub value-said : (bytes : List ℕ) (d : Data) (r : Reading Tree) → IsJson bytes d → IfOk r (λ t. tree_in d ≡ Ok t)
+    → IfOk r (λ t. (v : Data) × IsJson bytes v × (tree_in v ≡ Ok t))
 value-said bytes d (Ok t) json ok = (d, json, ok)
 value-said bytes d (Err e) json ok = tt
 

@@ -1,5 +1,6 @@
 -- Reading a list item by item.
-use Rattle.std.proofs.Common.{◌≡◌, ℕ, suc, ◌+◌, ◌<◌, List, [], ◌∷◌, ◌++◌, length, get_or, take, drop, Ok, Err, refl, sym, ap, ap₂, ◌∙◌, arith, drop-cons, append_assoc}
+use Rattle.std.proofs.Common.{◌≡◌, ℕ, suc, ◌+◌, ◌<◌, List, [], ◌∷◌, ◌++◌, length, get_or, take, drop, Ok, Err, refl, sym, ap, ap₂, ◌∙◌, arith, drop-cons}
+use Rattle.std.proofs.Common.{append_assoc}
 use Rattle.std.proofs.Math.ListN.{set}
 use Rattle.std.proofs.lemmas.List.{take_more_set}
 use Rattle.serde_json.specs.Data.{item}
@@ -8,7 +9,8 @@ use Rattle.serde_json.specs.declared.value.Value.{Value}
 use Rattle.lf_tree.specs.Reading.{Reading, ◌>>=◌, step_in, steps_in}
 
 -- one more, and what was read before
-joined : (done : List ℕ) (x : ℕ) (more : Reading (List ℕ)) → ((more >>= (λ xs. Ok (x ∷ xs))) >>= (λ xs. Ok (done ++ xs))) ≡ (more >>= (λ xs. Ok ((done ++ x ∷ []) ++ xs)))
+joined : (done : List ℕ) (x : ℕ) (more : Reading (List ℕ)) → ((more >>= (λ xs. Ok (x ∷ xs))) >>= (λ xs. Ok (done ++ xs)))
+    ≡ (more >>= (λ xs. Ok ((done ++ x ∷ []) ++ xs)))
 joined done x (Ok xs) = ap Ok (sym (append_assoc done (x ∷ []) xs))
 joined done x (Err e) = refl
 
@@ -23,7 +25,8 @@ pub placed : (vs : List Value) (steps : List ℕ) (i x : ℕ) (v : Value) → i 
     → (steps_in (items_view (drop (i + 1) vs)) >>= (λ rest. Ok (take (i + 1) (set steps i x) ++ rest))) ≡ whole
 placed vs steps i x v l room is read whole h =
     let more = steps_in (items_view (drop (i + 1) vs)) in
-    let first : (steps_in (items_view (drop i vs)) >>= (λ rest. Ok (take i steps ++ rest))) ≡ ((more >>= (λ xs. Ok (x ∷ xs))) >>= (λ xs. Ok (take i steps ++ xs))) =
+    let first : (steps_in (items_view (drop i vs)) >>= (λ rest. Ok (take i steps ++ rest)))
+    ≡ ((more >>= (λ xs. Ok (x ∷ xs))) >>= (λ xs. Ok (take i steps ++ xs))) =
     ap (λ ds. steps_in ds >>= (λ rest. Ok (take i steps ++ rest))) (next_item vs i v l is)
     ∙ ap (λ r. (r >>= (λ y. more >>= (λ xs. Ok (y ∷ xs)))) >>= (λ xs. Ok (take i steps ++ xs))) read in
     ap (λ ys. more >>= (λ rest. Ok (ys ++ rest))) (take_more_set steps i x room) ∙ sym (joined (take i steps) x more) ∙ sym first ∙ h

@@ -1,5 +1,6 @@
 -- What the types of a tree keep, as tests.
-use Rattle.std.proofs.Common.{◌≡◌, ℕ, suc, ◌+◌, ◌<◌, ◌≤◌, Bool, true, ◌&&◌, nat_le, List, [], ◌∷◌, ◌++◌, length, get_or, take, refl, sym, ap, ◌∙◌, arith, map, Option, Some}
+use Rattle.std.proofs.Common.{◌≡◌, ℕ, suc, ◌+◌, ◌<◌, ◌≤◌, Bool, true, ◌&&◌, nat_le, List, [], ◌∷◌, ◌++◌, length, get_or, take, refl, sym, ap, ◌∙◌, arith, map}
+use Rattle.std.proofs.Common.{Option, Some}
 use Rattle.std.specs.Prelude.{All}
 use Rattle.std.specs.List.{list_all, AllByRecursion}
 use Rattle.std.proofs.lemmas.Bool.{and_from, and_parts, le-leb}
@@ -41,7 +42,8 @@ all-push test [] x h k = and_from _ _ k refl
 all-push test (y ∷ xs) x h k = let p = and_parts (test y) (list_all test xs) h in and_from _ _ p.0 (all-push test xs x p.1 k)
 
 -- one more
-pub all-next : {A : Type 0} (test : A → Bool) (xs : List A) (i : ℕ) (x : A) → i < length xs → x ≡ get_or xs i x → list_all test (take i xs) ≡ true → test x ≡ true
+pub all-next : {A : Type 0} (test : A → Bool) (xs : List A) (i : ℕ) (x : A) → i < length xs → x ≡ get_or xs i x → list_all test (take i xs) ≡ true
+    → test x ≡ true
     → list_all test (take (i + 1) xs) ≡ true
 all-next test xs i x l is h k =
     ap (list_all test) (take_more xs i x l ∙ ap (λ y. take i xs ++ y ∷ []) (sym is)) ∙ all-push test (take i xs) x h k

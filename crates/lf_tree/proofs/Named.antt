@@ -1,5 +1,6 @@
 -- A fault is found by its text.
-use Rattle.std.proofs.Common.{◌≡◌, ◌≢◌, ℕ, zero, suc, ◌<◌, ◌≤◌, Bool, true, false, cond, ◌&&◌, List, Option, Some, None, IfSome, bytes_eq, nat_eq, inl, inr, refl, sym, ap, ◌∙◌, arith, not}
+use Rattle.std.proofs.Common.{◌≡◌, ◌≢◌, ℕ, zero, suc, ◌<◌, ◌≤◌, Bool, true, false, cond, ◌&&◌, List, Option, Some, None, IfSome, bytes_eq, nat_eq, inl, inr}
+use Rattle.std.proofs.Common.{refl, sym, ap, ◌∙◌, arith, not}
 use Rattle.std.specs.Prelude.{◌↔◌}
 use Rattle.std.proofs.lemmas.Bool.{and_from, and_parts, le-leb, lt-ltb, leb-true, ltb-true, eqb-true, ne_eqb, true≢false, cases_Bool, eq-eqb}
 use Rattle.std.proofs.lemmas.Slice.Eq.{bytes_eq-Decides}
@@ -64,7 +65,8 @@ first_below-none (suc n) f h k l =
     apart : (a b : ℕ) → nat_eq a b ≡ false → a ≢ b
     apart a b e same = true≢false (sym (eq-eqb a b same) ∙ e)
 
-tested_spelling : (text : List ℕ) (f : Parts) (a b : Bool) → is_fault f ≡ a → bytes_eq text (spelling f) ≡ b → IfSome (cond (a && b) (Some f) None) (Spells text)
+tested_spelling : (text : List ℕ) (f : Parts) (a b : Bool) → is_fault f ≡ a → bytes_eq text (spelling f) ≡ b
+    → IfSome (cond (a && b) (Some f) None) (Spells text)
 tested_spelling text f true true d e = (IsFault-true f d, (bytes_eq-Decides text (spelling f)).0 e)
 tested_spelling text f true false d e = tt
 tested_spelling text f false b d e = tt
@@ -84,7 +86,8 @@ spelled_at-some text make =
     first_below-some (Spells text) 8 (λ node. first_below 49 (λ step. if_spelled text (make node step)))
     (λ node. first_below-some (Spells text) 49 (λ step. if_spelled text (make node step)) (λ step. if_spelled-some text (make node step)))
 
-spelled_at-none : (text : List ℕ) (make : ℕ → ℕ → Parts) → spelled_at text make ≡ None → (node step : ℕ) → node < 8 → step ≤ 48 → Spells text (make node step) → ⊥
+spelled_at-none : (text : List ℕ) (make : ℕ → ℕ → Parts) → spelled_at text make ≡ None → (node step : ℕ) → node < 8 → step ≤ 48 → Spells text (make node step)
+    → ⊥
 unfolding spelled_at
 spelled_at-none text make none node step in_nodes in_steps h =
     if_spelled-none text (make node step)
@@ -105,7 +108,8 @@ named-some text =
     (first_below-some (Spells text) 8 (omissions text) (λ to. spelled_at-some text (λ from step. Omit from to step)))
     (or_else-some (Spells text) (spelled_at text Crash) (spelled_at text Pause) (spelled_at-some text Crash) (spelled_at-some text Pause))
 
-parts-none : (text : List ℕ) → fault_named text ≡ None → (first_below 8 (omissions text) ≡ None) × (spelled_at text Crash ≡ None) × (spelled_at text Pause ≡ None)
+parts-none : (text : List ℕ) → fault_named text ≡ None → (first_below 8 (omissions text) ≡ None) × (spelled_at text Crash ≡ None)
+    × (spelled_at text Pause ≡ None)
 unfolding fault_named
 parts-none text none =
     let first = or_else-none (first_below 8 (omissions text)) (others text) none in
@@ -126,7 +130,8 @@ same_when text None None is range some none = refl
 same_when text (Some f) None is range some none = absurd (none refl f (range, (is f range).0 refl))
 
 -- what reads the fault of each text finds it
-pub named-is : (text : List ℕ) (read : Option Parts) → ((f : Parts) → IsFault f → ((read ≡ Some f) ↔ (text ≡ spelling f))) → IfSome read IsFault → read ≡ fault_named text
+pub named-is : (text : List ℕ) (read : Option Parts) → ((f : Parts) → IsFault f → ((read ≡ Some f) ↔ (text ≡ spelling f))) → IfSome read IsFault
+    → read ≡ fault_named text
 named-is text read is range = same_when text read (fault_named text) is range (named-some text) (named-none text)
 
 found_own : (f : Parts) (found : Option Parts) → IsFault f → IfSome found (Spells (spelling f)) → (found ≡ None → (g : Parts) → Spells (spelling f) g → ⊥)

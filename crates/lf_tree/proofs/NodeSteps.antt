@@ -20,7 +20,8 @@ unfolding node_in
 node_in-form zero d no_leaf none = ap₂ (leaf_or (λ parts. Err TooDeep)) no_leaf none
 node_in-form (suc room) d no_leaf none = ap₂ (leaf_or (branch_in (node_in room))) no_leaf none
 
-pub node_in-deep : (room : ℕ) (d : Data) (parts : Data × (Data × Data)) → misses_in d ≡ None → branch_parts d ≡ Some parts → room ≡ 0 → node_in room d ≡ Err TooDeep
+pub node_in-deep : (room : ℕ) (d : Data) (parts : Data × (Data × Data)) → misses_in d ≡ None → branch_parts d ≡ Some parts → room ≡ 0
+    → node_in room d ≡ Err TooDeep
 unfolding node_in
 node_in-deep zero d parts no_leaf is full = ap₂ (leaf_or (λ parts. Err TooDeep)) no_leaf is
 node_in-deep (suc room) d parts no_leaf is full = absurd (omega arith)

@@ -1,5 +1,6 @@
 -- The value of a tree reads as that tree.
-use Rattle.std.proofs.Common.{◌≡◌, ◌≢◌, ℕ, suc, ◌-◌, ◌≤◌, Bool, true, false, ◌&&◌, ◌||◌, cond, nat_le, List, [], ◌∷◌, length, map, Option, Some, None, Ok, Err, refl, ap, ◌∙◌, arith}
+use Rattle.std.proofs.Common.{◌≡◌, ◌≢◌, ℕ, suc, ◌-◌, ◌≤◌, Bool, true, false, ◌&&◌, ◌||◌, cond, nat_le, List, [], ◌∷◌, length, map, Option, Some, None, Ok, Err}
+use Rattle.std.proofs.Common.{refl, ap, ◌∙◌, arith}
 use Rattle.std.specs.List.{list_all, list_any, AllByRecursion}
 use Rattle.std.proofs.lemmas.Bool.{and_parts}
 use Rattle.serde_json.specs.Data.{Data, boolean}
@@ -13,7 +14,8 @@ use Rattle.lf_tree.specs.declared.tree.Node.TheVariants as kind
 use Rattle.lf_tree.specs.Texts.{format_of, is_pause, has_pause, answer_faults, depth_of}
 use Rattle.lf_tree.specs.Trees.{is_fault, is_count, is_ascending, is_node, is_answer, IsTree}
 use Rattle.lf_tree.specs.Values.{fault_value, whole_value, listed, faults_value, value_step, node_value, answer_value, tree_value}
-use Rattle.lf_tree.specs.Reading.{Reading, ◌>>=◌, checked, some_or, fault_in, step_in, all_in, faults_in, edges_in, steps_in, reach_in, set_in, answer_in, format_in, kids_in, node_in, most_branches, tree_in}
+use Rattle.lf_tree.specs.Reading.{Reading, ◌>>=◌, checked, some_or, fault_in, step_in, all_in, faults_in, edges_in, steps_in, reach_in, set_in, answer_in}
+use Rattle.lf_tree.specs.Reading.{format_in, kids_in, node_in, most_branches, tree_in}
 use Rattle.lf_tree.proofs.Named.{IsFault-true, named-spelling}
 use Rattle.lf_tree.proofs.NodeCases.{by_induction, fold-Misses, fold-Reaches, fold-Branch, all_true, both_of, each_of, depth-kids}
 use Rattle.lf_tree.proofs.NodeSteps.{node_in-leaf, node_in-branch}
@@ -24,7 +26,8 @@ items-back : {A : Type 0} (read : Data → Reading A) (value : A → Data) (xs :
     → all_in read (items_of (map value xs)) ≡ Ok xs
 items-back read value [] h = refl
 items-back read value (x ∷ xs) h =
-    ap (λ r. r >>= (λ y. all_in read (items_of (map value xs)) >>= (λ ys. Ok (y ∷ ys)))) h.0 ∙ ap (λ r. r >>= (λ ys. Ok (x ∷ ys))) (items-back read value xs h.1)
+    ap (λ r. r >>= (λ y. all_in read (items_of (map value xs)) >>= (λ ys. Ok (y ∷ ys)))) h.0
+    ∙ ap (λ r. r >>= (λ ys. Ok (x ∷ ys))) (items-back read value xs h.1)
 
 items-length : {A : Type 0} (value : A → Data) (xs : List A) → items_len (items_of (map value xs)) ≡ length xs
 items-length value [] = refl
@@ -44,7 +47,8 @@ step-back n h = ap (λ b. checked OutOfRange b n) h
 reach-back : (reach : List ℕ) → is_count (length reach) ≡ true → list_all (λ t. nat_le t 48) reach ≡ true → reach_in (listed (map whole_value reach)) ≡ Ok reach
 reach-back reach count steps =
     let read : steps_in (items_of (map whole_value reach)) ≡ Ok reach =
-    items-back step_in whole_value reach (each_of (λ t. nat_le t 48 ≡ true) (λ t. step_in (whole_value t) ≡ Ok t) step-back reach (all_true (λ t. nat_le t 48) reach steps)) in
+    items-back step_in whole_value reach (each_of (λ t. nat_le t 48 ≡ true) (λ t. step_in (whole_value t) ≡ Ok t) step-back reach
+    (all_true (λ t. nat_le t 48) reach steps)) in
     ap (λ b. cond b (steps_in (items_of (map whole_value reach))) (Err Form)) (ap is_count (items-length whole_value reach) ∙ count) ∙ read
 
 answer-back : (answer : Option (List Parts)) → is_answer answer ≡ true → answer_in (answer_value answer) ≡ Ok answer
@@ -79,7 +83,8 @@ branch-back reach edges kids each room is shallow =
     let some : room ≢ 0 = λ none. omega (arith, low.0) in
     let beneath : AllByRecursion (λ n. depth_of n ≤ room - 1) kids = low.1 (room - 1) (omega arith) in
     let read : AllByRecursion (λ n. node_in (room - 1) (node_value n) ≡ Ok n) kids =
-    both_of (λ n. is_node n ≡ true) (λ n. IsBack n × (depth_of n ≤ room - 1)) (λ n. node_in (room - 1) (node_value n) ≡ Ok n) (λ n k w. w.0 (room - 1) k w.1) kids
+    both_of (λ n. is_node n ≡ true) (λ n. IsBack n × (depth_of n ≤ room - 1)) (λ n. node_in (room - 1) (node_value n) ≡ Ok n)
+    (λ n k w. w.0 (room - 1) k w.1) kids
     parts.nodes (both_of IsBack (λ n. depth_of n ≤ room - 1) (λ n. IsBack n × (depth_of n ≤ room - 1)) (λ n w d. (w, d)) kids each beneath) in
     let kids_read : kids_in (node_in (room - 1)) (listed (map node_value kids)) ≡ Ok kids = items-back (node_in (room - 1)) node_value kids read in
     let edges_read : edges_in (faults_value edges) ≡ Ok edges = faults-back edges parts.faults in
@@ -87,7 +92,8 @@ branch-back reach edges kids each room is shallow =
     let value = fold-Branch Data value_step reach edges kids in
     ap (node_in room) value
     ∙ node_in-branch room _ (faults_value edges, (listed (map node_value kids), listed (map whole_value reach))) refl refl some
-    ∙ ap (λ r. r >>= (λ es. reach_in (listed (map whole_value reach)) >>= (λ rs. kids_in (node_in (room - 1)) (listed (map node_value kids)) >>= (λ ns. Ok (kind.Branch rs es ns))))) edges_read
+    ∙ ap (λ r. r >>= (λ es. reach_in (listed (map whole_value reach)) >>= (λ rs. kids_in (node_in (room - 1))
+    (listed (map node_value kids)) >>= (λ ns. Ok (kind.Branch rs es ns))))) edges_read
     ∙ ap (λ r. r >>= (λ rs. kids_in (node_in (room - 1)) (listed (map node_value kids)) >>= (λ ns. Ok (kind.Branch rs edges ns)))) reach_read
     ∙ ap (λ r. r >>= (λ ns. Ok (kind.Branch reach edges ns))) kids_read
 

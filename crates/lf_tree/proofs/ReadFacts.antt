@@ -1,5 +1,6 @@
 -- What is read is no deeper than may be, and what can be wrong with a value.
-use Rattle.std.proofs.Common.{◌≡◌, ℕ, zero, suc, ◌≤◌, Bool, true, false, ◌||◌, ◌==◌, cond, nat_le, ◌∷◌, Option, Some, None, Ok, Err, refl, arith, IfOk, IfErr, option_and_then}
+use Rattle.std.proofs.Common.{◌≡◌, ℕ, zero, suc, ◌≤◌, Bool, true, false, ◌||◌, ◌==◌, cond, nat_le, ◌∷◌, Option, Some, None, Ok, Err, refl, arith, IfOk, IfErr}
+use Rattle.std.proofs.Common.{option_and_then}
 use Rattle.std.specs.Prelude.{codes, ⊤}
 use Rattle.std.specs.List.{AllByRecursion}
 use Rattle.serde_json.specs.Data.{Data, null, boolean, number, string, array, object, Items, no_items, item}
@@ -12,12 +13,15 @@ use Rattle.lf_tree.specs.declared.tree.Node.{Node}
 use Rattle.lf_tree.specs.declared.tree.Node.TheVariants as kind
 use Rattle.lf_tree.specs.Texts.{depth_of, depth_step}
 use Rattle.lf_tree.specs.Trees.{is_ascending, is_count}
-use Rattle.lf_tree.specs.Reading.{Reading, ◌>>=◌, checked, some_or, fault_named, fault_in, whole_in, step_in, all_in, faults_in, edges_in, steps_in, reach_in, set_in, answer_in, format_in, one_in, three_in, leaf_in, leaf_or, kids_in, branch_in, node_in, most_branches, parts_in, tree_in}
+use Rattle.lf_tree.specs.Reading.{Reading, ◌>>=◌, checked, some_or, fault_named, fault_in, whole_in, step_in, all_in, faults_in, edges_in, steps_in, reach_in}
+use Rattle.lf_tree.specs.Reading.{set_in, answer_in, format_in, one_in, three_in, leaf_in, leaf_or, kids_in, branch_in, node_in, most_branches, parts_in}
+use Rattle.lf_tree.specs.Reading.{tree_in}
 use Rattle.lf_tree.proofs.NodeCases.{fold-Misses, fold-Reaches, depth-Branch-le}
 
 -- Depth
 
-after-ok : {A B : Type 0} (P : A → Type 0) (Q : B → Type 0) (r : Reading A) (next : A → Reading B) → IfOk r P → ((x : A) → P x → IfOk (next x) Q) → IfOk (r >>= next) Q
+after-ok : {A B : Type 0} (P : A → Type 0) (Q : B → Type 0) (r : Reading A) (next : A → Reading B) → IfOk r P → ((x : A) → P x → IfOk (next x) Q)
+    → IfOk (r >>= next) Q
 after-ok P Q (Ok x) next h k = k x h
 after-ok P Q (Err e) next h k = tt
 
@@ -55,7 +59,8 @@ leaf_or-low room branch h (Some d) parts = leaf-low room d
 leaf_or-low room branch h None (Some parts) = h parts
 leaf_or-low room branch h None None = tt
 
-kids-low : (room : ℕ) (read : Data → Reading Node) → ((d : Data) → IfOk (read d) (IsLow room)) → (d : Data) → IfOk (kids_in read d) (AllByRecursion (IsLow room))
+kids-low : (room : ℕ) (read : Data → Reading Node) → ((d : Data) → IfOk (read d) (IsLow room)) → (d : Data)
+    → IfOk (kids_in read d) (AllByRecursion (IsLow room))
 kids-low room read h null = tt
 kids-low room read h (boolean b) = tt
 kids-low room read h (number n) = tt
@@ -63,11 +68,14 @@ kids-low room read h (string s) = tt
 kids-low room read h (array ds) = all-ok (IsLow room) read h ds
 kids-low room read h (object ms) = tt
 
-branch-low : (room : ℕ) (read : Data → Reading Node) → ((d : Data) → IfOk (read d) (IsLow room)) → (parts : Data × (Data × Data)) → IfOk (branch_in read parts) (IsLow (suc room))
+branch-low : (room : ℕ) (read : Data → Reading Node) → ((d : Data) → IfOk (read d) (IsLow room)) → (parts : Data × (Data × Data))
+    → IfOk (branch_in read parts) (IsLow (suc room))
 branch-low room read h parts =
     after-ok (λ _. ⊤) (IsLow (suc room)) (edges_in parts.0) _ (any-ok (edges_in parts.0))
-    (λ es e. after-ok (λ _. ⊤) (IsLow (suc room)) (reach_in parts.1.1) (λ rs. kids_in read parts.1.0 >>= (λ ns. Ok (kind.Branch rs es ns))) (any-ok (reach_in parts.1.1))
-    (λ rs r. after-ok (AllByRecursion (IsLow room)) (IsLow (suc room)) (kids_in read parts.1.0) (λ ns. Ok (kind.Branch rs es ns)) (kids-low room read h parts.1.0)
+    (λ es e. after-ok (λ _. ⊤) (IsLow (suc room)) (reach_in parts.1.1) (λ rs. kids_in read parts.1.0 >>= (λ ns. Ok (kind.Branch rs es ns)))
+    (any-ok (reach_in parts.1.1))
+    (λ rs r. after-ok (AllByRecursion (IsLow room)) (IsLow (suc room)) (kids_in read parts.1.0) (λ ns. Ok (kind.Branch rs es ns))
+    (kids-low room read h parts.1.0)
     (λ ns low. omega (arith, depth-Branch-le rs es ns room low))))
 
 pub node-low : (room : ℕ) (d : Data) → IfOk (node_in room d) (IsLow room)
@@ -85,7 +93,8 @@ tree-low d =
     after-ok (λ _. ⊤) IsShallow (some_or Form (three_in (codes "answer") (codes "format") (codes "root") d)) parts_in
     (any-ok (some_or Form (three_in (codes "answer") (codes "format") (codes "root") d)))
     (λ parts p. after-ok (λ _. ⊤) IsShallow (answer_in parts.0) _ (any-ok (answer_in parts.0))
-    (λ a q. after-ok (λ _. ⊤) IsShallow (format_in parts.1.0) (λ f. node_in most_branches parts.1.1 >>= (λ n. Ok (record { answer = a; root = n }))) (any-ok (format_in parts.1.0))
+    (λ a q. after-ok (λ _. ⊤) IsShallow (format_in parts.1.0) (λ f. node_in most_branches parts.1.1 >>= (λ n. Ok (record { answer = a; root = n })))
+    (any-ok (format_in parts.1.0))
     (λ f r. after-ok (IsLow 6) IsShallow (node_in most_branches parts.1.1) (λ n. Ok (record { answer = a; root = n })) (node-low 6 parts.1.1) (λ n low. low))))
 
 -- What can be wrong

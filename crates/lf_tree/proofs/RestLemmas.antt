@@ -1,5 +1,6 @@
 -- What is left of some bytes after the texts that they begin with.
-use Rattle.std.proofs.Common.{◌≡◌, ◌≢◌, ℕ, suc, ◌+◌, ◌<◌, ◌≤◌, Bool, true, false, cond, ◌==◌, List, [], ◌∷◌, ◌++◌, length, get_or, drop, map, Option, Some, None, refl, sym, ap, ap₂, ◌∙◌, arith, append_assoc, append-nil, inl, inr, decimal, Bor, MatchOption}
+use Rattle.std.proofs.Common.{◌≡◌, ◌≢◌, ℕ, suc, ◌+◌, ◌<◌, ◌≤◌, Bool, true, false, cond, ◌==◌, List, [], ◌∷◌, ◌++◌, length, get_or, drop, map, Option, Some}
+use Rattle.std.proofs.Common.{None, refl, sym, ap, ap₂, ◌∙◌, arith, append_assoc, append-nil, inl, inr, decimal, Bor, MatchOption}
 use Rattle.std.specs.Prelude.{codes, if◌then◌else◌}
 use Rattle.std.proofs.lemmas.Bool.{cases_Bool, eqb-true, eq-eqb, false≢true}
 use Rattle.lf_faults.specs.declared.fault.Parts.{Parts}
@@ -137,7 +138,8 @@ module _ {X : Type 0} (f : X → List ℕ) where
 pub skip-Misses : (n : Node) (before now : Option (List ℕ)) → n ≡ kind.Misses → now ≡ skip (codes "{\"misses\":true}") before → now ≡ skip (node_text n) before
 skip-Misses n before now is passed = passed ∙ ap (λ s. skip s before) (sym (ap node_text is ∙ node_text-Misses))
 
-pub skip-Reaches : (n : Node) (before now : Option (List ℕ)) → n ≡ kind.Reaches → now ≡ skip (codes "{\"misses\":false}") before → now ≡ skip (node_text n) before
+pub skip-Reaches : (n : Node) (before now : Option (List ℕ)) → n ≡ kind.Reaches → now ≡ skip (codes "{\"misses\":false}") before
+    → now ≡ skip (node_text n) before
 skip-Reaches n before now is passed = passed ∙ ap (λ s. skip s before) (sym (ap node_text is ∙ node_text-Reaches))
 
 pub skip-Branch : (n : Node) (reach : List ℕ) (edges es : List Parts) (kids ks : List Node) (before t u v w x y now : Option (List ℕ))
@@ -151,19 +153,22 @@ skip-Branch n reach edges es kids ks before t u v w x y now is edges_read kids_r
     (four ∙ ap (λ (ns : List Node). skip (in_brackets (map node_text ns)) v) kids_read) five six last
 
 -- faults
-pub skip-Omit : (f : Parts) (from to step : ℕ) (before t u v w now : Option (List ℕ)) → Omit from to step ≡ f → t ≡ skip (codes "\"omit ") before → u ≡ skip (decimal from) t
+pub skip-Omit : (f : Parts) (from to step : ℕ) (before t u v w now : Option (List ℕ)) → Omit from to step ≡ f
+    → t ≡ skip (codes "\"omit ") before → u ≡ skip (decimal from) t
     → v ≡ skip (codes ">") u → w ≡ skip (node_at_step to step) v → now ≡ skip (codes "\"") w → now ≡ skip (quoted f) before
 skip-Omit f from to step before t u v w now is one two three four five =
     skip-five (codes "\"omit ") (decimal from) (codes ">") (node_at_step to step) (codes "\"") (quoted f) before t u v w now
     (sym (ap quoted is) ∙ ap (λ s. codes "\"omit " ++ s) (append_assoc (decimal from) (codes ">" ++ node_at_step to step) (codes "\"")))
     one two three four five
 
-pub skip-Crash : (f : Parts) (node step : ℕ) (before t u now : Option (List ℕ)) → Crash node step ≡ f → t ≡ skip (codes "\"crash ") before → u ≡ skip (node_at_step node step) t
+pub skip-Crash : (f : Parts) (node step : ℕ) (before t u now : Option (List ℕ)) → Crash node step ≡ f
+    → t ≡ skip (codes "\"crash ") before → u ≡ skip (node_at_step node step) t
     → now ≡ skip (codes "\"") u → now ≡ skip (quoted f) before
 skip-Crash f node step before t u now is one two three =
     skip-three (codes "\"crash ") (node_at_step node step) (codes "\"") (quoted f) before t u now (sym (ap quoted is)) one two three
 
-pub skip-Pause : (f : Parts) (node step : ℕ) (before t u now : Option (List ℕ)) → Pause node step ≡ f → t ≡ skip (codes "\"pause ") before → u ≡ skip (node_at_step node step) t
+pub skip-Pause : (f : Parts) (node step : ℕ) (before t u now : Option (List ℕ)) → Pause node step ≡ f
+    → t ≡ skip (codes "\"pause ") before → u ≡ skip (node_at_step node step) t
     → now ≡ skip (codes "\"") u → now ≡ skip (quoted f) before
 skip-Pause f node step before t u now is one two three =
     skip-three (codes "\"pause ") (node_at_step node step) (codes "\"") (quoted f) before t u now (sym (ap quoted is)) one two three

@@ -1,5 +1,6 @@
 -- The value of a tree, its text, and what serde_json reads of that text.
-use Rattle.std.proofs.Common.{◌≡◌, ℕ, zero, suc, ◌+◌, ◌*◌, ◌<◌, ◌≤◌, ◌^◌, Bool, true, false, ◌&&◌, ◌||◌, cond, nat_le, List, [], ◌∷◌, ◌++◌, length, map, Option, Some, None, option_map, option_and_then, refl, sym, ap, ap₂, ◌∙◌, subst, arith, append_assoc, append-nil, decimal, IsUtf8}
+use Rattle.std.proofs.Common.{◌≡◌, ℕ, zero, suc, ◌+◌, ◌*◌, ◌<◌, ◌≤◌, ◌^◌, Bool, true, false, ◌&&◌, ◌||◌, cond, nat_le, List, [], ◌∷◌, ◌++◌, length, map, Option}
+use Rattle.std.proofs.Common.{Some, None, option_map, option_and_then, refl, sym, ap, ap₂, ◌∙◌, subst, arith, append_assoc, append-nil, decimal, IsUtf8}
 use Rattle.std.specs.Prelude.{codes}
 use Rattle.std.specs.List.{list_all, list_any, AllByRecursion}
 use Rattle.std.proofs.lemmas.Bool.{and_parts, leb-true}
@@ -24,7 +25,8 @@ use Rattle.lf_faults.specs.Texts.{spelling}
 use Rattle.lf_tree.specs.declared.tree.Tree.{Tree}
 use Rattle.lf_tree.specs.declared.tree.Node.{Node}
 use Rattle.lf_tree.specs.declared.tree.Node.TheVariants as kind
-use Rattle.lf_tree.specs.Texts.{with_commas, in_brackets, faults_text, node_step, node_text, answer_text, tree_text, format_of, is_pause, has_pause, answer_faults, depth_of}
+use Rattle.lf_tree.specs.Texts.{with_commas, in_brackets, faults_text, node_step, node_text, answer_text, tree_text, format_of, is_pause, has_pause}
+use Rattle.lf_tree.specs.Texts.{answer_faults, depth_of}
 use Rattle.lf_tree.specs.Texts as texts
 use Rattle.lf_tree.specs.Trees.{is_fault, is_count, is_reach, is_node_step, is_node, is_answer, IsTree}
 use Rattle.lf_tree.specs.Values.{fault_value, whole_value, listed, faults_value, keyed, value_step, node_value, answer_value, tree_value}
@@ -112,7 +114,8 @@ module _ (a b c : List ℕ) (x y z : Data) (deep : ℕ) (t u v : List ℕ) (p : 
   pub keyed-reads : put c z (put b y (put a x no_members)) ≡ member a x (member b y (member c z no_members))
       → of_json (outline (keyed a x b y c z)) ≡ Some (keyed a x b y c z)
   keyed-reads in_order =
-      ap (λ o. option_map object (option_and_then (λ d. of_members (json.member b (outline y) (json.member c (outline z) json.no_members)) (put a d no_members)) o)) p.reads
+      ap (λ o. option_map object (option_and_then (λ d. of_members (json.member b (outline y) (json.member c (outline z) json.no_members))
+      (put a d no_members)) o)) p.reads
       ∙ ap (λ o. option_map object (option_and_then (λ d. of_members (json.member c (outline z) json.no_members) (put b d (put a x no_members))) o)) q.reads
       ∙ ap (λ o. option_map object (option_and_then (λ d. Some (put c d (put b y (put a x no_members)))) o)) r.reads
       ∙ ap (λ ms. Some (object ms)) in_order
@@ -140,12 +143,14 @@ fits n h = omega (arith, leb-true n 48 h)
 faults-written : (fs : List Parts) → list_all is_fault fs ≡ true → IsWritten (faults_value fs) 1 (faults_text fs)
 faults-written fs h =
     list-written fault_value texts.quoted 0 fs
-    (each_of (λ f. is_fault f ≡ true) (λ f. IsWritten (fault_value f) 0 (texts.quoted f)) (λ f is. fault-written f (IsFault-true f is)) fs (all_true is_fault fs h))
+    (each_of (λ f. is_fault f ≡ true) (λ f. IsWritten (fault_value f) 0 (texts.quoted f)) (λ f is. fault-written f (IsFault-true f is)) fs
+    (all_true is_fault fs h))
 
 steps-written : (steps : List ℕ) → list_all (λ t. nat_le t 48) steps ≡ true → IsWritten (listed (map whole_value steps)) 1 (in_brackets (map decimal steps))
 steps-written steps h =
     list-written whole_value decimal 0 steps
-    (each_of (λ t. nat_le t 48 ≡ true) (λ t. IsWritten (whole_value t) 0 (decimal t)) (λ t is. whole-written t (fits t is)) steps (all_true (λ t. nat_le t 48) steps h))
+    (each_of (λ t. nat_le t 48 ≡ true) (λ t. IsWritten (whole_value t) 0 (decimal t)) (λ t is. whole-written t (fits t is)) steps
+    (all_true (λ t. nat_le t 48) steps h))
 
 -- a node in which at most so many branches stand one in the other
 abbrev IsNodeWritten : Node → Type 0
@@ -166,12 +171,14 @@ reaches-written = leaf-written false (codes "{\"misses\":false}") refl refl
 branch_text : List ℕ → List ℕ → List ℕ → List ℕ
 branch_text edges kids reach = codes "{\"edges\":" ++ (edges ++ (codes ",\"kids\":" ++ (kids ++ (codes ",\"reach\":" ++ (reach ++ codes "}")))))
 
-branch-ascii : (edges kids reach : List ℕ) → are_ascii edges ≡ true → are_ascii kids ≡ true → are_ascii reach ≡ true → are_ascii (branch_text edges kids reach) ≡ true
+branch-ascii : (edges kids reach : List ℕ) → are_ascii edges ≡ true → are_ascii kids ≡ true → are_ascii reach ≡ true
+    → are_ascii (branch_text edges kids reach) ≡ true
 unfolding branch_text
 branch-ascii edges kids reach e k r =
     ascii-append edges _ e (ascii-append kids (codes ",\"reach\":" ++ (reach ++ codes "}")) k (ascii-append reach (codes "}") r refl))
 
-branch-spelled : (t u v : List ℕ) → 123 ∷ (quoted (codes "edges") ++ 58 ∷ (t ++ 44 ∷ (quoted (codes "kids") ++ 58 ∷ (u ++ 44 ∷ (quoted (codes "reach") ++ 58 ∷ (v ++ 125 ∷ []))))))
+branch-spelled : (t u v : List ℕ) → 123 ∷ (quoted (codes "edges") ++ 58 ∷
+    (t ++ 44 ∷ (quoted (codes "kids") ++ 58 ∷ (u ++ 44 ∷ (quoted (codes "reach") ++ 58 ∷ (v ++ 125 ∷ []))))))
     ≡ branch_text t u v
 unfolding escape_byte branch_text
 branch-spelled t u v = refl
@@ -212,27 +219,32 @@ node-branch reach edges kids each (suc room) is shallow =
     let parts = parts-Branch reach edges kids is in
     let low = (depth-kids reach edges kids (suc room) shallow).1 room (omega arith) in
     let beneath : AllByRecursion (λ n. IsWritten (node_value n) (2 * room + 1) (node_text n)) kids =
-    both_of (λ n. is_node n ≡ true) (λ n. IsNodeWritten n × (depth_of n ≤ room)) (λ n. IsWritten (node_value n) (2 * room + 1) (node_text n)) (λ n k w. w.0 room k w.1) kids
+    both_of (λ n. is_node n ≡ true) (λ n. IsNodeWritten n × (depth_of n ≤ room)) (λ n. IsWritten (node_value n) (2 * room + 1) (node_text n))
+    (λ n k w. w.0 room k w.1) kids
     parts.nodes (both_of IsNodeWritten (λ n. depth_of n ≤ room) (λ n. IsNodeWritten n × (depth_of n ≤ room)) (λ n w d. (w, d)) kids each low) in
     let deep : ℕ = suc (2 * room + 1) in
     let whole =
-    branch-written (faults_value edges) (listed (map node_value kids)) (listed (map whole_value reach)) deep (faults_text edges) (in_brackets (map node_text kids)) (in_brackets (map decimal reach))
+    branch-written (faults_value edges) (listed (map node_value kids)) (listed (map whole_value reach)) deep (faults_text edges)
+    (in_brackets (map node_text kids)) (in_brackets (map decimal reach))
     (deeper _ 1 deep _ (faults-written edges parts.faults) (omega arith))
     (list-written node_value node_text (2 * room + 1) kids beneath)
     (deeper _ 1 deep _ (steps-written reach parts.steps) (omega arith)) in
     let value = sym (fold-Branch Data value_step reach edges kids) in
-    let text = branch-is (faults_text edges) (in_brackets (map node_text kids)) (in_brackets (map decimal reach)) ∙ sym (fold-Branch (List ℕ) node_step reach edges kids) in
+    let text = branch-is (faults_text edges) (in_brackets (map node_text kids)) (in_brackets (map decimal reach))
+    ∙ sym (fold-Branch (List ℕ) node_step reach edges kids) in
     deeper _ (suc deep) _ _ (moved _ _ (suc deep) _ _ value text whole) (omega arith)
 
 node-misses : IsNodeWritten kind.Misses
 node-misses room is shallow =
     deeper _ 1 _ _
-    (moved _ (node_value kind.Misses) 1 _ (node_text kind.Misses) (sym (fold-Misses Data value_step)) (sym (fold-Misses (List ℕ) node_step)) misses-written) (omega arith)
+    (moved _ (node_value kind.Misses) 1 _ (node_text kind.Misses) (sym (fold-Misses Data value_step)) (sym (fold-Misses (List ℕ) node_step)) misses-written)
+    (omega arith)
 
 node-reaches : IsNodeWritten kind.Reaches
 node-reaches room is shallow =
     deeper _ 1 _ _
-    (moved _ (node_value kind.Reaches) 1 _ (node_text kind.Reaches) (sym (fold-Reaches Data value_step)) (sym (fold-Reaches (List ℕ) node_step)) reaches-written) (omega arith)
+    (moved _ (node_value kind.Reaches) 1 _ (node_text kind.Reaches) (sym (fold-Reaches Data value_step))
+    (sym (fold-Reaches (List ℕ) node_step)) reaches-written) (omega arith)
 
 pub node-written : (n : Node) → IsNodeWritten n
 node-written = by_induction IsNodeWritten (record { misses = node-misses; reaches = node-reaches; branch = node-branch })
@@ -251,12 +263,14 @@ format-small t = small-if (list_any is_pause (answer_faults t.answer) || has_pau
 whole_text : List ℕ → List ℕ → List ℕ → List ℕ
 whole_text answer format root = codes "{\"answer\":" ++ (answer ++ (codes ",\"format\":" ++ (format ++ (codes ",\"root\":" ++ (root ++ codes "}")))))
 
-whole-ascii : (answer format root : List ℕ) → are_ascii answer ≡ true → are_ascii format ≡ true → are_ascii root ≡ true → are_ascii (whole_text answer format root) ≡ true
+whole-ascii : (answer format root : List ℕ) → are_ascii answer ≡ true → are_ascii format ≡ true → are_ascii root ≡ true
+    → are_ascii (whole_text answer format root) ≡ true
 unfolding whole_text
 whole-ascii answer format root a f r =
     ascii-append answer _ a (ascii-append format (codes ",\"root\":" ++ (root ++ codes "}")) f (ascii-append root (codes "}") r refl))
 
-whole-spelled : (t u v : List ℕ) → 123 ∷ (quoted (codes "answer") ++ 58 ∷ (t ++ 44 ∷ (quoted (codes "format") ++ 58 ∷ (u ++ 44 ∷ (quoted (codes "root") ++ 58 ∷ (v ++ 125 ∷ []))))))
+whole-spelled : (t u v : List ℕ) → 123 ∷ (quoted (codes "answer") ++ 58 ∷
+    (t ++ 44 ∷ (quoted (codes "format") ++ 58 ∷ (u ++ 44 ∷ (quoted (codes "root") ++ 58 ∷ (v ++ 125 ∷ []))))))
     ≡ whole_text t u v
 unfolding escape_byte whole_text
 whole-spelled t u v = refl
@@ -284,6 +298,7 @@ read-written d deep text h low = (
   ap (λ s. option_and_then of_json (option_and_then (λ p. json.if_last p.0 p.1) (json.value max_depth s)))
       (ap tokens (sym h.spelled ∙ sym (print-outline d)) ∙ tokens-print (json_tokens (outline d)) (ArePrintable-json_tokens (outline d) h.numbers)
       ∙ sym (append-nil (json_tokens (outline d))))
-      ∙ ap (λ o. option_and_then of_json (option_and_then (λ p. json.if_last p.0 p.1) o)) (value-json_tokens (outline d) max_depth [] (omega (arith, h.shallow)))
+      ∙ ap (λ o. option_and_then of_json (option_and_then (λ p. json.if_last p.0 p.1) o))
+      (value-json_tokens (outline d) max_depth [] (omega (arith, h.shallow)))
       ∙ h.reads,
 )

@@ -1,13 +1,13 @@
 //! A small search by hand.
 
-ghost use Rattle.std.specs.Prelude.{◌≡◌, ℕ, ◌<◌, IsTrue};
+ghost use Rattle.std.specs.Prelude.{◌≡◌, ℕ, ◌<◌, IsTrue, OnOk};
 ghost use Rattle.lf_marks.specs.Marks.{mark_at};
-ghost use Rattle.lf_marks.specs.Steps.{IsUnmarked};
+ghost use Rattle.lf_marks.specs.Steps.{IsMarked, IsUnmarked};
 ghost use Rattle.lf_marks.specs.Steps as mark;
 
 use lf_faults::Fault;
 use lf_list::Listed;
-use lf_marks::{Answer, Counts, Grown, Marks, Steps};
+use lf_marks::{Answer, Claimable, Counts, Grown, Marks, Steps};
 use lf_outcome::Reach;
 use lf_tree::Node;
 use std::alloc::Global;
@@ -47,12 +47,32 @@ fn is_done(marks: &Marks) -> bool
     counts.claimed == 0
 }
 
-/// Takes a set and answers it, where no other is claimed, and tells its path.
-fn work(marks: &mut Marks, ticket: u64, answer: Answer) -> Result<Vec<usize>, Fail> {
+/// Takes an open set, where no other is claimed, and tells its path.
+fn take(marks: &mut Marks, ticket: u64) -> Result<Vec<usize>, Fail>
+    ensures { OnOk result (IsMarked (mark_at marks.new) (mark.Claimed ticket)) }
+{
+    take_by::<Brand>(marks, ticket, Blank::new(1))
+}
+
+/// The same, with steps of its own.
+fn take_by<L: Ledger>(marks: &mut Marks, ticket: u64, blank: Blank) -> Result<Vec<usize>, Fail>
+    requires name { blank.name ≡ L.name }
+    requires parts { blank.parts ≡ L.parts }
+    requires some { 0 < blank.parts }
+    ensures { OnOk result (IsMarked (mark_at marks.new) (mark.Claimed ticket)) }
+{
     if marks.counts().claimed > 0 {
         return Err(Fail::from("a set is claimed"));
     }
-    let path = marks.take(ticket)?.ok_or("no set is open")?;
+    let mut steps = Steps::<L>::new(blank);
+    let Claimable { path, room } = marks.find_open(&mut steps)?.ok_or("no set is open")?;
+    marks.claim(ticket, room, &mut steps);
+    Ok(path)
+}
+
+/// Takes a set and answers it, where no other is claimed, and tells its path.
+fn work(marks: &mut Marks, ticket: u64, answer: Answer) -> Result<Vec<usize>, Fail> {
+    let path = take(marks, ticket)?;
     marks.answer(ticket, answer);
     Ok(path)
 }
@@ -93,7 +113,7 @@ fn answers_the_root(rt: HostRuntime) -> Result<(), Fail> {
     let alloc = rt.alloc();
     let mut marks = Marks::new(alloc)?;
     assert!(rt; are(marks.counts(), 1, 0, 0, 0));
-    let root = marks.take(1)?.ok_or("no root")?;
+    let root = take(&mut marks, 1)?;
     assert!(rt; root.is_empty());
     assert!(rt; marks.is_claimed_at(1, &[]));
     assert!(rt; marks.has_claim(1));
@@ -116,24 +136,5 @@ fn answers_two_levels(rt: HostRuntime) -> Result<(), Fail> {
     let missing = marks.missing()?;
     assert!(rt; missing.len() == 1 && is_kid(missing[0].as_slice(), 1));
     assert!(rt; is_grown(&tree_of(marks)?));
-    Ok(())
-}
-
-/// Takes the root with its steps counted, and tells whether its path is empty.
-fn takes_the_root<L: Ledger>(alloc: Global, blank: Blank) -> Result<bool, Fail>
-    requires name { blank.name ≡ L.name }
-    requires parts { blank.parts ≡ L.parts }
-    requires some { 0 < blank.parts }
-{
-    let mut steps = Steps::<L>::new(blank);
-    let mut marks = Marks::new(alloc)?;
-    let root = marks.take_counted(1, &mut steps)?.ok_or("no root")?;
-    Ok(root.is_empty() && marks.has_claim(1))
-}
-
-#[test]
-fn takes_with_counted_steps(rt: HostRuntime) -> Result<(), Fail> {
-    let took = takes_the_root::<Brand>(rt.alloc(), Blank::new(1))?;
-    assert!(rt; took);
     Ok(())
 }

@@ -1,4 +1,4 @@
-use Rattle.std.proofs.Common.{◌<◌, map, length, refl, subst, ◌∙◌, ◌++◌, ap, sym, arith}
+use Rattle.std.proofs.Common.{◌<◌, map, length, ◌∙◌, ◌++◌, ap, sym, arith}
 use Rattle.std.proofs.lemmas.List.{append-nil}
 use Rattle.std.proofs.lemmas.Option.{slice_get-get_or}
 use Rattle.lf_certificate.specs.Places.{Place}

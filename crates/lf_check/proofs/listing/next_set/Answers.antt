@@ -1,4 +1,4 @@
-use Rattle.std.proofs.Common.{length, refl, subst, ◌∙◌, ap, sym, arith}
+use Rattle.std.proofs.Common.{length, refl, subst, ◌∙◌, ap, arith}
 use Rattle.std.specs.Prelude.{slice_index_or, Some}
 use Rattle.std.proofs.lemmas.Option.{slice_get-get_or, slice_get_read}
 use Rattle.lf_check.specs.Rows.{IsSetAt}

@@ -18,16 +18,19 @@ node_in-returns-in_default-three_in-clause-err t c =
 
 pub node_in-returns-then-room-eq0-clause-err : goal.node_in-returns-then-room-eq0-clause-err
 node_in-returns-then-room-eq0-clause-err t c =
-    λ other. node_in-deep c.args.room (view c.args.value.now) (three_view c.in-Some-three_in.parts) c.in_default.ensures c.in-Some-three_in.ensures c.if-room-eq0.true
+    λ other. node_in-deep c.args.room (view c.args.value.now) (three_view c.in-Some-three_in.parts) c.in_default.ensures c.in-Some-three_in.ensures
+    c.if-room-eq0.true
 
 pub node_in-returns-clause-ok : goal.node_in-returns-clause-ok
 node_in-returns-clause-ok t c =
     ok_of c.branch_in.result _ _
-    (node_in-branch c.args.room (view c.args.value.now) (three_view c.in-Some-three_in.parts) c.in_default.ensures c.in-Some-three_in.ensures c.if-room-eq0.false)
+    (node_in-branch c.args.room (view c.args.value.now) (three_view c.in-Some-three_in.parts) c.in_default.ensures c.in-Some-three_in.ensures
+    c.if-room-eq0.false)
     c.branch_in.ensures.ok
 
 pub node_in-returns-clause-err : goal.node_in-returns-clause-err
 node_in-returns-clause-err t c =
     err_of c.branch_in.result _ _
-    (node_in-branch c.args.room (view c.args.value.now) (three_view c.in-Some-three_in.parts) c.in_default.ensures c.in-Some-three_in.ensures c.if-room-eq0.false)
+    (node_in-branch c.args.room (view c.args.value.now) (three_view c.in-Some-three_in.parts) c.in_default.ensures c.in-Some-three_in.ensures
+    c.if-room-eq0.false)
     c.branch_in.ensures.err

@@ -10,7 +10,8 @@ after_kids-kids-init t c = skip-first node_text c.args.kids.now (left_of c.args.
 pub after_kids-kids-preserved : goal.after_kids-kids-preserved
 after_kids-kids-preserved t c =
     skip-more node_text c.args.kids.now c.kids.i c.index-kids-i.result c.index-kids-i.result (left_of c.kids.left) (left_of c.after_comma-next.result)
-    (left_of c.after_node-left.result) (skip (in_brackets (map node_text c.args.kids.now)) (left_of c.args.left)) (omega arith) c.index-kids-i.is c.kids.invariant
+    (left_of c.after_node-left.result) (skip (in_brackets (map node_text c.args.kids.now)) (left_of c.args.left))
+    (omega arith) c.index-kids-i.is c.kids.invariant
     c.after_comma-next.ensures c.after_node-left.ensures
 
 pub after_node-returns-in-Misses : goal.after_node-returns-in-Misses

@@ -4,7 +4,8 @@ use Rattle.lf_tree.proofs.own.after_fault.Goals as goal
 
 pub returns-in-Omit : goal.returns-in-Omit
 returns-in-Omit c =
-    skip-Omit c.args.fault.now c.in-Omit.from c.in-Omit.to c.in-Omit.step (left_of c.args.left) (left_of c.after-left.result) (left_of c.after_number-left.result)
+    skip-Omit c.args.fault.now c.in-Omit.from c.in-Omit.to c.in-Omit.step (left_of c.args.left) (left_of c.after-left.result)
+    (left_of c.after_number-left.result)
     (left_of c.after-left-in-Omit.result) (left_of c.after_point-left.result) (left_of c.after.result) c.in-Omit.ensures.value c.after-left.ensures
     c.after_number-left.ensures c.after-left-in-Omit.ensures c.after_point-left.ensures c.after.ensures
 

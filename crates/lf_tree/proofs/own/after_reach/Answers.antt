@@ -13,5 +13,6 @@ steps-init c =
 pub steps-preserved : goal.steps-preserved
 steps-preserved c =
     skip-more decimal c.items-step-items.result.now c.steps.i c.from.result 0 (left_of c.steps.left) (left_of c.after_comma-next.result)
-    (left_of c.after_number-left.result) (skip (in_brackets (map decimal c.args.reach.now)) (left_of c.args.left)) (omega arith) c.from.ensures c.steps.invariant
+    (left_of c.after_number-left.result) (skip (in_brackets (map decimal c.args.reach.now)) (left_of c.args.left))
+    (omega arith) c.from.ensures c.steps.invariant
     c.after_comma-next.ensures c.after_number-left.ensures

@@ -10,5 +10,6 @@ returns-then-is_own-clause-tree c =
 
 pub returns-else-is_own-clause-refused : goal.returns-else-is_own-clause-refused
 returns-else-is_own-clause-refused c =
-    λ other. text-refused c.args.bytes.now c.in_ok-tree.ensures.tree.0 c.in_ok-tree.tree c.if-bytes.false c.in_ok-tree.ensures.tree.1 c.in_ok-tree.ensures.tree.2
+    λ other. text-refused c.args.bytes.now c.in_ok-tree.ensures.tree.0 c.in_ok-tree.tree c.if-bytes.false c.in_ok-tree.ensures.tree.1
+    c.in_ok-tree.ensures.tree.2
     (λ same. true≢false (sym (c.is_own.ensures.1 same) ∙ c.if-is_own.false))

@@ -55,13 +55,16 @@ pub returns-in-Ok-clause-shared : goal.returns-in-Ok-clause-shared
 returns-in-Ok-clause-shared c is = shared_of c.args.words.now (Err c.in_ok-unread-in-None.field-0) is (returns-in-Ok-clause-words c (search rules))
 
 pub returns-in-Ok-clause-help : goal.returns-in-Ok-clause-help
-returns-in-Ok-clause-help c is = help_of (map string_bytes c.args.words.now) (Err c.in_ok-unread-in-None.field-0) is (returns-in-Ok-clause-words c (search rules))
+returns-in-Ok-clause-help c is = help_of (map string_bytes c.args.words.now) (Err c.in_ok-unread-in-None.field-0) is
+    (returns-in-Ok-clause-words c (search rules))
 
 pub returns-in-Ok-clause-version : goal.returns-in-Ok-clause-version
-returns-in-Ok-clause-version c is = version_of (map string_bytes c.args.words.now) (Err c.in_ok-unread-in-None.field-0) is (returns-in-Ok-clause-words c (search rules))
+returns-in-Ok-clause-version c is = version_of (map string_bytes c.args.words.now) (Err c.in_ok-unread-in-None.field-0) is
+    (returns-in-Ok-clause-words c (search rules))
 
 pub returns-in-Ok-clause-unknown : goal.returns-in-Ok-clause-unknown
-returns-in-Ok-clause-unknown c is = unknown_of (map string_bytes c.args.words.now) (Err c.in_ok-unread-in-None.field-0) is (returns-in-Ok-clause-words c (search rules))
+returns-in-Ok-clause-unknown c is = unknown_of (map string_bytes c.args.words.now) (Err c.in_ok-unread-in-None.field-0) is
+    (returns-in-Ok-clause-words c (search rules))
 
 pub returns-clause-plain : goal.returns-clause-plain
 returns-clause-plain c is = plain_of c.args.words.now (Err c.in_ok-refused-in-Err.field-0) is (returns-clause-words c (search rules))

@@ -4,13 +4,14 @@ use Rattle.lf_book.specs.Books.{scenario_of, state_of}
 use Rattle.lf_book.specs.Holding.{held_of}
 use Rattle.lf_book.specs.declared.driving.Event.TheVariants as event
 use Rattle.lf_book.proofs.DriveLemmas.{all_events, next_event, some_events}
+use Rattle.lf_book.proofs.StateLemmas.{same-book}
 use Rattle.lf_book.proofs.book.Book.drive.Goals as goal
 
 pub returns-in_err-reply-clause-err : goal.returns-in_err-reply-clause-err
 returns-in_err-reply-clause-err c =
     some_events c.from_residual-in_err-reply.result (scenario_of c.args.self.now) c.args.events.now c.events.event-index c.events.replies.items
     (map held_of c.events.jobs.items) (state_of c.args.self.now) (state_of c.events.self) (state_of c.reply.new.self) c.events-test.true
-    c.events.invariant.drives c.in_err-reply.ensures.err
+    c.events.invariant.drives (same-book c.events.self c.reply.new.self c.in_err-reply.ensures.err)
 
 pub events-preserved : goal.events-preserved
 events-preserved c =

@@ -3,6 +3,7 @@ use Rattle.lf_marks.specs.Answers.{mark_for}
 use Rattle.lf_book.specs.Books.{scenario_of, state_of, task_of_job}
 use Rattle.lf_book.proofs.HeldLemmas.{held-file, held-refused}
 use Rattle.lf_book.proofs.ReplyLemmas.{left-held, filed-held, files-held, refuses-held}
+use Rattle.lf_book.proofs.StateLemmas.{same-book}
 use Rattle.lf_book.proofs.book.Book.reply_to_file.Goals as goal
 
 pub returns-in-Ok-clause-files : goal.returns-in-Ok-clause-files
@@ -28,7 +29,7 @@ pub returns-clause-files : goal.returns-clause-files
 returns-clause-files c =
     refuses-held c.args.jobs.now.items c.args.place c.remove-job.result (omega (arith, c.len.ensures, c.if-place-len.false))
     c.remove-job.ensures.value c.args.self.now c.requires c.in_ok-work.field-0 c.in_ok-work.ensures (state_of c.file.new.self) c.in-Err.refusal
-    c.number.result c.number.ensures c.in-Err.ensures.refused c.in-Err.ensures.same
+    c.number.result c.number.ensures c.in-Err.ensures.refused (same-book c.args.self.now c.file.new.self c.in-Err.ensures.unchanged)
 
 pub returns-clause-left : goal.returns-clause-left
 returns-clause-left c = left-held c.args.jobs.now.items c.remove-job.new.self.items c.args.place c.remove-job.ensures.by_index.2
@@ -38,4 +39,4 @@ returns-clause-held c =
     let old = c.args.self.now in
     let new = c.file.new.self in
     held-refused (scenario_of old) (scenario_of new) c.file.ensures.scenario (state_of old) (state_of new) old.closed c.args.jobs.now.items
-    c.remove-job.new.self.items c.args.place c.remove-job.ensures.by_index.2 c.in-Err.ensures.same c.requires
+    c.remove-job.new.self.items c.args.place c.remove-job.ensures.by_index.2 (same-book c.args.self.now c.file.new.self c.in-Err.ensures.unchanged) c.requires

@@ -29,14 +29,16 @@ put_state-requires-clause-within c =
 pub put_state-requires-clause-first : goal.put_state-requires-clause-first
 put_state-requires-clause-first c =
     let m = c.args.self.now in
-    (claimed-kids c.args.ticket (slice_get m.sets.items c.in-Some.place) (claim-was m.level m.start m.sets.items (drop m.at m.queue.items) m.coming.items m.opened.items m.claims.items m.untaken m.waiting
+    (claimed-kids c.args.ticket (slice_get m.sets.items c.in-Some.place)
+    (claim-was m.level m.start m.sets.items (drop m.at m.queue.items) m.coming.items m.opened.items m.claims.items m.untaken m.waiting
     m.answered m.state c.args.ticket c.in-Some.place c.unclaim.new.claims.items
     c.in-Some.ensures.claims)).0 ∙ sym c.state_for.ensures.first
 
 pub put_state-requires-clause-taken : goal.put_state-requires-clause-taken
 put_state-requires-clause-taken c =
     let m = c.args.self.now in
-    (claimed-kids c.args.ticket (slice_get m.sets.items c.in-Some.place) (claim-was m.level m.start m.sets.items (drop m.at m.queue.items) m.coming.items m.opened.items m.claims.items m.untaken m.waiting
+    (claimed-kids c.args.ticket (slice_get m.sets.items c.in-Some.place)
+    (claim-was m.level m.start m.sets.items (drop m.at m.queue.items) m.coming.items m.opened.items m.claims.items m.untaken m.waiting
     m.answered m.state c.args.ticket c.in-Some.place c.unclaim.new.claims.items
     c.in-Some.ensures.claims)).1 ∙ sym c.state_for.ensures.taken
 
@@ -71,6 +73,7 @@ returns-clause-answered c =
     c.put_state.ensures.remarked in
     λ p h. answered-is m.level m.start m.sets.items (drop m.at m.queue.items) m.coming.items m.opened.items m.claims.items m.untaken m.waiting
     m.answered m.state c.args.ticket c.in-Some.place c.unclaim.new.claims.items c.in-Some.ensures.claims c.put_state.new.sets.items
-    c.put_state.ensures.length (mark_for c.args.answer) (is-answer c.args.answer) re p (claim-led m.level m.start m.sets.items (drop m.at m.queue.items) m.coming.items m.opened.items m.claims.items m.untaken m.waiting
+    c.put_state.ensures.length (mark_for c.args.answer) (is-answer c.args.answer) re p
+    (claim-led m.level m.start m.sets.items (drop m.at m.queue.items) m.coming.items m.opened.items m.claims.items m.untaken m.waiting
     m.answered m.state c.args.ticket c.in-Some.place
     c.unclaim.new.claims.items c.in-Some.ensures.claims p h)

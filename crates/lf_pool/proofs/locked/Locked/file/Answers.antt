@@ -8,7 +8,7 @@ invariant_of-self g c =
     let m = c.args.self.now in
     record {
       counted = refused-counted m.book c.file.new.self c.file.result m.total.total (sym c.is_err.ensures.value ∙ c.if-is_err.true)
-          c.file.ensures.same m.counted;
+          c.file.ensures.unchanged m.counted;
     }
 
 pub invariant_of-self-2 : goal.invariant_of-self-2

@@ -6,5 +6,5 @@ invariant_of-self g c =
     let m = c.args.self.now in
     record {
       counted = back-job-counted m.book c.give_back.new.self c.args.job c.give_back.result m.total.total c.give_back.ensures.given
-          c.give_back.ensures.same m.counted;
+          c.give_back.ensures.unchanged m.counted;
     }

@@ -1,0 +1,5 @@
+//! Worked examples of hints.
+#![tactic(auto)]
+
+#[cfg(test)]
+mod hints;

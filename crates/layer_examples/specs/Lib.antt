@@ -1,0 +1,2 @@
+pub mod Mazes
+pub mod MazesLemmas

@@ -1,0 +1,55 @@
+//! Why the program ends without a whole reply.
+
+use leastfault::BytesFault;
+use std::alloc::Global;
+use std::io;
+use std::io::ErrorKind;
+
+/// Why the program ends without a whole reply, and which device it was, where that is known.
+#[derive(Drop)]
+pub(crate) struct Stop {
+    fault: BytesFault,
+    /// The device and the system's reason.
+    device: Option<String>,
+}
+
+impl From<BytesFault> for Stop {
+    fn from(fault: BytesFault) -> Stop {
+        Stop {
+            fault,
+            device: None,
+        }
+    }
+}
+
+impl Stop {
+    /// The fault that a device of this name made. Where memory ran out it is that.
+    pub(crate) fn at(alloc: Global, fault: BytesFault, name: &str, error: &io::Error) -> Stop {
+        if error.kind() == ErrorKind::OutOfMemory {
+            return Stop::from(BytesFault::Memory);
+        }
+        Stop {
+            fault,
+            device: format!(in alloc; "{name}: {error}").ok(),
+        }
+    }
+
+    /// Tells on standard error the word of the fault, and then the device.
+    pub(crate) fn tell(&self, rt: &impl Eprint) {
+        let _printed = eprintln!(rt; "{}", word(self.fault)).is_ok();
+        if let Some(device) = &self.device {
+            let _told = eprintln!(rt; "{device}").is_ok();
+        }
+    }
+}
+
+/// What standard error says of a fault.
+fn word(fault: BytesFault) -> &'static str {
+    match fault {
+        BytesFault::Read => "read",
+        BytesFault::Write => "write",
+        BytesFault::Memory => "memory",
+        // No command asks for workers yet.
+        BytesFault::Pool(_) => "pool",
+    }
+}

@@ -1,0 +1,24 @@
+//! What is wrong with a text that is refused, in words for a person.
+//!
+//! The engines tell a refusal by a fixed line. A hint says of the same text what stands where, and what may stand there:
+//! `budget = 7: a whole number from 0 to 6`. It is one line, without its line feed. Places in lists are counted from 0, and
+//! what a text says is quoted in short. Hints are for people: no contract fixes their words.
+#![tactic(auto)]
+
+mod faults;
+mod formula;
+mod full;
+mod links;
+mod nodes;
+mod place;
+mod quote;
+mod scenario;
+mod takes;
+mod texts;
+mod tree;
+
+pub use faults::faults_hint;
+pub use full::full_hint;
+pub use scenario::scenario_hint;
+pub use texts::{check_hint, run_hint, search_hint};
+pub use tree::tree_hint;
