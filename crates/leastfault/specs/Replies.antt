@@ -176,9 +176,11 @@ tells_read (Ok _) = false
 tells_read (Err faults.Read) = true
 tells_read (Err faults.Write) = false
 tells_read (Err faults.Memory) = false
+tells_read (Err (faults.Pool number)) = false
 
 abbrev pub tells_write : {X : Type 0} → Result X BytesFault → Bool
 tells_write (Ok _) = false
 tells_write (Err faults.Read) = false
 tells_write (Err faults.Write) = true
 tells_write (Err faults.Memory) = false
+tells_write (Err (faults.Pool number)) = false

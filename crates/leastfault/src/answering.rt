@@ -112,7 +112,7 @@ fn least_sets(book: &Book) -> Result<Vec<FaultSet>, AllocError>
 }
 
 /// The reply where a level is too full.
-fn full(alloc: Global, level: u32, count: u64) -> Result<Reply, AllocError>
+pub(crate) fn full(alloc: Global, level: u32, count: u64) -> Result<Reply, AllocError>
     ensures { IfOk result (λ reply. (string_bytes reply.text ≡ full_line level count) × (reply.status ≡ 2)) }
 {
     Ok(Reply {
@@ -193,7 +193,7 @@ fn run_status(reaches: bool) -> u8
 }
 
 /// The status of an answer: 0 where there is no set that defeats the outcome, 1 where there is one.
-fn search_status(answer: &Option<FaultSet>) -> u8
+pub(crate) fn search_status(answer: &Option<FaultSet>) -> u8
     ensures { result ≡ search_status answer.now }
 {
     match answer {

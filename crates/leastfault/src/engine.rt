@@ -10,10 +10,13 @@ ghost use Rattle.leastfault.specs.Replies.{ToBoth, ToHeld, TookAtMost, WrotePart
 
 use crate::answering::{Reply, Wanted, run_reply, search_reply};
 use crate::checking::{check_reply, check_reply_rows};
+use crate::workers::shared_reply;
 use lf_scenario::LONGEST;
 use lf_streams::{ReadFault, Sink, Source, read_up_to, write_all};
 use lf_tree::Tree;
 use std::alloc::Global;
+use std::rt::Clock;
+use std::sync::Wait;
 use std::thread::Threads;
 use thiserror::Error;
 
@@ -29,6 +32,9 @@ pub enum BytesFault {
     /// Memory ran out. Nothing was written.
     #[error("out of memory")]
     Memory,
+    /// The workers of a search gave no answer, for the cause with this number. Nothing was written.
+    #[error("the workers gave no answer: {0}")]
+    Pool(u32),
 }
 
 /// How many bytes the text of a tree has at most.
@@ -121,6 +127,89 @@ fn search_for<R: Source, W: Sink>(
     let Ok(found) = search_reply(alloc, wanted, text.as_slice()) else {
         return Err(BytesFault::Memory);
     };
+    let status = send(writer, &found.reply)?;
+    Ok(Searched {
+        status,
+        tree: found.tree,
+    })
+}
+
+/// The same as `search_bytes`, but the search is made by so many workers at once, 1..=32: the reply, the tree and the status are the
+/// same for every number of them. For a scenario that isn't refused another number is `Pool(1)`. It may wait for ever: what is promised
+/// holds if it returns.
+pub fn search_shared<T: Threads + Wait + Clock + Sync, R: Source, W: Sink>(
+    rt: &T,
+    alloc: Global,
+    reader: &mut R,
+    writer: &mut W,
+    workers: u32,
+) -> Result<Searched, BytesFault>
+    requires reader { R.has_failed reader.old ≡ false }
+    requires writer { W.has_failed writer.old ≡ false }
+    // The reply to what the source held was written, the status is that of the reply, and the tree is the scenario's.
+    ensures reply { IfOk result (λ searched.
+        WroteReply (ToHeld (IsSearched searched.tree) (R.left reader.old)) (W.written writer.old) (W.written writer.new) searched.status) }
+    // `Write` leaves a part of the reply, and any other fault nothing.
+    ensures part { result ≡ Err BytesFault.Write →
+        WrotePart (ToHeld IsSearchReply (R.left reader.old)) (W.written writer.old) (W.written writer.new) }
+    ensures unwritten { IfErr result (λ e. e ≢ BytesFault.Write → writer.new ≡ writer.old) }
+    // `Read` says that the source failed, and `Write` that the sink did.
+    ensures source { R.has_failed reader.new ≡ tells_read result }
+    ensures sink { W.has_failed writer.new ≡ tells_write result }
+    // No more than one byte past the longest text is taken.
+    ensures taken { TookAtMost (longest + 1) (R.left reader.old) (R.left reader.new) }
+{
+    shared_for(rt, alloc, Wanted::Answer, workers, reader, writer)
+}
+
+/// The same as `all_bytes`, by so many workers, as `search_shared`.
+pub fn all_shared<T: Threads + Wait + Clock + Sync, R: Source, W: Sink>(
+    rt: &T,
+    alloc: Global,
+    reader: &mut R,
+    writer: &mut W,
+    workers: u32,
+) -> Result<Searched, BytesFault>
+    requires reader { R.has_failed reader.old ≡ false }
+    requires writer { W.has_failed writer.old ≡ false }
+    // The reply to what the source held was written, the status is that of the reply, and the tree is the scenario's.
+    ensures reply { IfOk result (λ searched.
+        WroteReply (ToHeld (IsSearchedAll searched.tree) (R.left reader.old)) (W.written writer.old) (W.written writer.new) searched.status) }
+    // `Write` leaves a part of the reply, and any other fault nothing.
+    ensures part { result ≡ Err BytesFault.Write →
+        WrotePart (ToHeld IsAllReply (R.left reader.old)) (W.written writer.old) (W.written writer.new) }
+    ensures unwritten { IfErr result (λ e. e ≢ BytesFault.Write → writer.new ≡ writer.old) }
+    // `Read` says that the source failed, and `Write` that the sink did.
+    ensures source { R.has_failed reader.new ≡ tells_read result }
+    ensures sink { W.has_failed writer.new ≡ tells_write result }
+    // No more than one byte past the longest text is taken.
+    ensures taken { TookAtMost (longest + 1) (R.left reader.old) (R.left reader.new) }
+{
+    shared_for(rt, alloc, Wanted::AllLeast, workers, reader, writer)
+}
+
+/// Reads a scenario, searches it by so many workers, and writes the reply that reports what is wanted.
+fn shared_for<T: Threads + Wait + Clock + Sync, R: Source, W: Sink>(
+    rt: &T,
+    alloc: Global,
+    wanted: Wanted,
+    workers: u32,
+    reader: &mut R,
+    writer: &mut W,
+) -> Result<Searched, BytesFault>
+    requires reader { R.has_failed reader.old ≡ false }
+    requires writer { W.has_failed writer.old ≡ false }
+    ensures reply { IfOk result (λ searched. WroteReply (ToHeld (IsSearchedWith (reports_of wanted) searched.tree) (R.left reader.old))
+        (W.written writer.old) (W.written writer.new) searched.status) }
+    ensures part { result ≡ Err BytesFault.Write →
+        WrotePart (ToHeld (IsReplyWith (reports_of wanted)) (R.left reader.old)) (W.written writer.old) (W.written writer.new) }
+    ensures unwritten { IfErr result (λ e. e ≢ BytesFault.Write → writer.new ≡ writer.old) }
+    ensures source { R.has_failed reader.new ≡ tells_read result }
+    ensures sink { W.has_failed writer.new ≡ tells_write result }
+    ensures taken { TookAtMost (longest + 1) (R.left reader.old) (R.left reader.new) }
+{
+    let text = read_text(alloc, reader, LONGEST)?;
+    let found = shared_reply(rt, alloc, wanted, workers, text.as_slice())?;
     let status = send(writer, &found.reply)?;
     Ok(Searched {
         status,

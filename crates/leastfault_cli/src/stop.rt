@@ -49,5 +49,7 @@ fn word(fault: BytesFault) -> &'static str {
         BytesFault::Read => "read",
         BytesFault::Write => "write",
         BytesFault::Memory => "memory",
+        // No command asks for workers yet.
+        BytesFault::Pool(_) => "pool",
     }
 }

@@ -21,3 +21,5 @@ mod runs;
 mod searches;
 #[cfg(test)]
 mod texts;
+#[cfg(test)]
+mod workers;
