@@ -124,8 +124,7 @@ fn replied<R: Read + Drop>(
             all,
             ..
         } => {
-            let searched = searched(rt, reader, *all, &mut ToWrite::new(rt.stdout()))?;
-            Ok(searched.status)
+            Ok(searched(rt, reader, *all, &mut ToWrite::new(rt.stdout()))?.status)
         }
         Asked::Search {
             tree: Some(tree),
