@@ -10,7 +10,7 @@ ghost use Rattle.lf_marks.specs.Steps as mark;
 ghost use Rattle.lf_search.specs.Events.{IsDone};
 
 use crate::Ended;
-use lf_book::{Book, Deepened, Spent, Taken, work_reusing};
+use lf_book::{Book, Deepened, Spent, Taken, work_up};
 use lf_certificate::settings_are_bounded;
 use lf_scenario::Scenario;
 use std::alloc::{AllocError, Global};
@@ -61,7 +61,7 @@ fn work_next(book: &mut Book, spent: &mut Spent) -> Result<(), AllocError>
     let Taken::Job(job) = taken else {
         unreachable!()
     };
-    let finding = work_reusing(&job, spent)?;
+    let finding = work_up(job, spent)?;
     let filed = book.file(finding);
     let Ok(()) = filed else { unreachable!() };
     Ok(())

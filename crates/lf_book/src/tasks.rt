@@ -24,7 +24,7 @@ impl Book {
         ensures { IfOk result (λ task. task_at (state_of self.now).marks path.now ≡ Some (record { faults = task.set; excluded = task.excluded.items })) }
     {
         let mut set = FaultSet::empty();
-        let mut excluded = Vec::new(alloc);
+        let mut excluded = Vec::with_capacity(alloc, sum(path))?;
         'path: for depth in 0..path.len() {
             let (more, larger) = self.step(path, depth, &set);
             excluded.extend_from_slice(more)?;
@@ -69,6 +69,15 @@ impl Book {
         let larger = with(&self.scenario.setting().spec, set, fault_at(edges, kid));
         (&edges[..kid], larger)
     }
+}
+
+/// The sum of the places of a path, or the largest number: as many edges stand before its kids.
+fn sum(path: &[usize]) -> usize {
+    let mut sum = 0usize;
+    for kid in path {
+        sum = sum.saturating_add(*kid);
+    }
+    sum
 }
 
 /// The fault at a place of a list.

@@ -51,6 +51,37 @@ pub fn work(job: &Job) -> Result<Finding, AllocError>
 pub fn work_reusing(job: &Job, spent: &mut Spent) -> Result<Finding, AllocError>
     ensures { IfOk result (IsOfJob job.now) }
 {
+    let answer = worked(job, spent)?;
+    finding_of(job, answer)
+}
+
+/// The same, where nobody needs the job any more: the finding takes over what it holds.
+pub fn work_up(job: Job, spent: &mut Spent) -> Result<Finding, AllocError>
+    ensures { IfOk result (IsOfJob job) }
+{
+    let answer = worked(&job, spent)?;
+    let Job {
+        scenario,
+        set,
+        excluded,
+        path,
+        ticket,
+    } = job;
+    Ok(Finding {
+        scenario,
+        set,
+        excluded,
+        path,
+        ticket,
+        answer,
+    })
+}
+
+/// What is found of a job's set.
+fn worked(job: &Job, spent: &mut Spent) -> Result<Answer, AllocError>
+    ensures { IfOk result (λ answer. IsFound (world_of (arc_value job.now.scenario).setting) (arc_value job.now.scenario).setting.spec
+        (arc_value job.now.scenario).formula job.now.set job.now.excluded.items (mark_for answer)) }
+{
     let alloc = *job.excluded.allocator();
     let scenario = job.scenario();
     let setting = scenario.setting();
@@ -64,7 +95,7 @@ pub fn work_reusing(job: &Job, spent: &mut Spent) -> Result<Finding, AllocError>
         &mut spent.edges,
     )?;
     spent.run = Some(played);
-    finding_of(job, answer)
+    Ok(answer)
 }
 
 /// What is found of a job's set, with what it is found of.
