@@ -3,9 +3,9 @@
 # `plain_answer` does. Prints for each what is found, and for both how many sets are run, the seconds of processor time
 # of the fastest of three runs, sets a second, and the peak memory. A plain search is stopped after three million sets.
 #
-# With --instructions it counts instructions in place of seconds, for each set and for each point (one node at one step) of it. They
-# repeat exactly, whatever else the machine does, and take a hundred times as long; a plain search is stopped after 100,000 sets then.
-# Further words name scenarios: those alone are searched.
+# With --instructions it counts instructions in place of seconds, for each set and for each point (one node at one step) of it, of both
+# in `bench_books`, so that the reading of the scenario falls out. They repeat exactly, whatever else the machine does, and take a
+# hundred times as long; a plain search is stopped after 100,000 sets then. Further words name scenarios: those alone are searched.
 #
 # How many sets the bounds of a scenario allow stands in a comment of it, with the sum that gives it. Each scenario is one that answers
 # none, so that a plain search would run them all.
@@ -68,7 +68,7 @@ for name in "${names[@]}"; do
     searched=$(sets_of 1 search)
     if [ -n "$count" ]; then
         plain=$(($(sets_of 100000 plain) - 1))
-        counted search "$searched" $(($(instructions "$program" search -) - $(instructions "$program" --version)))
+        counted search "$searched" $(($(instructions "$books" 1 search) - $(instructions "$books" 0 search)))
         counted plainly "$plain" $(($(instructions "$books" 100000 plain) - $(instructions "$books" 1 plain)))
     else
         timed search "$searched" "$program" search -
