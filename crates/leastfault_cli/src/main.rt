@@ -123,9 +123,7 @@ fn replied<R: Read + Drop>(
             tree: None,
             all,
             ..
-        } => {
-            Ok(searched(rt, reader, *all, &mut ToWrite::new(rt.stdout()))?.status)
-        }
+        } => { Ok(searched(rt, reader, *all, &mut ToWrite::new(rt.stdout()))?.status) }
         Asked::Search {
             tree: Some(tree),
             all,
