@@ -18,22 +18,25 @@
 //! Where the status is 2, standard error says in words what is wrong with what was refused. Where all is well it stays empty.
 #![tactic(auto)]
 
-mod stop;
-mod texts;
+ghost use Rattle.std.specs.Prelude.{◌≡◌, false};
 
+mod devices;
+mod kept;
+mod stop;
+
+use devices::{opened, print, put};
+use kept::Kept;
 use leastfault::{
-    Asked, BytesFault, FromRead, LONGEST_TREE, Searched, ToWrite, Tree, TreeFault, Unasked,
+    Asked, BytesFault, FromRead, Searched, Sink, Source, ToWrite, Tree, TreeFault, Unasked,
     all_bytes, asked, check_bytes_rows, run_bytes, search_bytes, to_text, tree_refusal,
 };
 use lf_hints::{check_hint, run_hint, search_hint, tree_hint};
-use lf_scenario::LONGEST;
 use std::alloc::AllocError;
 use std::env;
-use std::io::ErrorKind;
+use std::io::{ErrorKind, Read};
 use std::process::ExitCode;
 use std::thread::Threads;
 use stop::Stop;
-use texts::{held, print, put};
 
 fn main(rt: HostRuntime) -> ExitCode {
     match status(&rt, &rt) {
@@ -88,61 +91,126 @@ fn told(rt: &HostRuntime, unasked: &Unasked) -> Result<u8, Stop> {
     Ok(unasked.status())
 }
 
-/// Does what is asked.
+/// Does what is asked with the scenario of a file, or of standard input where it is `-`.
 fn done(rt: &HostRuntime, threads: &(impl Threads + Sync), asked: &Asked) -> Result<u8, Stop> {
+    let file = match asked {
+        Asked::Search { file, .. } | Asked::Run { file, .. } | Asked::Check { file, .. } => {
+            file.as_str()
+        }
+    };
+    if file == "-" {
+        replied(rt, threads, asked, file, rt.stdin())
+    } else {
+        replied(rt, threads, asked, file, opened(rt, file)?)
+    }
+}
+
+/// Does what is asked with the scenario that the reader of a file has.
+fn replied<R: Read + Drop>(
+    rt: &HostRuntime,
+    threads: &(impl Threads + Sync),
+    asked: &Asked,
+    file: &str,
+    reader: R,
+) -> Result<u8, Stop> {
     match asked {
-        Asked::Search { file, tree, all } => {
-            let text = held(rt, file.as_str(), LONGEST as u64 + 1)?;
-            match tree {
-                Some(tree) => certified(rt, text.as_slice(), *all, tree.as_str()),
-                None => searched(rt, text.as_slice(), *all),
+        Asked::Search {
+            tree: None,
+            all,
+            ..
+        } => searched(rt, file, reader, *all),
+        Asked::Search {
+            tree: Some(tree),
+            all,
+            ..
+        } => certified(rt, file, reader, *all, tree.as_str()),
+        Asked::Run { faults, .. } => ran(rt, file, reader, faults.as_str()),
+        Asked::Check { tree, .. } => {
+            let files = (file, tree.as_str());
+            if files.1 == "-" {
+                judged(rt, threads, files, reader, rt.stdin())
+            } else {
+                judged(rt, threads, files, reader, opened(rt, files.1)?)
             }
         }
-        Asked::Run { file, faults } => {
-            let text = held(rt, file.as_str(), LONGEST as u64 + 1)?;
-            ran(rt, text.as_slice(), faults.as_str())
-        }
-        Asked::Check { file, tree } => {
-            let text = held(rt, file.as_str(), LONGEST as u64 + 1)?;
-            let certificate = held(rt, tree.as_str(), LONGEST_TREE as u64 + 1)?;
-            judged(rt, threads, text.as_slice(), certificate.as_slice())
-        }
     }
 }
 
-/// Says on standard error what is wrong with what was refused, as far as there is memory for it.
-fn hint(rt: &HostRuntime, words: Result<String, AllocError>) {
-    if let Ok(words) = words {
-        if !words.is_empty() {
-            let _told = eprintln!(rt; "{words}").is_ok();
+/// Searches the scenario that the reader of a file has, and writes the reply to standard output.
+fn searched<R: Read + Drop>(
+    rt: &HostRuntime,
+    file: &str,
+    reader: R,
+    all: bool,
+) -> Result<u8, Stop> {
+    let mut source = Kept::new(rt.alloc(), FromRead::new(reader));
+    let mut sink = Kept::new(rt.alloc(), ToWrite::new(rt.stdout()));
+    match search_for(rt, all, &mut source, &mut sink) {
+        Ok(Searched { status, .. }) => {
+            hint_search(rt, status, source.bytes(), sink.bytes());
+            Ok(status)
         }
+        Err(fault) => Err(Stop::of(rt.alloc(), fault, file)),
     }
 }
 
-/// Searches a scenario, and writes the reply to standard output.
-fn searched(rt: &HostRuntime, text: &[u8], all: bool) -> Result<u8, Stop> {
+/// Searches the scenario that the reader of a file has, and writes the certificate of its answer into another file, and then the
+/// reply to standard output. Without an answer that file stays as it is, and so it does where the certificate's text is too long:
+/// that is told in place of the reply.
+fn certified<R: Read + Drop>(
+    rt: &HostRuntime,
+    file: &str,
+    reader: R,
+    all: bool,
+    tree_file: &str,
+) -> Result<u8, Stop> {
+    let mut source = Kept::new(rt.alloc(), FromRead::new(reader));
     let mut reply = Vec::new(rt.alloc());
-    let Searched { status, .. } = search_to(rt, text, all, &mut reply)?;
-    replied(rt, text, reply.as_slice(), status)
-}
-
-/// Writes the reply of a search to standard output. The answer is its status.
-fn replied(rt: &HostRuntime, text: &[u8], reply: &[u8], status: u8) -> Result<u8, Stop> {
-    print(rt, reply)?;
-    if status == 2 {
-        hint(rt, search_hint(rt.alloc(), text, reply));
+    match search_to(rt, all, &mut source, &mut reply) {
+        Ok(
+            Searched {
+                status,
+                tree: Some(tree),
+            },
+        ) => { written(rt, tree_file, &tree, reply.as_slice(), status) }
+        Ok(Searched { status, tree: None }) => {
+            print(rt, reply.as_slice())?;
+            hint_search(rt, status, source.bytes(), Some(reply.as_slice()));
+            Ok(status)
+        }
+        Err(fault) => Err(Stop::of(rt.alloc(), fault, file)),
     }
-    Ok(status)
 }
 
-/// Searches a scenario, and writes the certificate of its answer into a file, and then the reply to standard output. Without an
-/// answer the file stays as it is, and so it does where the certificate's text is too long: that is told in place of the reply.
-fn certified(rt: &HostRuntime, text: &[u8], all: bool, file: &str) -> Result<u8, Stop> {
-    let mut reply = Vec::new(rt.alloc());
-    let Searched { status, tree } = search_to(rt, text, all, &mut reply)?;
-    match tree {
-        Some(tree) => written(rt, file, &tree, reply.as_slice(), status),
-        None => replied(rt, text, reply.as_slice(), status),
+/// Searches a scenario, with its reply into memory: where that can't be written memory has run out.
+fn search_to<R: Source>(
+    rt: &HostRuntime,
+    all: bool,
+    source: &mut R,
+    reply: &mut Vec<u8>,
+) -> Result<Searched, BytesFault>
+    requires { R.has_failed source.old ≡ false }
+{
+    match search_for(rt, all, source, &mut ToWrite::new(reply)) {
+        Err(BytesFault::Write) => Err(BytesFault::Memory),
+        answered => answered,
+    }
+}
+
+/// Searches a scenario for one least set or for all, and writes the reply.
+fn search_for<R: Source, W: Sink>(
+    rt: &HostRuntime,
+    all: bool,
+    source: &mut R,
+    sink: &mut W,
+) -> Result<Searched, BytesFault>
+    requires source { R.has_failed source.old ≡ false }
+    requires sink { W.has_failed sink.old ≡ false }
+{
+    if all {
+        all_bytes(rt.alloc(), source, sink)
+    } else {
+        search_bytes(rt.alloc(), source, sink)
     }
 }
 
@@ -172,55 +240,67 @@ fn written(
     }
 }
 
-/// Searches a scenario for one least set or for all, with its reply into memory: where that can't be written memory has run out.
-fn search_to(
-    rt: &HostRuntime,
-    text: &[u8],
-    all: bool,
-    reply: &mut Vec<u8>,
-) -> Result<Searched, BytesFault> {
-    let mut source = FromRead::new(text);
-    let mut sink = ToWrite::new(reply);
-    let answered = if all {
-        all_bytes(rt.alloc(), &mut source, &mut sink)
-    } else {
-        search_bytes(rt.alloc(), &mut source, &mut sink)
-    };
-    match answered {
-        Err(BytesFault::Write) => Err(BytesFault::Memory),
-        answered => answered,
-    }
-}
-
-/// Runs a scenario under the faults of some words, and writes the trace to standard output.
-fn ran(rt: &HostRuntime, text: &[u8], faults: &str) -> Result<u8, Stop> {
+/// Runs the scenario that the reader of a file has under the faults of some words, and writes the trace to standard output.
+fn ran<R: Read + Drop>(rt: &HostRuntime, file: &str, reader: R, faults: &str) -> Result<u8, Stop> {
+    let mut source = Kept::new(rt.alloc(), FromRead::new(reader));
     let mut sink = ToWrite::new(rt.stdout());
-    let status = run_bytes(rt.alloc(), &mut FromRead::new(text), faults, &mut sink)?;
-    if status == 2 {
-        hint(rt, run_hint(rt.alloc(), text, faults));
+    match run_bytes(rt.alloc(), &mut source, faults, &mut sink) {
+        Ok(2) => {
+            if let Some(text) = source.bytes() {
+                hint(rt, run_hint(rt.alloc(), text, faults));
+            }
+            Ok(2)
+        }
+        Ok(status) => Ok(status),
+        Err(fault) => Err(Stop::of(rt.alloc(), fault, file)),
     }
-    Ok(status)
 }
 
-/// Judges a certificate for a scenario, and writes the verdict to standard output.
-fn judged(
+/// Judges the certificate that the second reader has for the scenario that the first has, and writes the verdict to standard
+/// output. The readers are those of the two files.
+fn judged<R: Read + Drop, S: Read + Drop>(
     rt: &HostRuntime,
     threads: &(impl Threads + Sync),
-    text: &[u8],
-    certificate: &[u8],
+    files: (&str, &str),
+    reader: R,
+    tree_reader: S,
 ) -> Result<u8, Stop> {
-    let mut source = FromRead::new(text);
-    let mut tree_source = FromRead::new(certificate);
+    let mut source = Kept::new(rt.alloc(), FromRead::new(reader));
+    let mut tree_source = Kept::new(rt.alloc(), FromRead::new(tree_reader));
     let mut sink = ToWrite::new(rt.stdout());
-    let status = check_bytes_rows(
+    match check_bytes_rows(
         threads,
         rt.alloc(),
         &mut source,
         &mut tree_source,
         &mut sink,
-    )?;
-    if status == 2 {
-        hint(rt, check_hint(rt.alloc(), text, certificate));
+    ) {
+        Ok(2) => {
+            if let (Some(text), Some(certificate)) = (source.bytes(), tree_source.bytes()) {
+                hint(rt, check_hint(rt.alloc(), text, certificate));
+            }
+            Ok(2)
+        }
+        Ok(status) => Ok(status),
+        Err(fault) => {
+            let file = if source.failed() { files.0 } else { files.1 };
+            Err(Stop::of(rt.alloc(), fault, file))
+        }
     }
-    Ok(status)
+}
+
+/// Says on standard error what is wrong with what a search refused, where its text and its reply were kept.
+fn hint_search(rt: &HostRuntime, status: u8, text: Option<&[u8]>, reply: Option<&[u8]>) {
+    if let (2, Some(text), Some(reply)) = (status, text, reply) {
+        hint(rt, search_hint(rt.alloc(), text, reply));
+    }
+}
+
+/// Says on standard error what is wrong with what was refused, as far as there is memory for it.
+fn hint(rt: &HostRuntime, words: Result<String, AllocError>) {
+    if let Ok(words) = words {
+        if !words.is_empty() {
+            let _told = eprintln!(rt; "{words}").is_ok();
+        }
+    }
 }

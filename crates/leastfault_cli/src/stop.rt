@@ -1,5 +1,6 @@
 //! Why the program ends without a whole reply.
 
+use crate::devices::name_of;
 use leastfault::BytesFault;
 use std::alloc::Global;
 use std::io;
@@ -9,7 +10,7 @@ use std::io::ErrorKind;
 #[derive(Drop)]
 pub(crate) struct Stop {
     fault: BytesFault,
-    /// The device and the system's reason.
+    /// The device, and the system's reason where it is known.
     device: Option<String>,
 }
 
@@ -31,6 +32,19 @@ impl Stop {
         Stop {
             fault,
             device: format!(in alloc; "{name}: {error}").ok(),
+        }
+    }
+
+    /// The fault of an engine that read this file, and wrote to standard output.
+    pub(crate) fn of(alloc: Global, fault: BytesFault, file: &str) -> Stop {
+        let name = match fault {
+            BytesFault::Read => name_of(file),
+            BytesFault::Write => "standard output",
+            BytesFault::Memory => return Stop::from(fault),
+        };
+        Stop {
+            fault,
+            device: format!(in alloc; "{name}").ok(),
         }
     }
 
