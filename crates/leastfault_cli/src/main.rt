@@ -166,20 +166,16 @@ fn certified<R: Read + Drop>(
 ) -> Result<u8, Stop> {
     let mut source = Kept::new(rt.alloc(), FromRead::new(reader));
     let mut reply = Vec::new(rt.alloc());
-    match search_to(rt, all, &mut source, &mut reply) {
-        Ok(
-            Searched {
-                status,
-                tree: Some(tree),
-            },
-        ) => { written(rt, tree_file, &tree, reply.as_slice(), status) }
-        Ok(Searched { status, tree: None }) => {
-            print(rt, reply.as_slice())?;
-            hint_search(rt, status, source.bytes(), Some(reply.as_slice()));
-            Ok(status)
-        }
-        Err(fault) => Err(Stop::of(rt.alloc(), fault, file)),
+    let Searched { status, tree } = match search_to(rt, all, &mut source, &mut reply) {
+        Ok(searched) => searched,
+        Err(fault) => return Err(Stop::of(rt.alloc(), fault, file)),
+    };
+    if let Some(tree) = tree {
+        return written(rt, tree_file, &tree, reply.as_slice(), status);
     }
+    print(rt, reply.as_slice())?;
+    hint_search(rt, status, source.bytes(), Some(reply.as_slice()));
+    Ok(status)
 }
 
 /// Searches a scenario, with its reply into memory: where that can't be written memory has run out.
