@@ -40,7 +40,7 @@ impl Stop {
         let name = match fault {
             BytesFault::Read => name_of(file),
             BytesFault::Write => "standard output",
-            BytesFault::Memory => return Stop::from(fault),
+            BytesFault::Memory | BytesFault::Pool(_) => return Stop::from(fault),
         };
         Stop {
             fault,
@@ -50,20 +50,15 @@ impl Stop {
 
     /// Tells on standard error the word of the fault, and then the device.
     pub(crate) fn tell(&self, rt: &impl Eprint) {
-        let _printed = eprintln!(rt; "{}", word(self.fault)).is_ok();
+        let printed = match self.fault {
+            BytesFault::Read => eprintln!(rt; "read"),
+            BytesFault::Write => eprintln!(rt; "write"),
+            BytesFault::Memory => eprintln!(rt; "memory"),
+            BytesFault::Pool(number) => eprintln!(rt; "pool {number}"),
+        };
+        let _printed = printed.is_ok();
         if let Some(device) = &self.device {
             let _told = eprintln!(rt; "{device}").is_ok();
         }
-    }
-}
-
-/// What standard error says of a fault.
-fn word(fault: BytesFault) -> &'static str {
-    match fault {
-        BytesFault::Read => "read",
-        BytesFault::Write => "write",
-        BytesFault::Memory => "memory",
-        // No command asks for workers yet.
-        BytesFault::Pool(_) => "pool",
     }
 }
