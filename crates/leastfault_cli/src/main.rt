@@ -1,19 +1,20 @@
 //! The program `leastfault`: it reads a scenario and prints the fewest faults that defeat its outcome, or one run, or whether
 //! a certificate of its answer is right.
 //!
-//!     leastfault search FILE [--all] [--tree TREE]
+//!     leastfault search FILE [--all] [--tree TREE] [--workers N]
 //!     leastfault run FILE FAULTS
 //!     leastfault check FILE TREE
 //!
 //! FILE is a scenario, and `-` is standard input. FAULTS are faults joined by single commas, and the empty word is none. TREE
 //! is a certificate, and `-` is standard input; it can't be that of FILE and of TREE at once. With no words it is `search -`.
 //! With `--all` a search prints all sets with so few faults, and with `--tree` it writes the certificate of its answer into the
-//! file TREE, and then the reply.
+//! file TREE, and then the reply. With `--workers` N workers search at once, 1 to 32: the reply and the certificate are the same.
 //!
 //! The status is 0 where no allowed set of faults defeats the outcome, where the run reaches it, where the certificate is
 //! right, and after help or the version; 1 where a set defeats it, the run misses it, or the certificate is wrong; 2 where the
 //! scenario, the faults, the certificate's text or the words are refused, or a level of the search is too full; and 3 where
-//! memory ran out or a device failed: standard error then has the line `memory`, `read` or `write`, and behind it which device.
+//! memory ran out, a device failed, or the workers gave no answer: standard error then has the line `memory`, `read` or `write`,
+//! with the device on the next line, or `pool NUMBER`.
 //!
 //! Where the status is 2, standard error says in words what is wrong with what was refused. Where all is well it stays empty.
 #![tactic(auto)]
@@ -28,13 +29,16 @@ use devices::{opened, print, put};
 use kept::Kept;
 use leastfault::{
     Asked, BytesFault, FromRead, Searched, Sink, Source, ToWrite, Tree, TreeFault, Unasked,
-    all_bytes, asked, check_bytes_rows, run_bytes, search_bytes, to_text, tree_refusal,
+    all_bytes, all_shared, asked, check_bytes_rows, run_bytes, search_bytes, search_shared,
+    to_text, tree_refusal,
 };
 use lf_hints::{check_hint, run_hint, search_hint, tree_hint};
 use std::alloc::AllocError;
 use std::env;
 use std::io::{ErrorKind, Read};
 use std::process::ExitCode;
+use std::rt::Clock;
+use std::sync::Wait;
 use std::thread::Threads;
 use stop::Stop;
 
@@ -49,7 +53,7 @@ fn main(rt: HostRuntime) -> ExitCode {
 }
 
 /// Does what the words ask for, in threads where that helps. The answer is the status.
-fn status(rt: &HostRuntime, threads: &(impl Threads + Sync)) -> Result<u8, Stop> {
+fn status(rt: &HostRuntime, threads: &(impl Threads + Wait + Clock + Sync)) -> Result<u8, Stop> {
     let mut words = match env::args(rt) {
         Ok(words) => words,
         Err(error) if error.kind() == ErrorKind::OutOfMemory => {
@@ -92,7 +96,11 @@ fn told(rt: &HostRuntime, unasked: &Unasked) -> Result<u8, Stop> {
 }
 
 /// Does what is asked with the scenario of a file, or of standard input where it is `-`.
-fn done(rt: &HostRuntime, threads: &(impl Threads + Sync), asked: &Asked) -> Result<u8, Stop> {
+fn done(
+    rt: &HostRuntime,
+    threads: &(impl Threads + Wait + Clock + Sync),
+    asked: &Asked,
+) -> Result<u8, Stop> {
     let file = match asked {
         Asked::Search { file, .. } | Asked::Run { file, .. } | Asked::Check { file, .. } => {
             file.as_str()
@@ -108,22 +116,27 @@ fn done(rt: &HostRuntime, threads: &(impl Threads + Sync), asked: &Asked) -> Res
 /// Does what is asked with the scenario that the reader of a file has.
 fn replied<R: Read + Drop>(
     rt: &HostRuntime,
-    threads: &(impl Threads + Sync),
+    threads: &(impl Threads + Wait + Clock + Sync),
     asked: &Asked,
     file: &str,
     reader: R,
 ) -> Result<u8, Stop> {
     match asked {
         Asked::Search {
-            tree: None,
+            tree,
             all,
+            workers,
             ..
-        } => searched(rt, file, reader, *all),
-        Asked::Search {
-            tree: Some(tree),
-            all,
-            ..
-        } => certified(rt, file, reader, *all, tree.as_str()),
+        } => {
+            let wanted = Wanted {
+                all: *all,
+                workers: *workers,
+            };
+            match tree {
+                Some(tree) => certified(rt, threads, file, reader, wanted, tree.as_str()),
+                None => searched(rt, threads, file, reader, wanted),
+            }
+        }
         Asked::Run { faults, .. } => ran(rt, file, reader, faults.as_str()),
         Asked::Check { tree, .. } => {
             let files = (file, tree.as_str());
@@ -136,16 +149,26 @@ fn replied<R: Read + Drop>(
     }
 }
 
+/// What is wanted of a search.
+#[derive(Clone, Copy)]
+struct Wanted {
+    /// Whether all least sets are to be told.
+    all: bool,
+    /// How many workers are to search.
+    workers: u32,
+}
+
 /// Searches the scenario that the reader of a file has, and writes the reply to standard output.
 fn searched<R: Read + Drop>(
     rt: &HostRuntime,
+    threads: &(impl Threads + Wait + Clock + Sync),
     file: &str,
     reader: R,
-    all: bool,
+    wanted: Wanted,
 ) -> Result<u8, Stop> {
     let mut source = Kept::new(rt.alloc(), FromRead::new(reader));
     let mut sink = Kept::new(rt.alloc(), ToWrite::new(rt.stdout()));
-    match search_for(rt, all, &mut source, &mut sink) {
+    match search_for(rt, threads, wanted, &mut source, &mut sink) {
         Ok(Searched { status, .. }) => {
             hint_search(rt, status, source.bytes(), sink.bytes());
             Ok(status)
@@ -159,14 +182,15 @@ fn searched<R: Read + Drop>(
 /// that is told in place of the reply.
 fn certified<R: Read + Drop>(
     rt: &HostRuntime,
+    threads: &(impl Threads + Wait + Clock + Sync),
     file: &str,
     reader: R,
-    all: bool,
+    wanted: Wanted,
     tree_file: &str,
 ) -> Result<u8, Stop> {
     let mut source = Kept::new(rt.alloc(), FromRead::new(reader));
     let mut reply = Vec::new(rt.alloc());
-    let Searched { status, tree } = match search_to(rt, all, &mut source, &mut reply) {
+    let Searched { status, tree } = match search_to(rt, threads, wanted, &mut source, &mut reply) {
         Ok(searched) => searched,
         Err(fault) => return Err(Stop::of(rt.alloc(), fault, file)),
     };
@@ -181,32 +205,36 @@ fn certified<R: Read + Drop>(
 /// Searches a scenario, with its reply into memory: where that can't be written memory has run out.
 fn search_to<R: Source>(
     rt: &HostRuntime,
-    all: bool,
+    threads: &(impl Threads + Wait + Clock + Sync),
+    wanted: Wanted,
     source: &mut R,
     reply: &mut Vec<u8>,
 ) -> Result<Searched, BytesFault>
     requires { R.has_failed source.old ≡ false }
 {
-    match search_for(rt, all, source, &mut ToWrite::new(reply)) {
+    match search_for(rt, threads, wanted, source, &mut ToWrite::new(reply)) {
         Err(BytesFault::Write) => Err(BytesFault::Memory),
         answered => answered,
     }
 }
 
-/// Searches a scenario for one least set or for all, and writes the reply.
+/// Searches a scenario as it is wanted, and writes the reply.
 fn search_for<R: Source, W: Sink>(
     rt: &HostRuntime,
-    all: bool,
+    threads: &(impl Threads + Wait + Clock + Sync),
+    wanted: Wanted,
     source: &mut R,
     sink: &mut W,
 ) -> Result<Searched, BytesFault>
     requires source { R.has_failed source.old ≡ false }
     requires sink { W.has_failed sink.old ≡ false }
 {
-    if all {
-        all_bytes(rt.alloc(), source, sink)
-    } else {
-        search_bytes(rt.alloc(), source, sink)
+    let alloc = rt.alloc();
+    match (wanted.all, wanted.workers) {
+        (false, 1) => search_bytes(alloc, source, sink),
+        (true, 1) => all_bytes(alloc, source, sink),
+        (false, workers) => search_shared(threads, alloc, source, sink, workers),
+        (true, workers) => all_shared(threads, alloc, source, sink, workers),
     }
 }
 
@@ -256,7 +284,7 @@ fn ran<R: Read + Drop>(rt: &HostRuntime, file: &str, reader: R, faults: &str) ->
 /// output. The readers are those of the two files.
 fn judged<R: Read + Drop, S: Read + Drop>(
     rt: &HostRuntime,
-    threads: &(impl Threads + Sync),
+    threads: &(impl Threads + Wait + Clock + Sync),
     files: (&str, &str),
     reader: R,
     tree_reader: S,

@@ -1,13 +1,15 @@
 -- What an answer says, from what is known of it for all words.
-use Rattle.std.proofs.Common.{◌≡◌, List, String, Global, map, true, false, codes, [], ◌∷◌, subst, sym}
-use Rattle.std.specs.Prelude.{◌⊎◌, Result, Ok, Err, MatchResult, IsErrAnd}
+use Rattle.std.proofs.Common.{◌≡◌, ℕ, List, String, Global, map, true, false, codes, [], ◌∷◌, subst, sym, arith}
+use Rattle.std.specs.Prelude.{◌⊎◌, Option, None, Some, Result, Ok, Err, IfOk, MatchResult, IsErrAnd}
 use Rattle.std.specs.String.{string_bytes}
-use Rattle.clap.specs.Words.{Text}
+use Rattle.clap.specs.Words.{Row, Text, first_of, subcommand_of}
 use Rattle.clap.specs.declared.error.kind.ErrorKind.TheVariants as kind
 use Rattle.lf_words.specs.Plain.{asks_help, asks_version, is_plain_command, is_unknown}
 use Rattle.lf_words.specs.Statuses.{exit_status}
-use Rattle.lf_words.specs.Words.{Asks, IsPlainly, IsRefusal, shares_input}
+use Rattle.lf_words.specs.Commands.{program}
+use Rattle.lf_words.specs.Words.{AreNamed, Asks, IsAskedIn, IsPlainly, IsRefusal, IsWorkers, shares_input, workers_of}
 use Rattle.lf_words.specs.declared.types.Asked.{Asked}
+use Rattle.lf_words.specs.declared.types.Asked.TheVariants as asked
 use Rattle.lf_words.specs.declared.unasked.Unasked.{Unasked}
 use Rattle.lf_words.specs.declared.unasked.Unasked.TheVariants as unasked
 use Rattle.lf_words.proofs.Plainly.{asks_plainly, refused_plainly, shared_is_refused, shared_refusal}
@@ -47,3 +49,18 @@ module _ (words : List Text) where
   pub unknown_of : (r : Result Asked Unasked) → is_unknown words ≡ true → Answers words r → IsErrAnd r (λ u. (exit_status u ≡ 2) ⊎ (u ≡ unasked.Memory))
   unknown_of (Ok a) unknown asks = absurd (takes_none _ _ _ (unknown_is words unknown) asks.0.0)
   unknown_of (Err u) unknown refusal = unknown_status words u unknown refusal
+
+-- so many workers are asked for as may be
+named_range : (o : Option Text) (n : ℕ) → AreNamed o n → IsWorkers n
+named_range None n is = (omega (arith, is), omega (arith, is))
+named_range (Some text) n is = is.2
+
+asked_range : (words : List Text) (o : Option (Text × List Row)) (a : Asked) → IsAskedIn words o a → IsWorkers (workers_of a)
+asked_range words None a h = elim h [ ]
+asked_range words (Some p) (asked.Search file tree all workers) h = named_range (first_of (codes "workers") p.1) workers h.0.4
+asked_range words (Some p) (asked.Run file faults) h = (omega arith, omega arith)
+asked_range words (Some p) (asked.Check file tree) h = (omega arith, omega arith)
+
+pub range_of : (words : List Text) (r : Result Asked Unasked) → Answers words r → IfOk r (λ a. IsWorkers (workers_of a))
+range_of words (Ok a) asks = asked_range words (subcommand_of program words) a asks.0.1
+range_of words (Err u) refusal = tt

@@ -44,16 +44,17 @@ is_taken (x ∷ y ∷ rest) plain = taken_other x (y ∷ rest) (not-true (x == 4
 abbrev pub named_both : Text → Text × List Row → Text × Option Text × Option Text
 named_both key p = (p.0, first_of (codes "file") p.1, first_of key p.1)
 
--- the same of a search, with its flag
-abbrev pub named_search : Text × List Row → Text × Option Text × Option Text × Bool
-named_search p = (p.0, first_of (codes "file") p.1, first_of (codes "tree") p.1, is_set (first_of (codes "all") p.1))
+-- the same of a search, with its flag and its workers
+abbrev pub named_search : Text × List Row → Text × Option Text × Option Text × Bool × Option Text
+named_search p =
+    (p.0, first_of (codes "file") p.1, first_of (codes "tree") p.1, is_set (first_of (codes "all") p.1), first_of (codes "workers") p.1)
 
 pub search_fault : (file : Text) → IsTaken file → fault_of program (codes "search" ∷ file ∷ []) ≡ []
 unfolding clap_on_literals
 search_fault file taken = rw (taken.no_end, taken.no_long, taken.no_short) refl
 
 pub search_names : (file : Text) → IsTaken file
-    → option_map named_search (subcommand_of program (codes "search" ∷ file ∷ [])) ≡ Some (codes "search", Some file, None, false)
+    → option_map named_search (subcommand_of program (codes "search" ∷ file ∷ [])) ≡ Some (codes "search", Some file, None, false, None)
 unfolding clap_on_literals
 search_names file taken = rw (taken.no_end, taken.no_long, taken.no_short) refl
 

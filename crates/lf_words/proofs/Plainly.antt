@@ -12,7 +12,7 @@ use Rattle.clap.specs.Words.{Kinds, Row, Text, fault_of, subcommand_of}
 use Rattle.lf_words.specs.Commands.{program}
 use Rattle.lf_words.specs.Plain.{asks_help, asks_version, is_plain, is_plain_command, is_unknown, takes_two}
 use Rattle.lf_words.specs.Statuses.{exit_status, status_of}
-use Rattle.lf_words.specs.Words.{Asks, HasStatus, IsAskedIn, IsPlainly, IsRefusal, is_input, shares_input, texts_of}
+use Rattle.lf_words.specs.Words.{AreNamed, Asks, HasStatus, IsAskedIn, IsPlainly, IsRefusal, is_input, shares_input, texts_of}
 use Rattle.lf_words.specs.declared.types.Asked.{Asked}
 use Rattle.lf_words.specs.declared.types.Asked.TheVariants as asked
 use Rattle.lf_words.specs.declared.unasked.Unasked.{Unasked}
@@ -25,7 +25,7 @@ abbrev Both : Type 0
 Both = Text × Option Text × Option Text
 
 abbrev Search : Type 0
-Search = Text × Option Text × Option Text × Bool
+Search = Text × Option Text × Option Text × Bool × Option Text
 
 both : (x y : Bool) → (x && y) ≡ true → (x ≡ true) × (y ≡ true)
 both true y h = (refl, h)
@@ -59,31 +59,38 @@ check_or_run : (name : Text) → name ≡ codes "check" → name ≡ codes "run"
 check_or_run name is_check is_run = apart 99 114 (omega arith) (ap first (sym is_check ∙ is_run))
 
 search_of : (words : List Text) (o : Option (Text × List Row)) (file : Text) (a : Asked)
-    → option_map named_search o ≡ Some (codes "search", Some file, None, false)
+    → option_map named_search o ≡ Some (codes "search", Some file, None, false, None)
     → IsAskedIn words o a → IsPlainly (codes "search" ∷ file ∷ []) a
 search_of words None file a names asked = elim asked [ ]
-search_of words (Some p) file (asked.Search own tree all) names asked =
-    let found : named_search p ≡ (codes "search", Some file, None, false) = some_is _ _ names in
+search_of words (Some p) file (asked.Search own tree all workers) names asked =
+    let found : named_search p ≡ (codes "search", Some file, None, false, None) = some_is _ _ names in
     let same : own.bytes.items ≡ file = some_is _ _ (sym asked.0.1 ∙ ap (λ (q : Search). q.1) found) in
     record {
       texts = ap (λ x. codes "search" ∷ x ∷ []) same;
       unwritten = sym asked.0.2 ∙ ap (λ (q : Search). q.2) found;
       one = sym asked.0.3 ∙ ap (λ (q : Search). q.3) found;
+      alone = subst (λ o. AreNamed o workers) (ap (λ (q : Search). q.4) found) asked.0.4;
     }
 search_of words (Some p) file (asked.Run own faults) names asked =
-    let found : named_search p ≡ (codes "search", Some file, None, false) = some_is _ _ names in
+    let found : named_search p ≡ (codes "search", Some file, None, false, None) = some_is _ _ names in
     absurd (run_or_search p.0 asked.0.0 (ap (λ (q : Search). q.0) found))
 search_of words (Some p) file (asked.Check own tree) names asked =
-    let found : named_search p ≡ (codes "search", Some file, None, false) = some_is _ _ names in
+    let found : named_search p ≡ (codes "search", Some file, None, false, None) = some_is _ _ names in
     absurd (check_or_search p.0 asked.0.0 (ap (λ (q : Search). q.0) found))
 
 asks_search : (words : List Text) (o : Option (Text × List Row)) (file : String Global)
-    → option_map named_search o ≡ Some (codes "search", Some (string_bytes file), None, false)
-    → words ≡ codes "search" ∷ string_bytes file ∷ [] → IsAskedIn words o (asked.Search file None false)
+    → option_map named_search o ≡ Some (codes "search", Some (string_bytes file), None, false, None)
+    → words ≡ codes "search" ∷ string_bytes file ∷ [] → IsAskedIn words o (asked.Search file None false 1)
 asks_search words None file names is = absurd (no_thing _ names)
 asks_search words (Some p) file names is =
-    let found : named_search p ≡ (codes "search", Some (string_bytes file), None, false) = some_is _ _ names in (
-      (ap (λ (q : Search). q.0) found, ap (λ (q : Search). q.1) found, ap (λ (q : Search). q.2) found, ap (λ (q : Search). q.3) found),
+    let found : named_search p ≡ (codes "search", Some (string_bytes file), None, false, None) = some_is _ _ names in (
+      (
+        ap (λ (q : Search). q.0) found,
+        ap (λ (q : Search). q.1) found,
+        ap (λ (q : Search). q.2) found,
+        ap (λ (q : Search). q.3) found,
+        subst (λ o. AreNamed o 1) (sym (ap (λ (q : Search). q.4) found)) refl,
+      ),
       rw (is) (inl (refl, inl (refl, tt))),
     )
 
@@ -91,14 +98,14 @@ run_of : (words : List Text) (o : Option (Text × List Row)) (file faults : Text
     → option_map (named_both (codes "faults")) o ≡ Some (codes "run", Some file, Some faults)
     → IsAskedIn words o a → IsPlainly (codes "run" ∷ file ∷ faults ∷ []) a
 run_of words None file faults a names asked = elim asked [ ]
-run_of words (Some p) file faults (asked.Search own tree all) names asked =
+run_of words (Some p) file faults (asked.Search own tree all workers) names asked =
     let pair : named_both (codes "faults") p ≡ (codes "run", Some file, Some faults) = some_is _ _ names in
     absurd (run_or_search p.0 (ap (λ (q : Both). q.0) pair) asked.0.0)
 run_of words (Some p) file faults (asked.Run own own_faults) names asked =
     let pair : named_both (codes "faults") p ≡ (codes "run", Some file, Some faults) = some_is _ _ names in
     let same : own.bytes.items ≡ file = some_is _ _ (sym asked.0.1 ∙ ap (λ (q : Both). q.1) pair) in
     let same_too : own_faults.bytes.items ≡ faults = some_is _ _ (sym asked.0.2 ∙ ap (λ (q : Both). q.2) pair) in
-    record { texts = rw (same, same_too) refl; unwritten = refl; one = refl }
+    record { texts = rw (same, same_too) refl; unwritten = refl; one = refl; alone = refl }
 run_of words (Some p) file faults (asked.Check own tree) names asked =
     let pair : named_both (codes "faults") p ≡ (codes "run", Some file, Some faults) = some_is _ _ names in
     absurd (check_or_run p.0 asked.0.0 (ap (λ (q : Both). q.0) pair))
@@ -115,7 +122,7 @@ check_of : (words : List Text) (o : Option (Text × List Row)) (file tree : Text
     → option_map (named_both (codes "tree")) o ≡ Some (codes "check", Some file, Some tree)
     → IsAskedIn words o a → IsPlainly (codes "check" ∷ file ∷ tree ∷ []) a
 check_of words None file tree a names asked = elim asked [ ]
-check_of words (Some p) file tree (asked.Search own written all) names asked =
+check_of words (Some p) file tree (asked.Search own written all workers) names asked =
     let pair : named_both (codes "tree") p ≡ (codes "check", Some file, Some tree) = some_is _ _ names in
     absurd (check_or_search p.0 (ap (λ (q : Both). q.0) pair) asked.0.0)
 check_of words (Some p) file tree (asked.Run own faults) names asked =
@@ -125,7 +132,7 @@ check_of words (Some p) file tree (asked.Check own own_tree) names asked =
     let pair : named_both (codes "tree") p ≡ (codes "check", Some file, Some tree) = some_is _ _ names in
     let same : own.bytes.items ≡ file = some_is _ _ (sym asked.0.1 ∙ ap (λ (q : Both). q.1) pair) in
     let same_too : own_tree.bytes.items ≡ tree = some_is _ _ (sym asked.0.2 ∙ ap (λ (q : Both). q.2) pair) in
-    record { texts = rw (same, same_too) refl; unwritten = refl; one = refl }
+    record { texts = rw (same, same_too) refl; unwritten = refl; one = refl; alone = refl }
 
 asks_check : (words : List Text) (o : Option (Text × List Row)) (file tree : String Global)
     → option_map (named_both (codes "tree")) o ≡ Some (codes "check", Some (string_bytes file), Some (string_bytes tree))
@@ -187,7 +194,7 @@ asks_plainly (command ∷ one ∷ other ∷ more ∷ rest) a plain asks = absurd
 
 -- what shares standard input isn't asked for by plain words
 shared_not_plain : (a : Asked) → shares_input a ≡ true → is_plain_command (texts_of a) ≡ true → ⊥
-shared_not_plain (asked.Search file tree all) shared plain = no_truth shared
+shared_not_plain (asked.Search file tree all workers) shared plain = no_truth shared
 shared_not_plain (asked.Run file faults) shared plain = no_truth shared
 shared_not_plain (asked.Check file tree) shared plain =
     elim (two_are (codes "check") file.bytes.items tree.bytes.items plain).0 [
@@ -206,7 +213,7 @@ asks_some (command ∷ file ∷ []) plain =
     let is = search_is (string_bytes command) (string_bytes file) plain in
     let words = codes "search" ∷ string_bytes file ∷ [] in
     subst (λ c. (a : Asked) × Asks (c ∷ string_bytes file ∷ []) a) (sym is.0) (
-      asked.Search file None false,
+      asked.Search file None false 1,
       (
         search_fault (string_bytes file) is.1,
         asks_search words (subcommand_of program words) file (search_names (string_bytes file) is.1) refl,
@@ -269,7 +276,7 @@ size (x ∷ y ∷ z ∷ []) = 3
 size (x ∷ y ∷ z ∷ more ∷ rest) = 4
 
 shared_is : (a : Asked) → texts_of a ≡ shared_words → shares_input a ≡ true
-shared_is (asked.Search file tree all) is = absurd (apart 2 3 (omega arith) (ap size is))
+shared_is (asked.Search file tree all workers) is = absurd (apart 2 3 (omega arith) (ap size is))
 shared_is (asked.Run file faults) is = absurd (check_or_run (codes "check") refl (sym (ap head is)))
 shared_is (asked.Check file tree) is =
     let one : is_input file.bytes.items ≡ true = (bytes_eq-Decides file.bytes.items (codes "-")).1 (ap second is) in

@@ -16,9 +16,13 @@ written = record (new_rule (codes "tree")) { long = Some (codes "tree"); value_n
 abbrev pub each : Rule
 each = record (new_rule (codes "all")) { long = Some (codes "all"); action = Some SetTrue }
 
+-- the option --workers N
+abbrev pub workers : Rule
+workers = record (new_rule (codes "workers")) { long = Some (codes "workers"); value_names = 1 }
+
 -- search FILE
 abbrev pub search : App
-search = with_rule (with_rule (with_rule (new_app (codes "search")) file) written) each
+search = with_rule (with_rule (with_rule (with_rule (new_app (codes "search")) file) written) each) workers
 
 -- the argument FAULTS
 abbrev pub faults : Rule

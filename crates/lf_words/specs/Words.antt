@@ -1,7 +1,8 @@
 -- What words ask for.
-use Rattle.std.specs.Prelude.{◌≡◌, ◌⊎◌, ◌&&◌, ⊤, Bool, true, false, ℕ, List, [], ◌∷◌, Option, Some, None, IsSomeAnd, codes}
+use Rattle.std.specs.Prelude.{◌≡◌, ◌≤◌, ◌⊎◌, ◌&&◌, ⊤, Bool, true, false, ℕ, List, [], ◌∷◌, Option, Some, None, IsSomeAnd, codes}
 use Rattle.std.specs.Option.{option_map}
 use Rattle.std.specs.Str.{bytes_eq}
+use Rattle.std.specs.Str.Parse.{IsNumeral, digits_value, without_leading_plus}
 use Rattle.clap.specs.declared.error.kind.ErrorKind.{ErrorKind}
 use Rattle.clap.specs.Words.{Kinds, Row, Text, fault_of, first_of, subcommand_of}
 use Rattle.lf_words.specs.Commands.{program}
@@ -19,27 +20,34 @@ IsPartOf (text ∷ texts) (word ∷ words) = ((text ≡ word) × IsPartOf texts 
 
 -- the command, and what it requires
 abbrev pub texts_of : Asked → List Text
-texts_of (asked.Search file tree all) = codes "search" ∷ file.bytes.items ∷ []
+texts_of (asked.Search file tree all workers) = codes "search" ∷ file.bytes.items ∷ []
 texts_of (asked.Run file faults) = codes "run" ∷ file.bytes.items ∷ faults.bytes.items ∷ []
 texts_of (asked.Check file tree) = codes "check" ∷ file.bytes.items ∷ tree.bytes.items ∷ []
 
 -- the file for a certificate that is to be written
 abbrev pub written_to : Asked → Option Text
-written_to (asked.Search file tree all) = option_map (λ t. t.bytes.items) tree
+written_to (asked.Search file tree all workers) = option_map (λ t. t.bytes.items) tree
 written_to (asked.Run file faults) = None
 written_to (asked.Check file tree) = None
 
 -- all least sets are to be told
 abbrev pub wants_all : Asked → Bool
-wants_all (asked.Search file tree all) = all
+wants_all (asked.Search file tree all workers) = all
 wants_all (asked.Run file faults) = false
 wants_all (asked.Check file tree) = false
+
+-- how many workers are to do it
+abbrev pub workers_of : Asked → ℕ
+workers_of (asked.Search file tree all workers) = workers
+workers_of (asked.Run file faults) = 1
+workers_of (asked.Check file tree) = 1
 
 -- just these words are asked for, and no option
 pub record IsPlainly (words : List Text) (a : Asked) : Type 0 where
   pub texts : texts_of a ≡ words
   pub unwritten : written_to a ≡ None
   pub one : wants_all a ≡ false
+  pub alone : workers_of a ≡ 1
 
 -- the file is standard input
 abbrev pub is_input : Text → Bool
@@ -47,7 +55,7 @@ is_input file = bytes_eq file (codes "-")
 
 -- two texts are to be read from standard input
 abbrev pub shares_input : Asked → Bool
-shares_input (asked.Search file tree all) = false
+shares_input (asked.Search file tree all workers) = false
 shares_input (asked.Run file faults) = false
 shares_input (asked.Check file tree) = is_input file.bytes.items && is_input tree.bytes.items
 
@@ -56,10 +64,21 @@ abbrev pub is_set : Option Text → Bool
 is_set None = false
 is_set (Some text) = bytes_eq text (codes "true")
 
+-- so many workers may be asked for
+abbrev pub IsWorkers : ℕ → Type 0
+IsWorkers n = (1 ≤ n) × (n ≤ 32)
+
+-- what `clap` has of the workers names so many: a whole number, which may have a plus before it; where it has nothing, one
+abbrev pub AreNamed : Option Text → ℕ → Type 0
+AreNamed None n = n ≡ 1
+AreNamed (Some text) n =
+    IsNumeral 10 (without_leading_plus text) × (digits_value 10 (without_leading_plus text) ≡ n) × IsWorkers n
+
 -- the command of this name with these matches asks for this
 abbrev pub IsMatched : Text → List Row → Asked → Type 0
-IsMatched name rows (asked.Search file tree all) = (name ≡ codes "search") × (first_of (codes "file") rows ≡ Some file.bytes.items)
+IsMatched name rows (asked.Search file tree all workers) = (name ≡ codes "search") × (first_of (codes "file") rows ≡ Some file.bytes.items)
     × (first_of (codes "tree") rows ≡ option_map (λ t. t.bytes.items) tree) × (is_set (first_of (codes "all") rows) ≡ all)
+    × AreNamed (first_of (codes "workers") rows) workers
 IsMatched name rows (asked.Run file faults) = (name ≡ codes "run") × (first_of (codes "file") rows ≡ Some file.bytes.items)
     × (first_of (codes "faults") rows ≡ Some faults.bytes.items)
 IsMatched name rows (asked.Check file tree) = (name ≡ codes "check") × (first_of (codes "file") rows ≡ Some file.bytes.items)

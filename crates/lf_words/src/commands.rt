@@ -3,7 +3,7 @@
 ghost use Rattle.std.specs.Prelude.{◌≡◌, IfOk, false};
 ghost use Rattle.clap.specs.Words.{app_of, rule_of};
 ghost use Rattle.clap.specs.declared.builder.command.Command.TheViews.{out-Command};
-ghost use Rattle.lf_words.specs.Commands.{check, each, file, plain, program, run, search, tree, written};
+ghost use Rattle.lf_words.specs.Commands.{check, each, file, plain, program, run, search, tree, workers, written};
 
 use clap::{Arg, ArgAction, Command};
 use std::alloc::{AllocError, Global};
@@ -58,7 +58,7 @@ fn plain<'a>(alloc: Global) -> Command<'a>
         .after_help(WORDS)
 }
 
-/// The command `search FILE`, with the option `--tree TREE` and the flag `--all`.
+/// The command `search FILE`, with the options `--tree TREE` and `--workers N` and the flag `--all`.
 fn search<'a>(alloc: Global) -> Result<Command<'a>, AllocError>
     ensures { IfOk result (λ c. (app_of c ≡ search) × ((out-Command c).has_globals ≡ false)) }
 {
@@ -66,7 +66,8 @@ fn search<'a>(alloc: Global) -> Result<Command<'a>, AllocError>
         .about("Prints the fewest faults with which the scenario FILE misses its outcome, or none")
         .arg(file(alloc))?
         .arg(written(alloc))?
-        .arg(each(alloc))
+        .arg(each(alloc))?
+        .arg(workers(alloc))
 }
 
 /// The command `run FILE FAULTS`.
@@ -125,6 +126,16 @@ fn each<'a>(alloc: Global) -> Arg<'a>
         .long("all")
         .action(ArgAction::SetTrue)
         .help("Prints all sets with so few faults, each on a line")
+}
+
+/// The option `--workers N`.
+fn workers<'a>(alloc: Global) -> Arg<'a>
+    ensures { (rule_of result ≡ workers) × (result.global ≡ false) }
+{
+    Arg::new(alloc, "workers")
+        .long("workers")
+        .value_name("N")
+        .help("Searches by N workers at once, 1 to 32: the answer is the same for every N")
 }
 
 /// The argument FILE.

@@ -15,6 +15,8 @@ pub enum Asked {
         tree: Option<String>,
         /// Whether all sets with so few faults are to be told, and not the first alone.
         all: bool,
+        /// How many workers are to search, 1..=32.
+        workers: u32,
     },
     /// To run a scenario once, under faults that are given.
     Run {

@@ -1,11 +1,12 @@
 //! The reading of a command line.
 
-ghost use Rattle.std.specs.Prelude.{◌≡◌, ◌≢◌, ◌↔◌, ◌⊎◌, IsTrue, IfOk, IsErrAnd, MatchResult, [], ◌∷◌, map, option_map, codes, false, true};
+ghost use Rattle.std.specs.Prelude.{ℕ, Some, MatchOption, ◌≡◌, ◌≢◌, ◌↔◌, ◌⊎◌, IsTrue, IfOk, IsErrAnd, MatchResult, [], ◌∷◌, map, option_map, codes, false, true};
 ghost use Rattle.std.specs.String.{string_bytes};
 ghost use Rattle.clap.specs.Words.{first_of, found_of, kind_of, rows_of, subcommand_rows_of};
 ghost use Rattle.lf_words.specs.Plain.{asks_help, asks_version, is_plain_command, is_unknown};
 ghost use Rattle.lf_words.specs.Statuses.{exit_status, goes_to_error};
-ghost use Rattle.lf_words.specs.Words.{Asks, IsAnswer, IsAskedBy, IsAskedIn, IsPartOf, IsPlainly, IsRefusal, IsToldFor, is_set, shares_input};
+ghost use Rattle.lf_words.specs.Words.{AreNamed, Asks, IsAnswer, IsAskedBy, IsAskedIn, IsPartOf, IsPlainly, IsRefusal, IsToldFor, is_set, shares_input};
+ghost use Rattle.lf_words.specs.Words.{IsWorkers, workers_of};
 
 use crate::commands::program;
 use crate::{Asked, Unasked};
@@ -13,12 +14,16 @@ use clap::error::ErrorKind;
 use clap::{ArgMatches, Error};
 use std::alloc::{AllocError, Global};
 
+/// The most workers that can be asked for.
+const MOST_WORKERS: u32 = 32;
+
 /// What the words after the program's name ask for. No words ask for `search -`.
 ///
 /// Plain words, which are `-` or don't begin with it, ask for just what they say; but `check - -`, which would have to read
 /// both its texts from standard input, is refused. Of other words, as where an option or `--` is among them, `clap` decides.
 /// `Memory` comes only where memory has run out.
 pub fn asked(alloc: Global, words: &[String]) -> Result<Asked, Unasked>
+    ensures workers { IfOk result (λ a. IsWorkers (workers_of a)) }
     ensures no_words { words.now ≡ [] → MatchResult result
         (IsPlainly (codes "search" ∷ codes "-" ∷ [])) (λ u. u ≡ Unasked.Memory) }
     ensures plain { is_plain_command (map string_bytes words.now) ≡ true → MatchResult result
@@ -39,6 +44,7 @@ pub fn asked(alloc: Global, words: &[String]) -> Result<Asked, Unasked>
             file: String::from_str(alloc, "-")?,
             tree: None,
             all: false,
+            workers: 1,
         });
     }
     match program(alloc)?.try_get_matches_from(words) {
@@ -94,6 +100,9 @@ fn search(
     if !are_part_of(&["search", file], words) {
         return Ok(None);
     }
+    let Some(workers) = workers(matches) else {
+        return Ok(None);
+    };
     let tree = match value(matches, "tree") {
         Some(tree) => Some(String::from_str(alloc, tree)?),
         None => None,
@@ -102,7 +111,30 @@ fn search(
         file: String::from_str(alloc, file)?,
         tree,
         all: is_set(matches, "all"),
+        workers,
     }))
+}
+
+/// How many workers are asked for: one where none are. None where what is named is no number of workers.
+fn workers(matches: &ArgMatches<'_>) -> Option<u32>
+    ensures { MatchOption result
+        ((n : ℕ) → ¬ AreNamed (first_of (codes "workers") (rows_of (found_of matches.now))) n)
+        (AreNamed (first_of (codes "workers") (rows_of (found_of matches.now)))) }
+{
+    match value(matches, "workers") {
+        Some(text) => workers_in(text),
+        None => Some(1),
+    }
+}
+
+/// How many workers a text names. None where it is no number in 1..=32.
+fn workers_in(text: &str) -> Option<u32>
+    ensures { MatchOption result ((n : ℕ) → ¬ AreNamed (Some text.now) n) (AreNamed (Some text.now)) }
+{
+    match text.parse::<u32>() {
+        Ok(workers) if 1 <= workers && workers <= MOST_WORKERS => Some(workers),
+        _ => None,
+    }
 }
 
 /// What the matches of `run` ask for. None where they ask for nothing that is among the words.

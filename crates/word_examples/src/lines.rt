@@ -31,11 +31,18 @@ fn why(unasked: &Unasked) -> &'static str {
 /// What the words ask for, as a table says it.
 fn said(alloc: Global, words: &str) -> Result<String, AllocError> {
     match asked(alloc, owned(alloc, words)?.as_slice()) {
-        Ok(Asked::Search { file, tree, all }) => {
+        Ok(
+            Asked::Search {
+                file,
+                tree,
+                all,
+                workers,
+            },
+        ) => {
             let told = if all { ";all" } else { "" };
             match tree {
-                Some(tree) => format!(in alloc; ";search;{file};tree;{tree}{told}"),
-                None => format!(in alloc; ";search;{file}{told}"),
+                Some(tree) => format!(in alloc; ";search;{file};tree;{tree}{told};{workers}"),
+                None => format!(in alloc; ";search;{file}{told};{workers}"),
             }
         }
         Ok(Asked::Run { file, faults }) => format!(in alloc; ";run;{file};{faults}"),
@@ -57,24 +64,34 @@ fn check_lines(rt: &impl Abort, alloc: Global, table: &str) -> Result<(), Fail> 
 #[test]
 fn searches_name_their_file(rt: HostRuntime) -> Result<(), Fail> {
     let table = concat!(
-        "|;search;-\n",
-        ";search;a.toml|;search;a.toml\n",
-        ";search;-|;search;-\n",
-        ";search;--;-x|;search;-x\n",
-        ";search;--;--help|;search;--help\n",
-        ";search;search|;search;search\n",
-        ";search;|;search;\n",
-        ";search;two words.toml|;search;two words.toml\n",
-        ";search; grün/日本.toml|;search; grün/日本.toml\n",
-        ";search;a.toml;--tree;a.json|;search;a.toml;tree;a.json\n",
-        ";search;--tree;a.json;a.toml|;search;a.toml;tree;a.json\n",
-        ";search;-;--tree=-|;search;-;tree;-\n",
-        ";search;a;--tree;-|;search;a;tree;-\n",
-        ";search;a;--all|;search;a;all\n",
-        ";search;--all;-|;search;-;all\n",
-        ";search;--;--all|;search;--all\n",
-        ";search;--all;a;--tree;t|;search;a;tree;t;all\n",
-        ";search;--tree=--all;a|;search;a;tree;--all\n",
+        "|;search;-;1\n",
+        ";search;a.toml|;search;a.toml;1\n",
+        ";search;-|;search;-;1\n",
+        ";search;--;-x|;search;-x;1\n",
+        ";search;--;--help|;search;--help;1\n",
+        ";search;search|;search;search;1\n",
+        ";search;|;search;;1\n",
+        ";search;two words.toml|;search;two words.toml;1\n",
+        ";search; grün/日本.toml|;search; grün/日本.toml;1\n",
+        ";search;a.toml;--tree;a.json|;search;a.toml;tree;a.json;1\n",
+        ";search;--tree;a.json;a.toml|;search;a.toml;tree;a.json;1\n",
+        ";search;-;--tree=-|;search;-;tree;-;1\n",
+        ";search;a;--tree;-|;search;a;tree;-;1\n",
+        ";search;a;--all|;search;a;all;1\n",
+        ";search;--all;-|;search;-;all;1\n",
+        ";search;--;--all|;search;--all;1\n",
+        ";search;--all;a;--tree;t|;search;a;tree;t;all;1\n",
+        ";search;--tree=--all;a|;search;a;tree;--all;1\n",
+        ";search;a;--workers;1|;search;a;1\n",
+        ";search;a;--workers=32|;search;a;32\n",
+        ";search;--workers;3;a;--all|;search;a;all;3\n",
+        ";search;a;--workers;0|wrong\n",
+        ";search;a;--workers;33|wrong\n",
+        ";search;a;--workers;-1|wrong\n",
+        ";search;a;--workers;two|wrong\n",
+        ";search;a;--workers;4294967297|wrong\n",
+        ";search;a;--workers|wrong\n",
+        ";search;a;--workers;2;--workers;2|wrong\n",
     );
     check_lines(&rt, rt.alloc(), table)
 }

@@ -2,7 +2,7 @@ use Rattle.std.proofs.Common.{map, rules}
 use Rattle.std.specs.Prelude.{Err}
 use Rattle.std.specs.String.{string_bytes}
 use Rattle.clap.specs.Words.{app_of, kind_of, subcommand_rows_of}
-use Rattle.lf_words.proofs.Answered.{answers_possible, help_of, plain_of, shared_of, unknown_of, version_of}
+use Rattle.lf_words.proofs.Answered.{answers_possible, help_of, plain_of, range_of, shared_of, unknown_of, version_of}
 use Rattle.lf_words.proofs.Reading.{asks, asks_nothing, command_is, fault_is_none, is_refusal, is_unread, kinds_are}
 use Rattle.lf_words.proofs.words.asked.Goals as goal
 
@@ -32,6 +32,9 @@ returns-clause-words c some =
     let words = map string_bytes c.args.words.now in
     is_refusal words (kind_of c.in-Err.error) c.in_ok-refused-in-Err.field-0 c.in_ok-refused-in-Err.ensures
     (kinds_are (app_of c.in_ok-program.field-0) words c.in-Err.error c.in_ok-program.ensures c.in-Err.ensures.kinds)
+
+pub returns-in-Some-clause-workers : goal.returns-in-Some-clause-workers
+returns-in-Some-clause-workers c = range_of (map string_bytes c.args.words.now) c.possible.result (returns-in-Some-clause-words c (search rules))
 
 pub returns-in-Some-clause-plain : goal.returns-in-Some-clause-plain
 returns-in-Some-clause-plain c is = plain_of c.args.words.now c.possible.result is (returns-in-Some-clause-words c (search rules))
