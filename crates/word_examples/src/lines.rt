@@ -156,7 +156,6 @@ fn wrong_words_are_refused(rt: HostRuntime) -> Result<(), Fail> {
         ";check;a;b;c|wrong\n",
         ";check;-;-;-|wrong\n",
         ";search;--file;a|wrong\n",
-        ";search;a;--workers;2|wrong\n",
         ";search;--version|wrong\n",
         ";run;-V|wrong\n",
     );
