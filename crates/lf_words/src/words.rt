@@ -1,6 +1,7 @@
 //! The reading of a command line.
 
-ghost use Rattle.std.specs.Prelude.{ℕ, Some, MatchOption, ◌≡◌, ◌≢◌, ◌↔◌, ◌⊎◌, IsTrue, IfOk, IsErrAnd, MatchResult, [], ◌∷◌, map, option_map, codes, false, true};
+ghost use Rattle.std.specs.Prelude.{◌≡◌, ◌≢◌, ◌↔◌, ◌⊎◌, ℕ, [], ◌∷◌, map, option_map, codes, false, true};
+ghost use Rattle.std.specs.Prelude.{Some, MatchOption, IsTrue, IfOk, IsErrAnd, MatchResult};
 ghost use Rattle.std.specs.String.{string_bytes};
 ghost use Rattle.clap.specs.Words.{first_of, found_of, kind_of, rows_of, subcommand_rows_of};
 ghost use Rattle.lf_words.specs.Plain.{asks_help, asks_version, is_plain_command, is_unknown};
