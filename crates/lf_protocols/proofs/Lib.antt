@@ -2,3 +2,4 @@ mod LettersLemmas
 mod DeliveriesLemmas
 mod BlocksLemmas
 mod WordsLemmas
+mod FoldsLemmas

@@ -13,3 +13,4 @@ pub mod Letters
 pub mod Deliveries
 pub mod Protocols
 pub mod ProtocolsLemmas
+pub mod Folds

@@ -2,6 +2,7 @@
 
 ghost use Rattle.std.specs.Prelude.{◌≡◌};
 ghost use Rattle.lf_protocols.specs.CommitTable.{commit_start, commit_wake, commit_open, commit_announce, commit_enter};
+ghost use Rattle.lf_protocols.specs.Folds.{commit_begin};
 ghost use Rattle.lf_protocols.specs.CommitTable.{commit_poll, commit_participate, commit_end_poll, commit_shows};
 
 use crate::{Fact, Nodes, Note, Phase, Progress, turns};
@@ -44,6 +45,17 @@ pub fn open(nodes: u32, t: u32, state: Progress) -> Turn
     Stepped {
         state: Progress { phase, since: 1 },
         out: Out::to_others(nodes, 0, Note::Prepare),
+    }
+}
+
+/// What a node does before its inbox.
+pub fn begin(nodes: u32, node: u32, t: u32, state: Progress) -> Turn
+    ensures { result ≡ commit_begin nodes node t state }
+{
+    if node == 0 {
+        open(nodes, t, state)
+    } else {
+        turns::begin(state)
     }
 }
 

@@ -5,7 +5,7 @@ ghost use Rattle.lf_protocols.specs.Words.{fact_word};
 ghost use Rattle.lf_protocols.specs.Facts.{is_denial};
 
 /// A fact about a state of one of the protocols.
-#[derive(Clone, Copy, Debug, PartialEq, Eq)]
+#[derive(Clone, Copy, Debug, PartialEq, Eq, PartialOrd, Ord)]
 pub enum Fact {
     /// The node has the data.
     Has,

@@ -7,6 +7,7 @@
 
 mod commit;
 mod fact;
+mod folding;
 mod laws;
 mod machine;
 mod nodes;
@@ -21,6 +22,7 @@ mod turns;
 mod two_phase;
 
 pub use fact::Fact;
+pub use folding::steps_are_folds;
 pub use laws::{
     claims_are_heard, facts_are_opposites, prepared_gives_up, prepared_waits, redundant_delivers,
     retry_delivers,

@@ -4,7 +4,7 @@ ghost use Rattle.std.specs.Prelude.{◌≡◌, ◌≢◌, ℕ, ◌<◌, length, 
 ghost use Rattle.lf_protocols.specs.NodeSets.{has_node, no_nodes, with_node, has_participants};
 
 /// Some of the nodes 0..=7.
-#[derive(Clone, Copy, Debug, PartialEq, Eq)]
+#[derive(Clone, Copy, Debug, PartialEq, Eq, PartialOrd, Ord)]
 pub struct Nodes {
     /// For each node, whether it is one of them.
     pub members: [bool; 8],

@@ -3,6 +3,7 @@
 ghost use Rattle.std.specs.Prelude.{◌≡◌, ℕ, false};
 ghost use Rattle.lf_protocols.specs.PrimaryBackupTable.{primary_backup_start, primary_backup_wake, primary_backup_step, primary_backup_shows};
 ghost use Rattle.lf_protocols.specs.PrimaryBackupTable.{primary_hear, primary_end, backup_hear, backup_end, primary_step, backup_step};
+ghost use Rattle.lf_protocols.specs.Folds.{primary_backup_begin, primary_backup_hear_one, primary_backup_finish};
 ghost use Rattle.lf_protocols.specs.PrimaryBackupTable.{claim, client_open, client_hear, client_step};
 
 use crate::{Fact, Note, Replica, turns};
@@ -151,6 +152,39 @@ fn client_step(node: u32, t: u32, state: Replica, inbox: &[Letter<Note>]) -> Tur
         client_open(node, t, state),
         |turn, letter| client_hear(node, turn, letter.note),
     )
+}
+
+/// What a node does before its inbox.
+pub fn begin(node: u32, t: u32, state: Replica) -> Turn
+    ensures { result ≡ primary_backup_begin node t state }
+{
+    if node < 2 {
+        turns::begin(state)
+    } else {
+        client_open(node, t, state)
+    }
+}
+
+/// What a node does with a letter at step `t`.
+pub fn hear(node: u32, t: u32, turn: Turn, letter: Letter<Note>) -> Turn
+    ensures { result ≡ primary_backup_hear_one node t turn letter }
+{
+    match node {
+        0 => primary_hear(turn, letter.note),
+        1 => backup_hear(t, turn, letter.note),
+        _ => client_hear(node, turn, letter.note),
+    }
+}
+
+/// What a node does once it has handled its inbox.
+pub fn finish(nodes: u32, patience: u32, node: u32, t: u32, turn: Turn) -> Turn
+    ensures { result ≡ primary_backup_finish nodes patience node t turn }
+{
+    match node {
+        0 => primary_end(turn),
+        1 => backup_end(nodes, patience, t, turn),
+        _ => turn,
+    }
 }
 
 /// What a node does at step `t`.

@@ -1,7 +1,7 @@
 //! What a node of redundant does.
 
 ghost use Rattle.std.specs.Prelude.{◌≡◌};
-ghost use Rattle.lf_protocols.specs.RedundantTable.{redundant_start, redundant_hear_all, redundant_send, redundant_step, redundant_shows};
+ghost use Rattle.lf_protocols.specs.RedundantTable.{redundant_start, redundant_hear, redundant_hear_all, redundant_send, redundant_step, redundant_shows};
 
 use crate::{Fact, Note, Relay};
 use lf_sim::{Letter, Out, Stepped};
@@ -14,6 +14,16 @@ pub fn start(node: u32) -> Relay
         Relay::Has { sent: 0 }
     } else {
         Relay::Lacks
+    }
+}
+
+/// The state after a letter.
+pub fn hear(relay: Relay, note: Note) -> Relay
+    ensures { result ≡ redundant_hear relay note }
+{
+    match (relay, note) {
+        (Relay::Lacks, Note::Payload) => Relay::Has { sent: 0 },
+        _ => relay,
     }
 }
 
@@ -30,7 +40,7 @@ fn hear_all(state: Relay, inbox: &[Letter<Note>]) -> Relay
 }
 
 /// What a node does once it has handled its inbox.
-fn send(nodes: u32, tries: u32, node: u32, state: Relay) -> Stepped<Relay, Note>
+pub fn send(nodes: u32, tries: u32, node: u32, state: Relay) -> Stepped<Relay, Note>
     ensures { result ≡ redundant_send nodes tries node state }
 {
     match state {

@@ -1,7 +1,7 @@
 //! What a node of retry does.
 
 ghost use Rattle.std.specs.Prelude.{◌≡◌};
-ghost use Rattle.lf_protocols.specs.RetryTable.{retry_start, retry_hear_all, retry_step, retry_shows};
+ghost use Rattle.lf_protocols.specs.RetryTable.{retry_start, retry_hear, retry_hear_all, retry_send, retry_step, retry_shows};
 
 use crate::{Fact, Holding, Note};
 use lf_sim::{Letter, Out, Stepped};
@@ -14,6 +14,27 @@ pub fn start(node: u32) -> Holding
         Holding::Has
     } else {
         Holding::Lacks
+    }
+}
+
+/// The state after a letter.
+pub fn hear(before: Holding, note: Note) -> Holding
+    ensures { result ≡ retry_hear before note }
+{
+    match note {
+        Note::Payload => Holding::Has,
+        _ => before,
+    }
+}
+
+/// What a node sends at step `t`.
+pub fn send(nodes: u32, tries: u32, node: u32, t: u32) -> Out<Note>
+    ensures { result ≡ retry_send nodes tries node t }
+{
+    if node == 0 && t <= tries {
+        Out::to_others(nodes, node, Note::Payload)
+    } else {
+        Out::none()
     }
 }
 
@@ -41,12 +62,10 @@ pub fn step(
     ensures { result ≡ retry_step nodes tries node t state inbox.now }
 {
     let state = hear_all(state, inbox);
-    let out = if node == 0 && t <= tries {
-        Out::to_others(nodes, node, Note::Payload)
-    } else {
-        Out::none()
-    };
-    Stepped { state, out }
+    Stepped {
+        state,
+        out: send(nodes, tries, node, t),
+    }
 }
 
 /// Whether a state shows a fact.

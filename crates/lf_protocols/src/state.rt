@@ -8,7 +8,7 @@ use crate::Nodes;
 /// What a node keeps from one step to the next: a variant for each protocol, round that protocol's own state.
 ///
 /// A node ignores the states of other protocols than its own; no run has one.
-#[derive(Clone, Copy, Debug, PartialEq, Eq)]
+#[derive(Clone, Copy, Debug, PartialEq, Eq, PartialOrd, Ord)]
 pub enum State {
     /// A state of retry.
     Retry(Holding),
@@ -23,7 +23,7 @@ pub enum State {
 }
 
 /// Whether a node of retry has the data.
-#[derive(Clone, Copy, Debug, PartialEq, Eq)]
+#[derive(Clone, Copy, Debug, PartialEq, Eq, PartialOrd, Ord)]
 pub enum Holding {
     Has,
     Lacks,
@@ -31,14 +31,14 @@ pub enum Holding {
 
 /// Whether a node of redundant has the data. Where it has, `sent` is the number of steps at which it has sent it, at
 /// most the protocol's `tries`.
-#[derive(Clone, Copy, Debug, PartialEq, Eq)]
+#[derive(Clone, Copy, Debug, PartialEq, Eq, PartialOrd, Ord)]
 pub enum Relay {
     Has { sent: u32 },
     Lacks,
 }
 
 /// How far a node of two_phase or three_phase has come: its phase, and the step from which its time-out counts.
-#[derive(Clone, Copy, Debug, PartialEq, Eq)]
+#[derive(Clone, Copy, Debug, PartialEq, Eq, PartialOrd, Ord)]
 pub struct Progress {
     pub phase: Phase,
     pub since: u32,
@@ -46,7 +46,7 @@ pub struct Progress {
 
 /// A phase of a commit. Node 0 alone is ever in `Voting` and `Precommitting`, and the others alone in `Prepared` and
 /// `Precommitted`. Only three_phase has `Precommitting` and `Precommitted`.
-#[derive(Clone, Copy, Debug, PartialEq, Eq)]
+#[derive(Clone, Copy, Debug, PartialEq, Eq, PartialOrd, Ord)]
 pub enum Phase {
     Idle,
     /// It waits for the votes: which nodes' yes it has noted, and whether it has noted a no.
@@ -62,7 +62,7 @@ pub enum Phase {
 }
 
 /// What a node of primary_backup knows.
-#[derive(Clone, Copy, Debug, PartialEq, Eq)]
+#[derive(Clone, Copy, Debug, PartialEq, Eq, PartialOrd, Ord)]
 pub struct Replica {
     /// It holds what was written.
     pub holds: bool,

@@ -1,6 +1,7 @@
 //! What a node of three_phase does.
 
 ghost use Rattle.std.specs.Prelude.{◌≡◌, ◌<◌};
+ghost use Rattle.lf_protocols.specs.Folds.{three_phase_hear_one, three_phase_finish};
 ghost use Rattle.lf_protocols.specs.ThreePhaseTable.{three_phase_hear, three_phase_end, three_phase_join, three_phase_wait, three_phase_step};
 
 use crate::commit::Turn;
@@ -75,6 +76,29 @@ fn wait(patience: u32, t: u32, mut turn: Turn) -> Turn
         }
     }
     turn
+}
+
+/// What a node does with a letter at step `t`.
+pub fn hear_one(votes: [bool; 8], node: u32, t: u32, turn: Turn, letter: Letter<Note>) -> Turn
+    requires { node < 8 }
+    ensures { result ≡ three_phase_hear_one votes node t turn letter }
+{
+    if node == 0 {
+        hear(turn, letter.from, letter.note)
+    } else {
+        join(t, votes[node as usize], turn, letter.note)
+    }
+}
+
+/// What a node does once it has handled its inbox.
+pub fn finish(nodes: u32, patience: u32, node: u32, t: u32, turn: Turn) -> Turn
+    ensures { result ≡ three_phase_finish nodes patience node t turn }
+{
+    if node == 0 {
+        end(nodes, patience, t, turn)
+    } else {
+        wait(patience, t, turn)
+    }
 }
 
 /// What a node does at step `t`.

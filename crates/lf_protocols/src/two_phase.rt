@@ -1,6 +1,7 @@
 //! What a node of two_phase does.
 
 ghost use Rattle.std.specs.Prelude.{◌≡◌, ◌<◌};
+ghost use Rattle.lf_protocols.specs.Folds.{two_phase_hear_one, two_phase_finish};
 ghost use Rattle.lf_protocols.specs.TwoPhaseTable.{two_phase_end, two_phase_step};
 
 use crate::{Note, Phase, Progress, commit, turns};
@@ -16,6 +17,35 @@ fn end(nodes: u32, patience: u32, t: u32, turn: commit::Turn) -> commit::Turn
             commit::end_poll(nodes, patience, t, agreed, refused, turn, done)
         }
         _ => turn,
+    }
+}
+
+/// What a node does with a letter at step `t`.
+pub fn hear(
+    votes: [bool; 8],
+    node: u32,
+    t: u32,
+    turn: commit::Turn,
+    letter: Letter<Note>,
+) -> commit::Turn
+    requires { node < 8 }
+    ensures { result ≡ two_phase_hear_one votes node t turn letter }
+{
+    if node == 0 {
+        commit::poll(turn, letter.from, letter.note)
+    } else {
+        commit::participate(t, votes[node as usize], turn, letter.note)
+    }
+}
+
+/// What a node does once it has handled its inbox.
+pub fn finish(nodes: u32, patience: u32, node: u32, t: u32, turn: commit::Turn) -> commit::Turn
+    ensures { result ≡ two_phase_finish nodes patience node t turn }
+{
+    if node == 0 {
+        end(nodes, patience, t, turn)
+    } else {
+        turn
     }
 }
 

@@ -4,7 +4,7 @@ ghost use Rattle.std.specs.Prelude.{◌≡◌, ◌≢◌, ℕ, ◌<◌};
 ghost use Rattle.lf_sim.specs.Outs.{note_to, nothing, note_to_other, to_others, with_note};
 
 /// The notes that a node sends in one step, at most one to each of the nodes 0..=7.
-#[derive(Clone, Copy, Debug, PartialEq, Eq)]
+#[derive(Clone, Copy, Debug, PartialEq, Eq, PartialOrd, Ord)]
 pub struct Out<N> {
     pub to0: Option<N>,
     pub to1: Option<N>,
@@ -17,7 +17,7 @@ pub struct Out<N> {
 }
 
 /// A node's state after a step, and the notes that it sends in it.
-#[derive(Clone, Copy, Debug, PartialEq, Eq)]
+#[derive(Clone, Copy, Debug, PartialEq, Eq, PartialOrd, Ord)]
 pub struct Stepped<S, N> {
     pub state: S,
     pub out: Out<N>,
