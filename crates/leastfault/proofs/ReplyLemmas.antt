@@ -30,8 +30,8 @@ use Rattle.leastfault.specs.declared.answering.Wanted.TheVariants as wanted
 use Rattle.leastfault.specs.Answers.{AreLeastSets, IsAnswer, reaches_in}
 use Rattle.leastfault.specs.Searches.{IsFoundFor}
 use Rattle.leastfault.specs.Reports.{all_report, check_status, judgement, no_set_line, report, run_status, search_status}
-use Rattle.leastfault.specs.Replies.{IsCheckReply, IsReplyWith, IsRunReply, RepliesCheck, RepliesRefusal, ToBoth, ToHeld, WrotePart, WroteReply}
-use Rattle.leastfault.specs.Replies.{HandsOut, IsSearchedWith, IsTreeFor, IsTreeText, RepliesAll, RepliesFull, RepliesReport, reports_of}
+use Rattle.leastfault.specs.Replies.{IsAnswerReply, IsCheckReply, IsReplyWith, IsRunReply, RepliesCheck, RepliesRefusal, ToBoth, ToHeld, WrotePart, WroteReply}
+use Rattle.leastfault.specs.Replies.{HandsOut, IsSearchedWith, IsTreeFor, IsTreeText, RepliesAll, RepliesAnswer, RepliesFull, RepliesReport, reports_of}
 use Rattle.leastfault.proofs.LeastSets.{first_of_least}
 
 -- the reply of a search, from what it came to for the scenario
@@ -70,6 +70,11 @@ pub all_report_of : (s : Scenario) (answer : Option (List Parts)) (sets : List (
     → status ≡ search_status answer → RepliesAll s text status
 all_report_of s answer sets budget text status never is all within told ends =
     (sets, never, all, told ∙ ap (λ b. all_report b sets) within, ends ∙ ap search_status (first_answer s answer sets is all))
+
+-- and of the answer alone
+pub answer_report_of : (s : Scenario) (answer : Option (List Parts)) (budget : ℕ) (text : List ℕ) (status : ℕ) → IsAnswer s answer
+    → budget ≡ s.setting.spec.budget → text ≡ report budget answer → status ≡ search_status answer → RepliesAnswer s text status
+answer_report_of s answer budget text status is within told ends = (answer, is, told ∙ ap (λ b. report b answer) within, ends)
 
 -- the status is that of the answer
 status_is : (wanted : Wanted) (s : Scenario) (text : List ℕ) (status : ℕ) (answer : Option (List Parts)) → reports_of wanted s text status
@@ -173,6 +178,10 @@ module _ (held reply : List ℕ) (status : ℕ) where
   run_long words more (inl refusal) = inl (refused_reply more refusal)
   run_long words more (inr found) = absurd (front more found.1.short)
 
+  answer_long : longest < length held → IsAnswerReply (take (longest + 1) held) reply status → IsAnswerReply held reply status
+  answer_long more (inl refusal) = inl (refused_reply more refusal)
+  answer_long more (inr found) = absurd (front more found.1.short)
+
   check_long : (certificate : List ℕ) → longest < length held → IsCheckReply (take (longest + 1) held) certificate reply status
       → IsCheckReply held certificate reply status
   check_long certificate more (inl refusal) = inl (refused_reply more refusal)
@@ -213,6 +222,9 @@ module _ (Reports : Scenario → List ℕ → ℕ → Type 0) where
 
 pub run_by_front : (words : List ℕ) → GoesByFront longest (IsRunReply words)
 run_by_front words held reply status = run_long held reply status words
+
+pub answer_by_front : GoesByFront longest IsAnswerReply
+answer_by_front held reply status = answer_long held reply status
 
 -- the reply to the bytes that were read is the reply to what the source held, where it tells
 module _ (most : ℕ) (IsReply : List ℕ → List ℕ → ℕ → Type 0) (by_front : GoesByFront most IsReply) where

@@ -17,6 +17,7 @@ use Rattle.lf_certificate.specs.Grown.{IsTreeOf}
 use Rattle.lf_certificate.proofs.Laws.{accepted_has_none, first_fault_one, tree_one}
 use Rattle.lf_scenario.specs.declared.scenario.Scenario.{Scenario}
 use Rattle.lf_scenario.specs.Sameness.{AreSame}
+use Rattle.lf_scenario.specs.Scenarios.{IsText}
 use Rattle.lf_scenario.proofs.Laws.{refusals_are_one, refused_is_no_text, scenarios_are_one, worlds_are_one}
 use Rattle.lf_search.specs.Levels.{AreAllLeast, IsFullAt}
 use Rattle.lf_trace.specs.Namings.{Names}
@@ -29,8 +30,8 @@ use Rattle.lf_tree.specs.Trees.{IsTree}
 use Rattle.lf_tree.specs.Values.{tree_value}
 use Rattle.leastfault.specs.Answers.{AreLeastSets, IsAnswer, reaches_in}
 use Rattle.leastfault.specs.Reports.{all_report, full_line, no_line, refusal, report, run_status, search_status, tree_refusal}
-use Rattle.leastfault.specs.Replies.{HandsOut, HasOneReply, IsAllReply, IsCheckReply, IsReplyWith, IsRunReply, IsSearchReply, IsTreeFor}
-use Rattle.leastfault.specs.Replies.{RepliesAll, RepliesCheck, RepliesNoSet, RepliesReport}
+use Rattle.leastfault.specs.Replies.{HandsOut, HasOneReply, IsAllReply, IsAnswerReply, IsCheckReply, IsReplyWith, IsRunReply, IsSearchReply, IsTreeFor}
+use Rattle.leastfault.specs.Replies.{RepliesAll, RepliesAnswer, RepliesCheck, RepliesNoSet, RepliesReport}
 use Rattle.leastfault.specs.Replies.{RepliesRefusal, RepliesSearch, RepliesTrace, RepliesTreeRefusal, RepliesVerdict}
 use Rattle.leastfault.proofs.LeastSets.{first_of_least, least_one}
 use Rattle.leastfault.proofs.TreeTexts.{tree_faults_one, tree_not_refused, trees_one}
@@ -122,6 +123,38 @@ search_replies_one text = with_one RepliesReport report_one text
 
 pub all_replies_one : IsTotalOrder set_cmp → (text : List ℕ) → HasOneReply (IsAllReply text)
 all_replies_one total text = with_one RepliesAll (all_report_one total) text
+
+-- a text has one reply that tells the answer alone, which is that of the search unless a level of it is too full
+answers_told_one : (s t : Scenario) → AreSame s t → (one other : List ℕ) (m n : ℕ) → RepliesAnswer s one m → RepliesAnswer t other n
+    → (one ≡ other) × (m ≡ n)
+answers_told_one s t same one other m n a b =
+    let answers = answers_one s t a.0 b.0 same a.1 b.1 in (
+      a.2 ∙ ap (λ bounds. report bounds.budget a.0) same.bounds ∙ ap (report t.setting.spec.budget) answers ∙ sym b.2,
+      a.3 ∙ ap search_status answers ∙ sym b.3,
+    )
+
+pub answer_replies_one : (text : List ℕ) → HasOneReply (IsAnswerReply text)
+answer_replies_one text one other m n (inl a) (inl b) = refusals_one text one other m n a b
+answer_replies_one text one other m n (inl a) (inr b) = absurd (refused_is_no_text text a.0 b.0 a.1 b.1)
+answer_replies_one text one other m n (inr a) (inl b) = absurd (refused_is_no_text text b.0 a.0 b.1 a.1)
+answer_replies_one text one other m n (inr a) (inr b) =
+    answers_told_one a.0 b.0 (scenarios_are_one text a.0 b.0 a.1 b.1) one other m n a.2 b.2
+
+abbrev AgreeOrFull : List ℕ → List ℕ → List ℕ → ℕ → ℕ → Type 0
+AgreeOrFull text one other m n =
+    ((one ≡ other) × (m ≡ n)) ⊎ ((s : Scenario) × (level : ℕ) × (count : ℕ) × IsText s text × IsFull s level count)
+
+agree_told : (text : List ℕ) (s t : Scenario) → IsText s text → AreSame s t → (one other : List ℕ) (m n : ℕ) → RepliesSearch RepliesReport s one m
+    → RepliesAnswer t other n → AgreeOrFull text one other m n
+agree_told text s t reads same one other m n (inl full) b = inr (s, full.0, full.1, reads, full.2)
+agree_told text s t reads same one other m n (inr a) b = inl (answers_told_one s t same one other m n (a.0, a.2, a.3, a.4) b)
+
+pub answer_replies_agree : (text one other : List ℕ) (m n : ℕ) → IsSearchReply text one m → IsAnswerReply text other n → AgreeOrFull text one other m n
+answer_replies_agree text one other m n (inl a) (inl b) = inl (refusals_one text one other m n a b)
+answer_replies_agree text one other m n (inl a) (inr b) = absurd (refused_is_no_text text a.0 b.0 a.1 b.1)
+answer_replies_agree text one other m n (inr a) (inl b) = absurd (refused_is_no_text text b.0 a.0 b.1 a.1)
+answer_replies_agree text one other m n (inr a) (inr b) =
+    agree_told text a.0 b.0 a.1 (scenarios_are_one text a.0 b.0 a.1 b.1) one other m n a.2 b.2
 
 -- which reports what plays no part in the status
 statuses_one : (s t : Scenario) → AreSame s t → (one other : List ℕ) (m n : ℕ) → RepliesSearch RepliesReport s one m → RepliesSearch RepliesAll t other n

@@ -27,7 +27,7 @@ module _ (b : Bounds) (reaching : List Parts → Bool) where
   misses_not_true faults true is misses = absurd (both_ways false refl misses)
   misses_not_true faults false is misses = is
 
-  fewest : (answer : Option (List Parts)) → IsFirst b (λ faults. not (reaching faults)) answer → IsFewest b reaching answer
+  pub fewest : (answer : Option (List Parts)) → IsFirst b (λ faults. not (reaching faults)) answer → IsFewest b reaching answer
   fewest None first =
       λ other allowed. reaches_where other (reaching other) refl (λ misses. both_ways (not (reaching other)) (first other allowed) misses)
   fewest (Some found) first = (

@@ -67,6 +67,15 @@ IsSearchReply = IsReplyWith RepliesReport
 abbrev pub IsAllReply : List ℕ → List ℕ → ℕ → Type 0
 IsAllReply = IsReplyWith RepliesAll
 
+-- the report of the answer, with its status: no level is too full for it
+abbrev pub RepliesAnswer : Scenario → List ℕ → ℕ → Type 0
+RepliesAnswer s reply status =
+    (answer : Option (List Parts)) × IsAnswer s answer × (reply ≡ report s.setting.spec.budget answer) × (status ≡ search_status answer)
+
+-- the reply of one that tells the answer alone
+abbrev pub IsAnswerReply : List ℕ → List ℕ → ℕ → Type 0
+IsAnswerReply text reply status = RepliesRefusal text reply status ⊎ ((s : Scenario) × IsText s text × RepliesAnswer s reply status)
+
 -- what is reported, by what is wanted
 abbrev pub reports_of : Wanted → Scenario → List ℕ → ℕ → Type 0
 reports_of wanted.Answer = RepliesReport

@@ -9,11 +9,11 @@ ghost use Rattle.lf_sim.specs.Settings.{world_of};
 ghost use Rattle.lf_trace.specs.Namings.{Names};
 ghost use Rattle.lf_trace.specs.Traces.{trace};
 ghost use Rattle.leastfault.specs.Answers.{AreLeastSets, reaches_in};
-ghost use Rattle.leastfault.specs.Replies.{IsRunReply, IsSearchedWith, reports_of};
+ghost use Rattle.leastfault.specs.Replies.{IsAnswerReply, IsRunReply, IsSearchedWith, RepliesAnswer, reports_of};
 ghost use Rattle.leastfault.specs.Searches.{IsFoundFor};
 ghost use Rattle.leastfault.specs.Reports.{full_line, no_set_line, refusal, run_status, search_status};
 
-use crate::{all_report, full_line, refusal, report};
+use crate::{all_report, full_line, merged_answer, refusal, report};
 use lf_alone::{Ended, solve};
 use lf_book::Book;
 use lf_faults::{FaultSet, admits};
@@ -109,6 +109,27 @@ fn least_sets(book: &Book) -> Result<Vec<FaultSet>, AllocError>
     let found = book.all_least()?;
     let Some(sets) = found else { unreachable!() };
     Ok(sets)
+}
+
+/// The reply that tells the answer to a scenario's text.
+pub(crate) fn answer_reply(alloc: Global, text: &[u8]) -> Result<Reply, AllocError>
+    ensures { IfOk result (λ reply. IsAnswerReply text.now (string_bytes reply.text) reply.status) }
+{
+    match read(alloc, text) {
+        Ok(scenario) => answered(alloc, &scenario),
+        Err(error) => refused(alloc, error),
+    }
+}
+
+/// The reply that tells the answer to a scenario.
+fn answered(alloc: Global, scenario: &Scenario) -> Result<Reply, AllocError>
+    ensures { IfOk result (λ reply. RepliesAnswer scenario.now (string_bytes reply.text) reply.status) }
+{
+    let answer = merged_answer(alloc, scenario)?;
+    Ok(Reply {
+        text: report(alloc, scenario.setting().spec.budget(), &answer)?,
+        status: search_status(&answer),
+    })
 }
 
 /// The reply where a level is too full.

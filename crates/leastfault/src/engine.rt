@@ -4,11 +4,11 @@ ghost use Rattle.std.specs.Prelude.{◌≡◌, ◌≢◌, ℕ, ◌+◌, ◌<◌,
 ghost use Rattle.std.specs.Io.KnownBytes.{Appends};
 ghost use Rattle.lf_scenario.specs.Limits.{longest};
 ghost use Rattle.lf_tree.specs.Texts.{most_bytes};
-ghost use Rattle.leastfault.specs.Replies.{IsAllReply, IsCheckReply, IsReplyWith, IsRunReply, IsSearchReply};
+ghost use Rattle.leastfault.specs.Replies.{IsAllReply, IsAnswerReply, IsCheckReply, IsReplyWith, IsRunReply, IsSearchReply};
 ghost use Rattle.leastfault.specs.Replies.{IsSearched, IsSearchedAll, IsSearchedWith, reports_of};
 ghost use Rattle.leastfault.specs.Replies.{ToBoth, ToHeld, TookAtMost, WrotePart, WroteReply, tells_read, tells_write};
 
-use crate::answering::{Reply, Wanted, run_reply, search_reply};
+use crate::answering::{Reply, Wanted, answer_reply, run_reply, search_reply};
 use crate::checking::{check_reply, check_reply_rows};
 use crate::workers::shared_reply;
 use lf_scenario::LONGEST;
@@ -215,6 +215,41 @@ fn shared_for<T: Threads + Wait + Clock + Sync, R: Source, W: Sink>(
         status,
         tree: found.tree,
     })
+}
+
+/// Reads a scenario, and writes the report of its answer, or the line of its refusal. It answers the status: 0 where no allowed set of
+/// faults defeats the outcome, 1 where one does, 2 where the scenario is refused.
+///
+/// The report is that of `search_bytes`, where no level of that search is too full. `max_sets` plays no part here, and no certificate
+/// comes with the answer. It takes memory as the cluster has configurations to be told apart.
+///
+/// It takes and writes as `search_bytes` does: at most `LONGEST + 1` bytes of the source, and nothing before the whole
+/// reply is there.
+pub fn answer_bytes<R: Source, W: Sink>(
+    alloc: Global,
+    reader: &mut R,
+    writer: &mut W,
+) -> Result<u8, BytesFault>
+    requires reader { R.has_failed reader.old ≡ false }
+    requires writer { W.has_failed writer.old ≡ false }
+    // The reply to what the source held was written, and the status is that of the reply.
+    ensures reply { IfOk result (λ status.
+        WroteReply (ToHeld IsAnswerReply (R.left reader.old)) (W.written writer.old) (W.written writer.new) status) }
+    // `Write` leaves a part of the reply, and any other fault nothing.
+    ensures part { result ≡ Err BytesFault.Write →
+        WrotePart (ToHeld IsAnswerReply (R.left reader.old)) (W.written writer.old) (W.written writer.new) }
+    ensures unwritten { IfErr result (λ e. e ≢ BytesFault.Write → writer.new ≡ writer.old) }
+    // `Read` says that the source failed, and `Write` that the sink did.
+    ensures source { R.has_failed reader.new ≡ tells_read result }
+    ensures sink { W.has_failed writer.new ≡ tells_write result }
+    // No more than one byte past the longest text is taken.
+    ensures taken { TookAtMost (longest + 1) (R.left reader.old) (R.left reader.new) }
+{
+    let text = read_text(alloc, reader, LONGEST)?;
+    let Ok(reply) = answer_reply(alloc, text.as_slice()) else {
+        return Err(BytesFault::Memory);
+    };
+    send(writer, &reply)
 }
 
 /// Reads a scenario, runs it under the set of faults that `faults` names, and writes the trace of that run. It answers the

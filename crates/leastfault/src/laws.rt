@@ -1,13 +1,14 @@
 //! What the definitions of this crate promise, for every scenario and every text: calls whose contracts are the laws.
 
-ghost use Rattle.std.specs.Prelude.{◌≡◌, ℕ, List, Option, length, slice_get};
+ghost use Rattle.lf_alone.specs.Ends.{IsFull};
+ghost use Rattle.std.specs.Prelude.{◌≡◌, ◌⊎◌, ℕ, List, Option, length, slice_get};
 ghost use Rattle.std.specs.List.{Contains};
 ghost use Rattle.lf_faults.specs.declared.fault.Parts.{Parts};
 ghost use Rattle.lf_scenario.specs.declared.scenario.Scenario.{Scenario};
 ghost use Rattle.lf_scenario.specs.Scenarios.{IsText};
 ghost use Rattle.lf_tree.specs.declared.tree.Tree.{Tree};
 ghost use Rattle.leastfault.specs.Answers.{AreLeastSets, IsAnswer, IsLeast};
-ghost use Rattle.leastfault.specs.Replies.{HandsOut, HasOneReply, IsAllReply, IsCheckReply, IsRunReply, IsSearchReply, IsTreeText};
+ghost use Rattle.leastfault.specs.Replies.{HandsOut, HasOneReply, IsAllReply, IsAnswerReply, IsCheckReply, IsRunReply, IsSearchReply, IsTreeText};
 ghost use Rattle.leastfault.specs.Reports.{yes_line};
 
 use lf_faults::orders_are_total;
@@ -32,10 +33,14 @@ pub fn least_sets_are_one()
 }
 
 /// A text has at most one reply of a search that reports the answer, and one of a search that reports all least sets, both with one
-/// status and one tree that is handed out; and with these words at most one of a run.
+/// status and one tree that is handed out; one that tells the answer alone, which is that of the search unless a level of it is too
+/// full; and with these words at most one of a run.
 pub fn replies_are_one(faults: &str)
     ensures search { (text : List ℕ) → HasOneReply (IsSearchReply text) }
     ensures all { (text : List ℕ) → HasOneReply (IsAllReply text) }
+    ensures answer { (text : List ℕ) → HasOneReply (IsAnswerReply text) }
+    ensures agree { (text one other : List ℕ) (m n : ℕ) → IsSearchReply text one m → IsAnswerReply text other n →
+        ((one ≡ other) × (m ≡ n)) ⊎ ((s : Scenario) × (level : ℕ) × (count : ℕ) × IsText s text × IsFull s level count) }
     ensures status { (text one other : List ℕ) (m n : ℕ) → IsSearchReply text one m → IsAllReply text other n → m ≡ n }
     ensures tree { (text : List ℕ) (status : ℕ) (one other : Option Tree) → HandsOut text one status → HandsOut text other status → one ≡ other }
     ensures run { (text : List ℕ) → HasOneReply (IsRunReply faults.now text) }

@@ -14,10 +14,10 @@ mod least;
 mod replies;
 mod workers;
 
-pub use answer::plain_answer;
+pub use answer::{merged_answer, plain_answer};
 pub use engine::{
-    BytesFault, LONGEST_TREE, Searched, all_bytes, all_shared, check_bytes, check_bytes_rows,
-    run_bytes, search_bytes, search_shared,
+    BytesFault, LONGEST_TREE, Searched, all_bytes, all_shared, answer_bytes, check_bytes,
+    check_bytes_rows, run_bytes, search_bytes, search_shared,
 };
 pub use laws::{
     answers_are_one, check_replies_are_one, least_sets_are_one, replies_are_one, yes_is_the_answer,

@@ -2,6 +2,7 @@
 //! a certificate of its answer is right.
 //!
 //!     leastfault search FILE [--all] [--tree TREE] [--workers N]
+//!     leastfault answer FILE
 //!     leastfault run FILE FAULTS
 //!     leastfault check FILE TREE
 //!
@@ -9,6 +10,9 @@
 //! is a certificate, and `-` is standard input; it can't be that of FILE and of TREE at once. With no words it is `search -`.
 //! With `--all` a search prints all sets with so few faults, and with `--tree` it writes the certificate of its answer into the
 //! file TREE, and then the reply. With `--workers` N workers search at once, 1 to 32: the reply and the certificate are the same.
+//!
+//! `answer` prints what `search` does, by another way: it keeps configurations of the cluster and no sets, so no level can be too full, and
+//! it makes no certificate.
 //!
 //! The status is 0 where no allowed set of faults defeats the outcome, where the run reaches it, where the certificate is
 //! right, and after help or the version; 1 where a set defeats it, the run misses it, or the certificate is wrong; 2 where the
@@ -29,8 +33,8 @@ use devices::{opened, print, put};
 use kept::Kept;
 use leastfault::{
     Asked, BytesFault, FromRead, Searched, Sink, Source, ToWrite, Tree, TreeFault, Unasked,
-    all_bytes, all_shared, asked, check_bytes_rows, run_bytes, search_bytes, search_shared,
-    to_text, tree_refusal,
+    all_bytes, all_shared, answer_bytes, asked, check_bytes_rows, run_bytes, search_bytes,
+    search_shared, to_text, tree_refusal,
 };
 use lf_hints::{check_hint, run_hint, search_hint, tree_hint};
 use std::alloc::AllocError;
@@ -102,9 +106,10 @@ fn done(
     asked: &Asked,
 ) -> Result<u8, Stop> {
     let file = match asked {
-        Asked::Search { file, .. } | Asked::Run { file, .. } | Asked::Check { file, .. } => {
-            file.as_str()
-        }
+        Asked::Search { file, .. }
+        | Asked::Run { file, .. }
+        | Asked::Check { file, .. }
+        | Asked::Answer { file } => file.as_str(),
     };
     if file == "-" {
         replied(rt, threads, asked, file, rt.stdin())
@@ -137,6 +142,7 @@ fn replied<R: Read + Drop>(
                 None => searched(rt, threads, file, reader, wanted),
             }
         }
+        Asked::Answer { .. } => answered(rt, file, reader),
         Asked::Run { faults, .. } => ran(rt, file, reader, faults.as_str()),
         Asked::Check { tree, .. } => {
             let files = (file, tree.as_str());
@@ -261,6 +267,19 @@ fn written(
             hint(rt, tree_hint(rt.alloc(), &[], fault));
             Ok(2)
         }
+    }
+}
+
+/// Answers the scenario that the reader of a file has, and writes the reply to standard output.
+fn answered<R: Read + Drop>(rt: &HostRuntime, file: &str, reader: R) -> Result<u8, Stop> {
+    let mut source = Kept::new(rt.alloc(), FromRead::new(reader));
+    let mut sink = Kept::new(rt.alloc(), ToWrite::new(rt.stdout()));
+    match answer_bytes(rt.alloc(), &mut source, &mut sink) {
+        Ok(status) => {
+            hint_search(rt, status, source.bytes(), sink.bytes());
+            Ok(status)
+        }
+        Err(fault) => Err(Stop::of(rt.alloc(), fault, file)),
     }
 }
 

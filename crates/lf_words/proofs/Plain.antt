@@ -44,6 +44,10 @@ is_taken (x ∷ y ∷ rest) plain = taken_other x (y ∷ rest) (not-true (x == 4
 abbrev pub named_both : Text → Text × List Row → Text × Option Text × Option Text
 named_both key p = (p.0, first_of (codes "file") p.1, first_of key p.1)
 
+-- a command's name and its file
+abbrev pub named_one : Text × List Row → Text × Option Text
+named_one p = (p.0, first_of (codes "file") p.1)
+
 -- the same of a search, with its flag and its workers
 abbrev pub named_search : Text × List Row → Text × Option Text × Option Text × Bool × Option Text
 named_search p =
@@ -78,6 +82,15 @@ pub check_names : (file tree : Text) → IsTaken file → IsTaken tree
 unfolding clap_on_literals
 check_names file tree taken taken_too = rw (taken.no_end, taken.no_long, taken.no_short, taken_too.no_end, taken_too.no_long, taken_too.no_short) refl
 
+pub answer_fault : (file : Text) → IsTaken file → fault_of program (codes "answer" ∷ file ∷ []) ≡ []
+unfolding clap_on_literals
+answer_fault file taken = rw (taken.no_end, taken.no_long, taken.no_short) refl
+
+pub answer_names : (file : Text) → IsTaken file
+    → option_map named_one (subcommand_of program (codes "answer" ∷ file ∷ [])) ≡ Some (codes "answer", Some file)
+unfolding clap_on_literals
+answer_names file taken = rw (taken.no_end, taken.no_long, taken.no_short) refl
+
 pub help_fault : (words : List Text) → fault_of program (codes "--help" ∷ words) ≡ kind.DisplayHelp ∷ []
 unfolding clap_on_literals
 help_fault words = refl
@@ -95,6 +108,8 @@ unfolding clap_on_literals
 short_version_fault words = refl
 
 pub unknown_fault : (word : Text) (words : List Text) → IsTaken word → bytes_eq (codes "search") word ≡ false → bytes_eq (codes "run") word ≡ false
-    → bytes_eq (codes "check") word ≡ false → fault_of program (word ∷ words) ≡ kind.UnknownArgument ∷ kind.InvalidSubcommand ∷ []
+    → bytes_eq (codes "check") word ≡ false → bytes_eq (codes "answer") word ≡ false
+    → fault_of program (word ∷ words) ≡ kind.UnknownArgument ∷ kind.InvalidSubcommand ∷ []
 unfolding clap_on_literals
-unknown_fault word words taken no_search no_run no_check = rw (no_search, no_run, no_check, taken.no_end, taken.no_long, taken.no_short) refl
+unknown_fault word words taken no_search no_run no_check no_answer =
+    rw (no_search, no_run, no_check, no_answer, taken.no_end, taken.no_long, taken.no_short) refl

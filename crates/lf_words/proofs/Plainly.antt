@@ -10,19 +10,23 @@ use Rattle.clap.specs.declared.error.kind.ErrorKind.{ErrorKind}
 use Rattle.clap.specs.declared.error.kind.ErrorKind.TheVariants as kind
 use Rattle.clap.specs.Words.{Kinds, Row, Text, fault_of, subcommand_of}
 use Rattle.lf_words.specs.Commands.{program}
-use Rattle.lf_words.specs.Plain.{asks_help, asks_version, is_plain, is_plain_command, is_unknown, takes_two}
+use Rattle.lf_words.specs.Plain.{asks_help, asks_version, is_plain, is_plain_command, is_unknown, takes_one, takes_two}
 use Rattle.lf_words.specs.Statuses.{exit_status, status_of}
 use Rattle.lf_words.specs.Words.{AreNamed, Asks, HasStatus, IsAskedIn, IsPlainly, IsRefusal, is_input, shares_input, texts_of}
 use Rattle.lf_words.specs.declared.types.Asked.{Asked}
 use Rattle.lf_words.specs.declared.types.Asked.TheVariants as asked
 use Rattle.lf_words.specs.declared.unasked.Unasked.{Unasked}
 use Rattle.lf_words.specs.declared.unasked.Unasked.TheVariants as unasked
+use Rattle.lf_words.proofs.Plain.{named_one, answer_fault, answer_names}
 use Rattle.lf_words.proofs.Plain.{IsTaken, is_taken, named_both, named_search, check_fault, check_names, run_fault, run_names, search_fault, search_names}
 use Rattle.lf_words.proofs.Plain.{help_fault, short_help_fault, short_version_fault, unknown_fault, version_fault}
 use Rattle.lf_words.proofs.Reading.{apart, no_truth}
 
 abbrev Both : Type 0
 Both = Text × Option Text × Option Text
+
+abbrev One : Type 0
+One = Text × Option Text
 
 abbrev Search : Type 0
 Search = Text × Option Text × Option Text × Bool × Option Text
@@ -58,6 +62,15 @@ check_or_search name is_check is_search = apart 99 115 (omega arith) (ap first (
 check_or_run : (name : Text) → name ≡ codes "check" → name ≡ codes "run" → ⊥
 check_or_run name is_check is_run = apart 99 114 (omega arith) (ap first (sym is_check ∙ is_run))
 
+answer_or_search : (name : Text) → name ≡ codes "answer" → name ≡ codes "search" → ⊥
+answer_or_search name is_answer is_search = apart 97 115 (omega arith) (ap first (sym is_answer ∙ is_search))
+
+answer_or_run : (name : Text) → name ≡ codes "answer" → name ≡ codes "run" → ⊥
+answer_or_run name is_answer is_run = apart 97 114 (omega arith) (ap first (sym is_answer ∙ is_run))
+
+answer_or_check : (name : Text) → name ≡ codes "answer" → name ≡ codes "check" → ⊥
+answer_or_check name is_answer is_check = apart 97 99 (omega arith) (ap first (sym is_answer ∙ is_check))
+
 search_of : (words : List Text) (o : Option (Text × List Row)) (file : Text) (a : Asked)
     → option_map named_search o ≡ Some (codes "search", Some file, None, false, None)
     → IsAskedIn words o a → IsPlainly (codes "search" ∷ file ∷ []) a
@@ -77,6 +90,9 @@ search_of words (Some p) file (asked.Run own faults) names asked =
 search_of words (Some p) file (asked.Check own tree) names asked =
     let found : named_search p ≡ (codes "search", Some file, None, false, None) = some_is _ _ names in
     absurd (check_or_search p.0 asked.0.0 (ap (λ (q : Search). q.0) found))
+search_of words (Some p) file (asked.Answer own) names asked =
+    let found : named_search p ≡ (codes "search", Some file, None, false, None) = some_is _ _ names in
+    absurd (answer_or_search p.0 asked.0.0 (ap (λ (q : Search). q.0) found))
 
 asks_search : (words : List Text) (o : Option (Text × List Row)) (file : String Global)
     → option_map named_search o ≡ Some (codes "search", Some (string_bytes file), None, false, None)
@@ -109,6 +125,9 @@ run_of words (Some p) file faults (asked.Run own own_faults) names asked =
 run_of words (Some p) file faults (asked.Check own tree) names asked =
     let pair : named_both (codes "faults") p ≡ (codes "run", Some file, Some faults) = some_is _ _ names in
     absurd (check_or_run p.0 asked.0.0 (ap (λ (q : Both). q.0) pair))
+run_of words (Some p) file faults (asked.Answer own) names asked =
+    let pair : named_both (codes "faults") p ≡ (codes "run", Some file, Some faults) = some_is _ _ names in
+    absurd (answer_or_run p.0 asked.0.0 (ap (λ (q : Both). q.0) pair))
 
 asks_run : (words : List Text) (o : Option (Text × List Row)) (file faults : String Global)
     → option_map (named_both (codes "faults")) o ≡ Some (codes "run", Some (string_bytes file), Some (string_bytes faults))
@@ -133,6 +152,9 @@ check_of words (Some p) file tree (asked.Check own own_tree) names asked =
     let same : own.bytes.items ≡ file = some_is _ _ (sym asked.0.1 ∙ ap (λ (q : Both). q.1) pair) in
     let same_too : own_tree.bytes.items ≡ tree = some_is _ _ (sym asked.0.2 ∙ ap (λ (q : Both). q.2) pair) in
     record { texts = rw (same, same_too) refl; unwritten = refl; one = refl; alone = refl }
+check_of words (Some p) file tree (asked.Answer own) names asked =
+    let pair : named_both (codes "tree") p ≡ (codes "check", Some file, Some tree) = some_is _ _ names in
+    absurd (answer_or_check p.0 asked.0.0 (ap (λ (q : Both). q.0) pair))
 
 asks_check : (words : List Text) (o : Option (Text × List Row)) (file tree : String Global)
     → option_map (named_both (codes "tree")) o ≡ Some (codes "check", Some (string_bytes file), Some (string_bytes tree))
@@ -141,6 +163,31 @@ asks_check words None file tree names is = absurd (no_thing _ names)
 asks_check words (Some p) file tree names is =
     let pair : named_both (codes "tree") p ≡ (codes "check", Some (string_bytes file), Some (string_bytes tree)) = some_is _ _ names in
     ((ap (λ (q : Both). q.0) pair, ap (λ (q : Both). q.1) pair, ap (λ (q : Both). q.2) pair), rw (is) (inl (refl, inl (refl, inl (refl, tt)))))
+
+answer_of : (words : List Text) (o : Option (Text × List Row)) (file : Text) (a : Asked)
+    → option_map named_one o ≡ Some (codes "answer", Some file) → IsAskedIn words o a → IsPlainly (codes "answer" ∷ file ∷ []) a
+answer_of words None file a names asked = elim asked [ ]
+answer_of words (Some p) file (asked.Search own tree all workers) names asked =
+    let found : named_one p ≡ (codes "answer", Some file) = some_is _ _ names in
+    absurd (answer_or_search p.0 (ap (λ (q : One). q.0) found) asked.0.0)
+answer_of words (Some p) file (asked.Run own faults) names asked =
+    let found : named_one p ≡ (codes "answer", Some file) = some_is _ _ names in
+    absurd (answer_or_run p.0 (ap (λ (q : One). q.0) found) asked.0.0)
+answer_of words (Some p) file (asked.Check own tree) names asked =
+    let found : named_one p ≡ (codes "answer", Some file) = some_is _ _ names in
+    absurd (answer_or_check p.0 (ap (λ (q : One). q.0) found) asked.0.0)
+answer_of words (Some p) file (asked.Answer own) names asked =
+    let found : named_one p ≡ (codes "answer", Some file) = some_is _ _ names in
+    let same : own.bytes.items ≡ file = some_is _ _ (sym asked.0.1 ∙ ap (λ (q : One). q.1) found) in
+    record { texts = rw (same) refl; unwritten = refl; one = refl; alone = refl }
+
+asks_answer : (words : List Text) (o : Option (Text × List Row)) (file : String Global)
+    → option_map named_one o ≡ Some (codes "answer", Some (string_bytes file))
+    → words ≡ codes "answer" ∷ string_bytes file ∷ [] → IsAskedIn words o (asked.Answer file)
+asks_answer words None file names is = absurd (no_thing _ names)
+asks_answer words (Some p) file names is =
+    let found : named_one p ≡ (codes "answer", Some (string_bytes file)) = some_is _ _ names in
+    ((ap (λ (q : One). q.0) found, ap (λ (q : One). q.1) found), rw (is) (inl (refl, inl (refl, tt))))
 
 -- words that are taken, and ask for something that can be done, are refused for want of memory alone
 only_memory : (words : List Text) (a : Asked) (u : Unasked) → Asks words a → ((b : Asked) → Asks words b → shares_input b ≡ true → ⊥)
@@ -151,10 +198,16 @@ only_memory words a (unasked.Wrong text) asks possible (inr nothing) = absurd (n
 only_memory words a unasked.SharedInput asks possible shared = absurd (possible shared.0 shared.1 shared.2)
 only_memory words a unasked.Memory asks possible refusal = refl
 
-search_is : (command file : Text) → is_plain_command (command ∷ file ∷ []) ≡ true → (command ≡ codes "search") × IsTaken file
-search_is command file plain =
-    let h = both (bytes_eq command (codes "search")) (is_plain file) plain in
-    ((bytes_eq-Decides command (codes "search")).0 h.0, is_taken file h.1)
+one_is : (command file : Text) → is_plain_command (command ∷ file ∷ []) ≡ true
+    → ((command ≡ codes "search") ⊎ (command ≡ codes "answer")) × IsTaken file
+one_is command file plain =
+    let h = both (takes_one command) (is_plain file) plain in (
+      elim (either (bytes_eq command (codes "search")) (bytes_eq command (codes "answer")) h.0) [
+        | inl search ↦ inl ((bytes_eq-Decides command (codes "search")).0 search)
+        | inr answer ↦ inr ((bytes_eq-Decides command (codes "answer")).0 answer)
+      ],
+      is_taken file h.1,
+    )
 
 abbrev IsOfTwo : Text → Text → Text → Type 0
 IsOfTwo command one other =
@@ -179,9 +232,13 @@ pub asks_plainly : (words : List Text) (a : Asked) → is_plain_command words �
 asks_plainly [] a plain asks = absurd (no_truth plain)
 asks_plainly (command ∷ []) a plain asks = absurd (no_truth plain)
 asks_plainly (command ∷ file ∷ []) a plain asks =
-    let is = search_is command file plain in
-    subst (λ c. Asks (c ∷ file ∷ []) a → IsPlainly (c ∷ file ∷ []) a) (sym is.0)
-    (λ h. search_of _ (subcommand_of program (codes "search" ∷ file ∷ [])) file a (search_names file is.1) h.1) asks
+    let is = one_is command file plain in
+    elim is.0 [
+      | inl search ↦ subst (λ c. Asks (c ∷ file ∷ []) a → IsPlainly (c ∷ file ∷ []) a) (sym search)
+          (λ h. search_of _ (subcommand_of program (codes "search" ∷ file ∷ [])) file a (search_names file is.1) h.1) asks
+      | inr answer ↦ subst (λ c. Asks (c ∷ file ∷ []) a → IsPlainly (c ∷ file ∷ []) a) (sym answer)
+          (λ h. answer_of _ (subcommand_of program (codes "answer" ∷ file ∷ [])) file a (answer_names file is.1) h.1) asks
+    ]
 asks_plainly (command ∷ one ∷ other ∷ []) a plain asks =
     let is = two_are command one other plain in
     elim is.0 [
@@ -201,6 +258,7 @@ shared_not_plain (asked.Check file tree) shared plain =
       | inl run ↦ check_or_run (codes "check") refl run
       | inr check ↦ no_truth (sym (not-true _ check.1) ∙ shared)
     ]
+shared_not_plain (asked.Answer file) shared plain = no_truth shared
 
 can_be_done : (words : List Text) → is_plain_command words ≡ true → (a : Asked) → Asks words a → shares_input a ≡ true → ⊥
 can_be_done words plain a asks shared =
@@ -210,15 +268,27 @@ asks_some : (ws : List (String Global)) → is_plain_command (map string_bytes w
 asks_some [] plain = absurd (no_truth plain)
 asks_some (command ∷ []) plain = absurd (no_truth plain)
 asks_some (command ∷ file ∷ []) plain =
-    let is = search_is (string_bytes command) (string_bytes file) plain in
-    let words = codes "search" ∷ string_bytes file ∷ [] in
-    subst (λ c. (a : Asked) × Asks (c ∷ string_bytes file ∷ []) a) (sym is.0) (
-      asked.Search file None false 1,
-      (
-        search_fault (string_bytes file) is.1,
-        asks_search words (subcommand_of program words) file (search_names (string_bytes file) is.1) refl,
-      ),
-    )
+    let is = one_is (string_bytes command) (string_bytes file) plain in
+    elim is.0 [
+      | inl search ↦
+          let words = codes "search" ∷ string_bytes file ∷ [] in
+          subst (λ c. (a : Asked) × Asks (c ∷ string_bytes file ∷ []) a) (sym search) (
+            asked.Search file None false 1,
+            (
+              search_fault (string_bytes file) is.1,
+              asks_search words (subcommand_of program words) file (search_names (string_bytes file) is.1) refl,
+            ),
+          )
+      | inr answer ↦
+          let words = codes "answer" ∷ string_bytes file ∷ [] in
+          subst (λ c. (a : Asked) × Asks (c ∷ string_bytes file ∷ []) a) (sym answer) (
+            asked.Answer file,
+            (
+              answer_fault (string_bytes file) is.1,
+              asks_answer words (subcommand_of program words) file (answer_names (string_bytes file) is.1) refl,
+            ),
+          )
+    ]
 asks_some (command ∷ one ∷ other ∷ []) plain =
     let is = two_are (string_bytes command) (string_bytes one) (string_bytes other) plain in
     elim is.0 [
@@ -282,6 +352,7 @@ shared_is (asked.Check file tree) is =
     let one : is_input file.bytes.items ≡ true = (bytes_eq-Decides file.bytes.items (codes "-")).1 (ap second is) in
     let other : is_input tree.bytes.items ≡ true = (bytes_eq-Decides tree.bytes.items (codes "-")).1 (ap third is) in
     rw (one, other) refl
+shared_is (asked.Answer file) is = absurd (apart 2 3 (omega arith) (ap size is))
 
 pub shared_is_refused : (words : List Text) (a : Asked) → words ≡ shared_words → Asks words a → shares_input a ≡ false → ⊥
 shared_is_refused words a is asks possible =
@@ -330,11 +401,13 @@ version_is (word ∷ words) version = elim (either (bytes_eq word (codes "--vers
 pub unknown_is : (words : List Text) → is_unknown words ≡ true → fault_of program words ≡ kind.UnknownArgument ∷ kind.InvalidSubcommand ∷ []
 unknown_is [] unknown = absurd (no_truth unknown)
 unknown_is (word ∷ words) unknown =
-    let no_run = not (bytes_eq (codes "run") word) && not (bytes_eq (codes "check") word) in
+    let no_check = not (bytes_eq (codes "check") word) && not (bytes_eq (codes "answer") word) in
+    let no_run = not (bytes_eq (codes "run") word) && no_check in
     let h = both (is_plain word) (not (bytes_eq (codes "search") word) && no_run) unknown in
     let k = both (not (bytes_eq (codes "search") word)) no_run h.1 in
-    let l = both (not (bytes_eq (codes "run") word)) (not (bytes_eq (codes "check") word)) k.1 in
-    unknown_fault word words (is_taken word h.0) (not-true _ k.0) (not-true _ l.0) (not-true _ l.1)
+    let l = both (not (bytes_eq (codes "run") word)) no_check k.1 in
+    let m = both (not (bytes_eq (codes "check") word)) (not (bytes_eq (codes "answer") word)) l.1 in
+    unknown_fault word words (is_taken word h.0) (not-true _ k.0) (not-true _ l.0) (not-true _ m.0) (not-true _ m.1)
 
 abbrev kinds_count : Kinds → ℕ
 kinds_count [] = 0

@@ -40,6 +40,10 @@ tree = record (new_rule (codes "tree")) { required = true; value_names = 1 }
 abbrev pub check : App
 check = with_rule (with_rule (new_app (codes "check")) file) tree
 
+-- answer FILE
+abbrev pub answer : App
+answer = with_rule (new_app (codes "answer")) file
+
 -- the words are all after the program's name, there is a version and no command `help`, and one command has to be named
 abbrev pub plain : App
 plain = on_top (λ s. record s {
@@ -49,5 +53,8 @@ plain = on_top (λ s. record s {
   subcommand_required = true;
 }) (new_app (codes "leastfault"))
 
+abbrev pub without_answer : App
+without_answer = with_subcommand (with_subcommand (with_subcommand plain search.top) run.top) check.top
+
 abbrev pub program : App
-program = with_subcommand (with_subcommand (with_subcommand plain search.top) run.top) check.top
+program = with_subcommand without_answer answer.top

@@ -15,9 +15,13 @@ abbrev pub takes_two : Text → Text → Text → Bool
 takes_two command one other =
     bytes_eq command (codes "run") || (bytes_eq command (codes "check") && not (is_input one && is_input other))
 
--- search FILE, run FILE FAULTS, or check FILE TREE
+-- the command takes one word
+abbrev pub takes_one : Text → Bool
+takes_one command = bytes_eq command (codes "search") || bytes_eq command (codes "answer")
+
+-- search FILE, answer FILE, run FILE FAULTS, or check FILE TREE
 abbrev pub is_plain_command : List Text → Bool
-is_plain_command (command ∷ file ∷ []) = bytes_eq command (codes "search") && is_plain file
+is_plain_command (command ∷ file ∷ []) = takes_one command && is_plain file
 is_plain_command (command ∷ one ∷ other ∷ []) = takes_two command one other && (is_plain one && is_plain other)
 is_plain_command _ = false
 
@@ -35,4 +39,5 @@ asks_version (word ∷ words) = bytes_eq word (codes "--version") || bytes_eq wo
 abbrev pub is_unknown : List Text → Bool
 is_unknown [] = false
 is_unknown (word ∷ words) =
-    is_plain word && (not (bytes_eq (codes "search") word) && (not (bytes_eq (codes "run") word) && not (bytes_eq (codes "check") word)))
+    is_plain word && (not (bytes_eq (codes "search") word) && (not (bytes_eq (codes "run") word)
+    && (not (bytes_eq (codes "check") word) && not (bytes_eq (codes "answer") word))))

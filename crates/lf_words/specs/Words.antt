@@ -23,24 +23,28 @@ abbrev pub texts_of : Asked → List Text
 texts_of (asked.Search file tree all workers) = codes "search" ∷ file.bytes.items ∷ []
 texts_of (asked.Run file faults) = codes "run" ∷ file.bytes.items ∷ faults.bytes.items ∷ []
 texts_of (asked.Check file tree) = codes "check" ∷ file.bytes.items ∷ tree.bytes.items ∷ []
+texts_of (asked.Answer file) = codes "answer" ∷ file.bytes.items ∷ []
 
 -- the file for a certificate that is to be written
 abbrev pub written_to : Asked → Option Text
 written_to (asked.Search file tree all workers) = option_map (λ t. t.bytes.items) tree
 written_to (asked.Run file faults) = None
 written_to (asked.Check file tree) = None
+written_to (asked.Answer file) = None
 
 -- all least sets are to be told
 abbrev pub wants_all : Asked → Bool
 wants_all (asked.Search file tree all workers) = all
 wants_all (asked.Run file faults) = false
 wants_all (asked.Check file tree) = false
+wants_all (asked.Answer file) = false
 
 -- how many workers are to do it
 abbrev pub workers_of : Asked → ℕ
 workers_of (asked.Search file tree all workers) = workers
 workers_of (asked.Run file faults) = 1
 workers_of (asked.Check file tree) = 1
+workers_of (asked.Answer file) = 1
 
 -- just these words are asked for, and no option
 pub record IsPlainly (words : List Text) (a : Asked) : Type 0 where
@@ -58,6 +62,7 @@ abbrev pub shares_input : Asked → Bool
 shares_input (asked.Search file tree all workers) = false
 shares_input (asked.Run file faults) = false
 shares_input (asked.Check file tree) = is_input file.bytes.items && is_input tree.bytes.items
+shares_input (asked.Answer file) = false
 
 -- what `clap` has of a flag, which is on where it is among the words
 abbrev pub is_set : Option Text → Bool
@@ -83,6 +88,7 @@ IsMatched name rows (asked.Run file faults) = (name ≡ codes "run") × (first_o
     × (first_of (codes "faults") rows ≡ Some faults.bytes.items)
 IsMatched name rows (asked.Check file tree) = (name ≡ codes "check") × (first_of (codes "file") rows ≡ Some file.bytes.items)
     × (first_of (codes "tree") rows ≡ Some tree.bytes.items)
+IsMatched name rows (asked.Answer file) = (name ≡ codes "answer") × (first_of (codes "file") rows ≡ Some file.bytes.items)
 
 -- it asks for this, and of words that are there
 abbrev pub IsAskedBy : List Text → Text → List Row → Asked → Type 0

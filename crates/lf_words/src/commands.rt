@@ -3,7 +3,8 @@
 ghost use Rattle.std.specs.Prelude.{◌≡◌, IfOk, false};
 ghost use Rattle.clap.specs.Words.{app_of, rule_of};
 ghost use Rattle.clap.specs.declared.builder.command.Command.TheViews.{out-Command};
-ghost use Rattle.lf_words.specs.Commands.{check, each, file, plain, program, run, search, tree, workers, written};
+ghost use Rattle.lf_words.specs.Commands.{workers, written};
+ghost use Rattle.lf_words.specs.Commands.{answer, check, each, file, plain, program, run, search, tree, without_answer};
 
 use clap::{Arg, ArgAction, Command};
 use std::alloc::{AllocError, Global};
@@ -38,6 +39,13 @@ pub(crate) fn program<'a>(alloc: Global) -> Result<Command<'a>, AllocError>
 /// The command line of the program.
 fn unnamed<'a>(alloc: Global) -> Result<Command<'a>, AllocError>
     ensures { IfOk result (λ c. app_of c ≡ program) }
+{
+    without_answer(alloc)?.subcommand(answer(alloc)?)
+}
+
+/// The command line without the command `answer`.
+fn without_answer<'a>(alloc: Global) -> Result<Command<'a>, AllocError>
+    ensures { IfOk result (λ c. app_of c ≡ without_answer) }
 {
     plain(alloc)
         .subcommand(search(alloc)?)?
@@ -96,6 +104,15 @@ fn check<'a>(alloc: Global) -> Result<Command<'a>, AllocError>
         )
         .arg(file(alloc))?
         .arg(tree(alloc))
+}
+
+/// The command `answer FILE`.
+fn answer<'a>(alloc: Global) -> Result<Command<'a>, AllocError>
+    ensures { IfOk result (λ c. (app_of c ≡ answer) × ((out-Command c).has_globals ≡ false)) }
+{
+    Command::new(alloc, "answer")
+        .about("Prints what search does, by another way that no bound of the scenario on how many sets are kept can stop, and that makes no certificate")
+        .arg(file(alloc))
 }
 
 /// The argument TREE.

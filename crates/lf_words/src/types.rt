@@ -32,6 +32,11 @@ pub enum Asked {
         /// The file of the certificate.
         tree: String,
     },
+    /// To tell the answer to a scenario alone, with no bound on how much a level keeps.
+    Answer {
+        /// The file of the scenario.
+        file: String,
+    },
 }
 
 impl Asked {
@@ -41,7 +46,7 @@ impl Asked {
     {
         match self {
             Asked::Check { file, tree } => file.as_str() == "-" && tree.as_str() == "-",
-            Asked::Search { .. } | Asked::Run { .. } => false,
+            Asked::Search { .. } | Asked::Run { .. } | Asked::Answer { .. } => false,
         }
     }
 }

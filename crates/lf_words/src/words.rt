@@ -82,6 +82,7 @@ fn command(
         Some((name, rest)) if name == "search" => search(alloc, words, rest),
         Some((name, rest)) if name == "run" => run(alloc, words, rest),
         Some((name, rest)) if name == "check" => check(alloc, words, rest),
+        Some((name, rest)) if name == "answer" => answer(alloc, words, rest),
         _ => Ok(None),
     }
 }
@@ -183,6 +184,26 @@ fn check(
     Ok(Some(Asked::Check {
         file: String::from_str(alloc, file)?,
         tree: String::from_str(alloc, tree)?,
+    }))
+}
+
+/// What the matches of `answer` ask for. None where they ask for nothing that is among the words.
+fn answer(
+    alloc: Global,
+    words: &[String],
+    matches: &ArgMatches<'_>,
+) -> Result<Option<Asked>, AllocError>
+    ensures { IfOk result (IsAnswer (IsAskedBy (map string_bytes words.now) (codes "answer")
+        (rows_of (found_of matches.now)))) }
+{
+    let Some(file) = value(matches, "file") else {
+        return Ok(None);
+    };
+    if !are_part_of(&["answer", file], words) {
+        return Ok(None);
+    }
+    Ok(Some(Asked::Answer {
+        file: String::from_str(alloc, file)?,
     }))
 }
 

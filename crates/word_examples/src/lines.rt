@@ -47,6 +47,7 @@ fn said(alloc: Global, words: &str) -> Result<String, AllocError> {
         }
         Ok(Asked::Run { file, faults }) => format!(in alloc; ";run;{file};{faults}"),
         Ok(Asked::Check { file, tree }) => format!(in alloc; ";check;{file};{tree}"),
+        Ok(Asked::Answer { file }) => format!(in alloc; ";answer;{file}"),
         Err(unasked) => String::from_str(alloc, why(&unasked)),
     }
 }
@@ -120,6 +121,21 @@ fn checks_name_their_file_and_their_tree(rt: HostRuntime) -> Result<(), Fail> {
         ";check;--;-a;-|;check;-a;-\n",
         ";check;-;-|shared\n",
         ";check;--;-;-|shared\n",
+    );
+    check_lines(&rt, rt.alloc(), table)
+}
+
+#[test]
+fn answers_name_their_file(rt: HostRuntime) -> Result<(), Fail> {
+    let table = concat!(
+        ";answer;a.toml|;answer;a.toml\n",
+        ";answer;-|;answer;-\n",
+        ";answer;--;-x|;answer;-x\n",
+        ";answer;answer|;answer;answer\n",
+        ";answer|wrong\n",
+        ";answer;a;b|wrong\n",
+        ";answer;a;--all|wrong\n",
+        ";answer;--help|help\n",
     );
     check_lines(&rt, rt.alloc(), table)
 }

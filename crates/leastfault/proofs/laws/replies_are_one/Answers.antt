@@ -1,4 +1,4 @@
-use Rattle.leastfault.proofs.Uniqueness.{all_replies_one, handed_one, run_replies_one, search_replies_one, statuses_agree}
+use Rattle.leastfault.proofs.Uniqueness.{all_replies_one, answer_replies_agree, answer_replies_one, handed_one, run_replies_one, search_replies_one, statuses_agree}
 use Rattle.leastfault.proofs.laws.replies_are_one.Goals as goal
 
 pub returns-clause-search : goal.returns-clause-search
@@ -6,6 +6,12 @@ returns-clause-search c text one other m n a b = search_replies_one text one oth
 
 pub returns-clause-all : goal.returns-clause-all
 returns-clause-all c text one other m n a b = all_replies_one c.orders_are_total.ensures.sets text one other m n a b
+
+pub returns-clause-answer : goal.returns-clause-answer
+returns-clause-answer c text one other m n a b = answer_replies_one text one other m n a b
+
+pub returns-clause-agree : goal.returns-clause-agree
+returns-clause-agree c text one other m n a b = answer_replies_agree text one other m n a b
 
 pub returns-clause-status : goal.returns-clause-status
 returns-clause-status c text one other m n a b = statuses_agree text one other m n a b

@@ -1,0 +1,23 @@
+use Rattle.std.proofs.Common.{◌≡◌, ◌≢◌, inl, inr, string_bytes}
+use Rattle.std.proofs.lemmas.Result.{IfOk-weaker}
+use Rattle.lf_scenario.specs.declared.error.ScenarioError.{ScenarioError}
+use Rattle.leastfault.specs.Replies.{IsAnswerReply, RepliesAnswer}
+use Rattle.leastfault.specs.Reports.{refusal}
+use Rattle.leastfault.proofs.answering.answer_reply.Goals as goal
+
+pub returns-in-Ok : goal.returns-in-Ok
+returns-in-Ok c =
+    let s = c.in-Ok.scenario in
+    IfOk-weaker c.answered.result (λ reply. RepliesAnswer s (string_bytes reply.text) reply.status)
+    (λ reply. IsAnswerReply c.args.text.now (string_bytes reply.text) reply.status)
+    (λ reply told. inr (s, c.in-Ok.ensures.reading, told))
+    c.answered.ensures
+
+pub returns : goal.returns
+returns c =
+    let error = c.in-Err.error in
+    IfOk-weaker c.refused.result
+    (λ reply. (error ≢ ScenarioError.Memory) × (string_bytes reply.text ≡ refusal error) × (reply.status ≡ 2))
+    (λ reply. IsAnswerReply c.args.text.now (string_bytes reply.text) reply.status)
+    (λ reply told. inl (error, c.in-Err.ensures.reading told.0, told.1, told.2))
+    c.refused.ensures
