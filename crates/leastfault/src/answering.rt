@@ -117,7 +117,7 @@ pub(crate) fn answer_reply(alloc: Global, text: &[u8]) -> Result<Reply, AllocErr
 {
     match read(alloc, text) {
         Ok(scenario) => answered(alloc, &scenario),
-        Err(error) => refused(alloc, error),
+        Err(why) => refused(alloc, why),
     }
 }
 

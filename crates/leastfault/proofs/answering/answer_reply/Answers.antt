@@ -13,9 +13,9 @@ returns-in-Ok c =
     (λ reply told. inr (s, c.in-Ok.ensures.reading, told))
     c.answered.ensures
 
-pub returns : goal.returns
-returns c =
-    let error = c.in-Err.error in
+pub returns-in-Err : goal.returns-in-Err
+returns-in-Err c =
+    let error = c.in-Err.why in
     IfOk-weaker c.refused.result
     (λ reply. (error ≢ ScenarioError.Memory) × (string_bytes reply.text ≡ refusal error) × (reply.status ≡ 2))
     (λ reply. IsAnswerReply c.args.text.now (string_bytes reply.text) reply.status)
