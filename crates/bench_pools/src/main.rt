@@ -26,6 +26,7 @@ use std::thread::Threads;
 use std::time::Instant;
 
 /// What a search found.
+#[derive(Clone, Copy, Debug, PartialEq, Eq)]
 enum Found {
     /// So many sets were run.
     Runs(u64),
