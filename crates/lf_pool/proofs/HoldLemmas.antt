@@ -1,13 +1,15 @@
 -- What the holds of the lock leave of the number of answered sets.
 use mathlib.Core.Logic.{∥∥₁_elim, ∥∥₁_prop}
-use Rattle.std.proofs.Common.{◌≡◌, ℕ, ◌+◌, sym, subst, true, false}
-use Rattle.std.specs.Prelude.{Result, Ok, Err, IfOk, OnOk, OnErr, is_err}
+use Rattle.std.proofs.Common.{◌≡◌, ℕ, ◌+◌, refl, sym, ap, ◌∙◌, subst, arith, true, false, Bool, List, [], ◌∷◌, ◌++◌, inl, inr}
+use Rattle.std.specs.Arc.{arc_value}
+use Rattle.std.proofs.lemmas.List.{append_assoc}
+use Rattle.std.specs.Prelude.{Result, Ok, Err, IfOk, OnOk, OnErr, MatchBool, is_err}
 use Rattle.lf_marks.specs.Steps.{IsAnswer}
 use Rattle.lf_marks.specs.Answers.{mark_for}
 use Rattle.lf_marks.specs.Counting.{OfKind}
 use Rattle.lf_marks.specs.declared.grown.Answer.{Answer}
 use Rattle.lf_marks.specs.declared.grown.Answer.TheVariants.{Misses, Reaches, Branch}
-use Rattle.lf_book.specs.Books.{scenario_of, state_of, IsClosedFor, IsTaken, IsDeepened, IsFiled, IsGivenBack}
+use Rattle.lf_book.specs.Books.{scenario_of, state_of, task_of_job, IsClaimOf, IsClosedFor, IfNoJob, IsTaken, IsDeepened, IsFiled, IsGivenBack}
 use Rattle.lf_book.specs.declared.book.Book.{Book}
 use Rattle.lf_book.specs.declared.taking.Taken.{Taken}
 use Rattle.lf_book.specs.declared.taking.Taken.TheVariants as taken
@@ -15,7 +17,8 @@ use Rattle.lf_book.specs.declared.deepening.Deepened.{Deepened}
 use Rattle.lf_book.specs.declared.deepening.Deepened.TheVariants as deepened
 use Rattle.lf_work.specs.declared.finding.Finding.{Finding}
 use Rattle.lf_work.specs.declared.job.Job.{Job}
-use Rattle.lf_pool.specs.Holds.{IsAnsweredCount}
+use Rattle.lf_work.specs.Jobs.{IsOfJob}
+use Rattle.lf_pool.specs.Holds.{AreFiled, AreGivenBack, AreOfJobs, AreTaken, IsAnsweredCount, IsBusy}
 use Rattle.lf_book.proofs.Laws.{count_one}
 use Rattle.lf_pool.proofs.CountLemmas.{same-counted, took-counted, back-counted, down-counted, filed-counted}
 
@@ -43,6 +46,13 @@ answer_is : (a : Answer) → IsAnswer (mark_for a)
 answer_is Misses = tt
 answer_is Reaches = tt
 answer_is (Branch g) = tt
+
+-- a book in which a take found all open sets worked is still such a book
+pub still-busy : (old new : Book) (t : Taken) → t ≡ taken.Busy → IsTaken old new t → IfNoJob t (new ≡ old) → IsBusy new
+still-busy old new t is h same =
+    let busy : IsTaken old new taken.Busy = subst (λ (x : Taken). IsTaken old new x) is h in
+    let stays : new ≡ old = subst (λ (x : Taken). IfNoJob x (new ≡ old)) is same in
+    subst (λ (b : Book). IsTaken b new taken.Busy) (sym stays) busy
 
 -- what is filed is one more
 pub filed-counted-book : (old new : Book) (finding : Finding) (n : ℕ) → ∥ IsClosedFor (scenario_of old) (state_of old) ∥₁ → IsFiled finding old new
@@ -75,3 +85,30 @@ file-counted old new finding (Err e) n filed is closed c = absurd cc
 -- a book has one number of answered sets
 pub answered-one : (book : Book) (n m : ℕ) → IsAnsweredCount book n → IsAnsweredCount book m → n ≡ m
 answered-one book n m = count_one (λ p. OfKind IsAnswer ((state_of book).marks p)) n m
+
+-- the last item is taken off a list
+pub one-off : {A : Type 0} (whole old new done : List A) (x : A) → whole ≡ old ++ done → old ≡ new ++ x ∷ [] → whole ≡ new ++ x ∷ done
+one-off whole old new done x h e = h ∙ ap (λ l. l ++ done) e ∙ append_assoc new (x ∷ []) done
+
+-- one job more is taken,
+pub taken-more : (jobs : List Job) (job : Job) (old mid new : Book) → AreTaken jobs old mid → IsTaken mid new (taken.Job job)
+    → AreTaken (jobs ++ job ∷ []) old new
+taken-more [] job old mid new h e = (new, subst (λ b. IsTaken b new (taken.Job job)) h e, refl)
+taken-more (j ∷ jobs) job old mid new h e = (h.0, h.1, taken-more jobs job h.0 mid new h.2 e)
+
+-- one finding more is filed or refused,
+pub filed-more : (filed : Bool) (finding : Finding) (done : List Finding) (n start was is : ℕ) (old mid new : Book) → AreFiled done n old mid
+    → MatchBool filed (IsFiled finding mid new × (is ≡ was + 1)) ((new ≡ mid) × (is ≡ was)) → was ≡ start + n
+    → (m : ℕ) × AreFiled (finding ∷ done) m old new × (is ≡ start + m)
+filed-more true finding done n start was is old mid new h e same =
+    (n + 1, (n, mid, h, inl (e.0, refl)), omega (arith, e.1, same))
+filed-more false finding done n start was is old mid new h e same =
+    (n, (n, mid, h, inr (e.0, refl)), omega (arith, e.1, same))
+
+-- and one job more is given back or has no claim
+pub given-more : (given : Bool) (job : Job) (done : List Job) (old mid new : Book) → AreGivenBack done old mid
+    → MatchBool given (IsGivenBack job mid new)
+    ((¬ IsClaimOf mid job.ticket (arc_value job.scenario) job.path.items (task_of_job job)) × (new ≡ mid))
+    → AreGivenBack (job ∷ done) old new
+given-more true job done old mid new h e = (mid, h, inl e)
+given-more false job done old mid new h e = (mid, h, inr e)

@@ -1,11 +1,17 @@
 -- What the holds of the lock do to the book that lies under it. A turn is a first hold and, after a job, a second one: it is filed in that,
--- or given back. Nothing else changes the book.
-use Rattle.std.specs.Prelude.{ℕ}
+-- or given back. Where many sets are open, a worker takes a handful of them in one hold, and files them in another. Nothing else changes
+-- the book.
+use Rattle.std.specs.Prelude.{◌≡◌, ◌⊎◌, ℕ, ◌+◌, List, [], ◌∷◌, ◌++◌}
 use Rattle.lf_marks.specs.Counting.{IsCount, OfKind}
 use Rattle.lf_marks.specs.Steps as mark
-use Rattle.lf_book.specs.Books.{state_of, IsTaken, IsDeepened}
+use Rattle.std.specs.Arc.{arc_value}
+use Rattle.lf_book.specs.Books.{state_of, task_of_job, IsTaken, IsDeepened, IsFiled, IsGivenBack, IsClaimOf}
 use Rattle.lf_book.specs.declared.book.Book.{Book}
 use Rattle.lf_book.specs.declared.taking.Taken.TheVariants as taken
+use Rattle.lf_search.specs.Events.{FindsBusy}
+use Rattle.lf_work.specs.Jobs.{IsOfJob}
+use Rattle.lf_work.specs.declared.finding.Finding.{Finding}
+use Rattle.lf_work.specs.declared.job.Job.{Job}
 use Rattle.lf_pool.specs.declared.locked.Begun.{Begun}
 use Rattle.lf_pool.specs.declared.locked.Begun.TheVariants as begun
 
@@ -20,3 +26,32 @@ IsBegun old new begun.Busy = IsTaken old new taken.Busy
 IsBegun old new (begun.Deepened deepened) = (between : Book) × IsTaken old between taken.LevelDone × IsDeepened between new deepened
 IsBegun old new begun.Finished = IsTaken old new taken.Finished
 IsBegun old new begun.Spent = IsTaken old new taken.Spent
+
+-- no set of the book is open, but some are worked: the one state in which a worker waits
+abbrev pub IsBusy : Book → Type 0
+IsBusy book = FindsBusy (state_of book) (state_of book)
+
+-- jobs were taken in one hold, each by a take, the first of the list first
+abbrev pub AreTaken : List Job → Book → Book → Type 0
+AreTaken [] old new = new ≡ old
+AreTaken (job ∷ jobs) old new = (between : Book) × IsTaken old between (taken.Job job) × AreTaken jobs between new
+
+-- so many of some findings were filed in one hold, the last of the list first, and the others refused
+abbrev pub AreFiled : List Finding → ℕ → Book → Book → Type 0
+AreFiled [] n old new = (n ≡ 0) × (new ≡ old)
+AreFiled (finding ∷ findings) n old new =
+    (m : ℕ) × (between : Book) × AreFiled findings m old between
+    × ((IsFiled finding between new × (n ≡ m + 1)) ⊎ ((new ≡ between) × (n ≡ m)))
+
+-- jobs were given back in one hold, the last of the list first, but for those whose claims don't stand
+abbrev pub AreGivenBack : List Job → Book → Book → Type 0
+AreGivenBack [] old new = new ≡ old
+AreGivenBack (job ∷ jobs) old new =
+    (between : Book) × AreGivenBack jobs old between × (IsGivenBack job between new
+    ⊎ ((¬ IsClaimOf between job.ticket (arc_value job.scenario) job.path.items (task_of_job job)) × (new ≡ between)))
+
+-- findings are those of jobs, the last job's first
+abbrev pub AreOfJobs : List Job → List Finding → Type 0
+AreOfJobs [] findings = findings ≡ []
+AreOfJobs (job ∷ jobs) findings = (others : List Finding) × (finding : Finding) × (findings ≡ others ++ finding ∷ []) × IsOfJob job finding
+    × AreOfJobs jobs others

@@ -7,6 +7,7 @@
 mod answers;
 mod finish;
 mod gate;
+mod hands;
 mod locked;
 mod promises;
 mod share;

@@ -2,6 +2,7 @@
 
 ghost use Rattle.lf_pool.specs.Holds.{IsAnsweredCount};
 
+use crate::hands::handful;
 use crate::share::Share;
 use lf_book::{Book, Deepened, Taken};
 use lf_work::{Finding, Job};
@@ -33,10 +34,13 @@ pub(crate) enum Begun {
 }
 
 impl<L: Ledger> Locked<L> {
-    ghost use Rattle.std.specs.Prelude.{◌≡◌, ◌+◌, IfOk, OnErr, MatchBool};
+    ghost use Rattle.std.specs.Prelude.{◌≡◌, ◌+◌, ◌≤◌, [], length, vec_capacity, Ok, IfOk, OnErr, MatchBool, MatchOption};
     ghost use Rattle.std.specs.Arc.{arc_value};
-    ghost use Rattle.lf_book.specs.Books.{scenario_of, IsFiled, IsGivenBack, IsClaimOf, task_of_job};
-    ghost use Rattle.lf_pool.specs.Holds.{IsBegun};
+    ghost use Rattle.lf_book.specs.Books.{scenario_of, IsFiled, IsGivenBack, IsTaken, IsClaimOf, task_of_job};
+    ghost use Rattle.lf_book.specs.declared.taking.Taken.TheVariants as taken;
+    ghost use Rattle.lf_pool.specs.Holds.{AreFiled, AreGivenBack, AreTaken, IsBegun, IsBusy};
+    ghost use Rattle.lf_pool.specs.declared.locked.Begun.TheVariants as begun;
+    ghost use Rattle.lf_pool.specs.declared.hands.TheConstants.{HANDFUL};
 
     /// How many sets are filed, as many as are answered.
     pub(crate) fn counted(&self) -> u64
@@ -48,6 +52,7 @@ impl<L: Ledger> Locked<L> {
     /// Takes a set, and where the level is done deepens the book. The error is that memory has run out, and changes nothing.
     pub(crate) fn begin(&mut self) -> Result<Begun, AllocError>
         ensures begun { IfOk result (IsBegun self.old.book self.new.book) }
+        ensures busy { result ≡ Ok begun.Busy → IsBusy self.new.book }
         ensures err { OnErr result (self.new.book ≡ self.old.book) }
         ensures scenario { scenario_of self.new.book ≡ scenario_of self.old.book }
         ensures total { self.new.total ≡ self.old.total }
@@ -92,5 +97,61 @@ impl<L: Ledger> Locked<L> {
     {
         let Locked { book, total: _ } = self;
         book.give_back(job).is_ok()
+    }
+
+    /// Takes a handful of sets where many are open, one after another, and none where few are. The list has room for them.
+    pub(crate) fn take_some(&mut self, jobs: &mut Vec<Job>)
+        requires none { jobs.old.items ≡ [] }
+        requires room { HANDFUL ≤ vec_capacity jobs.old }
+        ensures taken { AreTaken jobs.new.items self.old.book self.new.book }
+        ensures few { length jobs.new.items ≤ HANDFUL }
+        ensures scenario { scenario_of self.new.book ≡ scenario_of self.old.book }
+        ensures total { self.new.total ≡ self.old.total }
+    {
+        let count = handful(self.book.counts().ready);
+        'jobs: for _taken in 0..count {
+            let Some(job) = self.take_job() else {
+                break;
+            };
+            jobs.push_reserved(job);
+        }
+    }
+
+    /// Takes a set. None where there is none to take, and where memory has run out.
+    fn take_job(&mut self) -> Option<Job>
+        ensures taken { MatchOption result (self.new.book ≡ self.old.book)
+            (λ job. IsTaken self.old.book self.new.book (taken.Job job)) }
+        ensures scenario { scenario_of self.new.book ≡ scenario_of self.old.book }
+        ensures total { self.new.total ≡ self.old.total }
+    {
+        let Locked { book, total: _ } = self;
+        match book.take() {
+            Ok(Taken::Job(job)) => Some(job),
+            Ok(Taken::Busy | Taken::LevelDone | Taken::Finished | Taken::Spent) | Err(_) => None,
+        }
+    }
+
+    /// Files findings, the last one first, and tells how many the book didn't refuse. By so many the total and the worker's share are raised.
+    pub(crate) fn file_all(&mut self, share: &mut Share<L>, findings: &mut Vec<Finding>) -> u64
+        ensures filed { AreFiled findings.old.items result self.old.book self.new.book }
+        ensures share { share.new.filed ≡ share.old.filed + result }
+        ensures scenario { scenario_of self.new.book ≡ scenario_of self.old.book }
+    {
+        let before = share.filed;
+        'findings: while let Some(finding) = findings.pop() {
+            let _filed = self.file(share, finding);
+        }
+        share.filed - before
+    }
+
+    /// Gives jobs back, the last one first: their sets are open again.
+    pub(crate) fn give_back_all(&mut self, jobs: &mut Vec<Job>)
+        ensures given { AreGivenBack jobs.old.items self.old.book self.new.book }
+        ensures scenario { scenario_of self.new.book ≡ scenario_of self.old.book }
+        ensures total { self.new.total ≡ self.old.total }
+    {
+        'jobs: while let Some(job) = jobs.pop() {
+            let _given = self.give_back(job);
+        }
     }
 }

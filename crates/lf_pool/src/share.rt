@@ -3,6 +3,7 @@
 ghost use Rattle.std.specs.Prelude.{◌≡◌};
 
 use lf_work::Spent;
+use std::alloc::Global;
 use std::sync::ledger;
 use std::sync::ledger::Ledger;
 
@@ -12,13 +13,14 @@ pub struct Share<L: Ledger> {
     pub(crate) filed: u64,
     pub(crate) part: ledger::Share<L>,
     pub(crate) spent: Spent,
+    pub(crate) alloc: Global,
     ghost one_part: { part.parts ≡ 1 },
     ghost same: { part.amount ≡ filed },
 }
 
 impl<L: Ledger> Share<L> {
     /// A share of nothing filed yet.
-    pub(crate) fn new(part: ledger::Share<L>, spent: Spent) -> Share<L>
+    pub(crate) fn new(alloc: Global, part: ledger::Share<L>) -> Share<L>
         requires one_part { part.parts ≡ 1 }
         requires none { part.amount ≡ 0 }
         ensures { result.filed ≡ 0 }
@@ -26,7 +28,8 @@ impl<L: Ledger> Share<L> {
         Share {
             filed: 0,
             part,
-            spent,
+            spent: Spent::new(alloc),
+            alloc,
         }
     }
 

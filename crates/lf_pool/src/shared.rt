@@ -10,7 +10,6 @@ use crate::share::Share;
 use crate::solving::{PoolError, are_workers};
 use lf_book::Book;
 use lf_scenario::Scenario;
-use lf_work::Spent;
 use std::alloc::{AllocError, Global};
 use std::sync::ledger::{Blank, Ledger};
 use std::sync::{Arc, Condvar, Mutex, ledger};
@@ -111,8 +110,8 @@ fn cut<L: Ledger>(
     let mut whole = whole;
     let mut shares = Vec::with_capacity(alloc, workers as usize + 1)?;
     'workers: for _worker in 0..workers {
-        shares.push(Share::new(whole.split_off(1, 0), Spent::new(alloc)))?;
+        shares.push(Share::new(alloc, whole.split_off(1, 0)))?;
     }
-    shares.push(Share::new(whole, Spent::new(alloc)))?;
+    shares.push(Share::new(alloc, whole))?;
     Ok(shares)
 }

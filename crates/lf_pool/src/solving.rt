@@ -184,7 +184,7 @@ fn work_all<L: Ledger + Send + Sync, R: Threads + Wait + Clock + Sync, G: Gate>(
     );
 }
 
-/// A worker's turns, until there is no more to do or no memory for it.
+/// A worker's turns, several at once where many sets are open, until there is no more to do or no memory for it.
 fn work<L: Ledger, R: Wait + Clock, G: Gate>(
     rt: &R,
     shared: &SharedBook<L>,
@@ -192,6 +192,12 @@ fn work<L: Ledger, R: Wait + Clock, G: Gate>(
     gate: &G,
 ) {
     for _ in rt.forever() {
+        let Ok(filed) = shared.work_some(rt, share, gate) else {
+            break;
+        };
+        if filed > 0 {
+            continue;
+        }
         let Ok(turn) = shared.work_one(rt, share, gate) else {
             break;
         };

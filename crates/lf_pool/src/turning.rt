@@ -1,18 +1,21 @@
 //! The turns of a worker.
 
-ghost use Rattle.std.specs.Prelude.{◌≡◌, ◌≢◌, ◌+◌, Ok};
+ghost use Rattle.std.specs.Prelude.{◌≡◌, ◌≢◌, ◌+◌, ◌≤◌, ◌++◌, List, [], Ok, IfOk, OnOk, OnErr, length, vec_capacity};
+ghost use Rattle.lf_pool.specs.Holds.{AreOfJobs, IsBusy};
+ghost use Rattle.std.specs.Sync.Mutex.{mutex_guard_value};
 ghost use Rattle.lf_pool.specs.declared.turning.Turn.TheVariants as turn;
 
 use crate::gate::Gate;
-use crate::locked::Begun;
+use crate::hands::HANDFUL;
+use crate::locked::{Begun, Locked};
 use crate::share::Share;
 use crate::shared::SharedBook;
 use lf_book::Deepened;
-use lf_work::{Finding, Job};
+use lf_work::{Finding, Job, Spent};
 use std::alloc::AllocError;
 use std::rt::Clock;
-use std::sync::Wait;
 use std::sync::ledger::Ledger;
+use std::sync::{MutexGuard, Wait};
 
 /// What a turn did.
 #[derive(Clone, Copy, Debug, PartialEq, Eq)]
@@ -53,7 +56,7 @@ impl<L: Ledger> SharedBook<L> {
         let job = match guard.begin()? {
             Begun::Job(job) => job,
             Begun::Busy => {
-                let _woken = self.changed.wait(rt, guard);
+                self.wait_once(rt, guard);
                 return Ok(Turn::Waited);
             }
             Begun::Deepened(deepened) => {
@@ -74,6 +77,55 @@ impl<L: Ledger> SharedBook<L> {
         }
     }
 
+    /// Several turns of a worker at once, where many sets are open: it takes a handful of them, works each by the gate outside the lock, and
+    /// files what it found, so much as is answered. Where few sets are open it does nothing, and answers 0. The error is that memory has
+    /// run out: what was found before is filed, and the other sets were given back. The share is raised by one for each that was filed.
+    pub(crate) fn work_some<R: Wait + Clock, G: Gate>(
+        &self,
+        rt: &R,
+        share: &mut Share<L>,
+        gate: &G,
+    ) -> Result<u64, AllocError>
+        ensures filed { IfOk result (λ filed. share.new.filed ≡ share.old.filed + filed) }
+        ensures err { OnErr result (share.old.filed ≤ share.new.filed) }
+    {
+        let mut jobs = Vec::with_capacity(share.alloc, HANDFUL)?;
+        let mut findings = Vec::with_capacity(share.alloc, HANDFUL)?;
+        self.lock.lock(rt).take_some(&mut jobs);
+        if jobs.is_empty() {
+            return Ok(0);
+        }
+        let worked = work_each(rt, gate, &mut share.spent, &mut jobs, &mut findings);
+        let filed = self.end_some(rt, share, &mut jobs, &mut findings);
+        worked?;
+        Ok(filed)
+    }
+
+    /// Files what was found, gives the other jobs back, and wakes all that wait. It answers how much was filed.
+    fn end_some<R: Wait>(
+        &self,
+        rt: &R,
+        share: &mut Share<L>,
+        jobs: &mut Vec<Job>,
+        findings: &mut Vec<Finding>,
+    ) -> u64
+        ensures { share.new.filed ≡ share.old.filed + result }
+    {
+        let mut guard = self.lock.lock(rt);
+        let filed = guard.file_all(share, findings);
+        guard.give_back_all(jobs);
+        drop(guard);
+        self.changed.notify_all();
+        filed
+    }
+
+    /// Waits once for a change, where no set is open and some are worked by others.
+    fn wait_once<R: Wait>(&self, rt: &R, guard: MutexGuard<'_, Locked<L>>)
+        requires { IsBusy (mutex_guard_value guard).book }
+    {
+        let _woken = self.changed.wait(rt, guard);
+    }
+
     /// Files what was found, and wakes all that wait.
     fn file<R: Wait>(&self, rt: &R, share: &mut Share<L>, finding: Finding) -> Turn
         ensures filed { result ≡ turn.Filed → share.new.filed ≡ share.old.filed + 1 }
@@ -89,6 +141,32 @@ impl<L: Ledger> SharedBook<L> {
         let _given = self.lock.lock(rt).give_back(job);
         self.changed.notify_all();
     }
+}
+
+/// Works jobs by the gate, the last one first, and puts what is found at the end of an empty list with room for it. The error is that memory
+/// has run out: the jobs that are left weren't worked.
+fn work_each<R: Clock, G: Gate>(
+    rt: &R,
+    gate: &G,
+    spent: &mut Spent,
+    jobs: &mut Vec<Job>,
+    findings: &mut Vec<Finding>,
+) -> Result<(), AllocError>
+    requires none { findings.old.items ≡ [] }
+    requires room { length jobs.old.items ≤ vec_capacity findings.old }
+    ensures worked { (done : List Job) × (jobs.old.items ≡ jobs.new.items ++ done) × AreOfJobs done findings.new.items }
+    ensures all { OnOk result (jobs.new.items ≡ []) }
+{
+    'jobs: while let Some(job) = jobs.pop() {
+        match gate.run(rt, &job, spent) {
+            Ok(finding) => findings.push_reserved(finding),
+            Err(error) => {
+                jobs.push_reserved(job);
+                return Err(error);
+            }
+        }
+    }
+    Ok(())
 }
 
 /// The turn that deepened a book.

@@ -50,6 +50,7 @@ const FOUND: &str = concat!(
     r#""reach":[5,5,6]},{"edges":[],"kids":[],"reach":[5,5,6]}],"reach":[5,5,6]}} of;omit 0>1 @1,omit 0>1 @2"#,
     "\n3 6 0 2 2|protocol = \"primary_backup\";patience = 3;outcome = \"durable\"|crash 1 @4,crash 0 @5|\n",
     "3 6 0 0 1|protocol = \"primary_backup\";patience = 3;outcome = \"one_primary\";pauses = 1;pause_length = 2|pause 0 @1|\n",
+    "4 6 3 0 2|protocol = \"redundant\";tries = 6;outcome = \"delivered\"|none|370|\n",
     "3 4 3 0 3|protocol = \"retry\";tries = 3;outcome = \"delivered\";max_sets = 5|full 1 6 offull 1 6\n",
     "3 4 3 0 3|protocol = \"retry\";tries = 3;outcome = \"delivered\";max_sets = 14|full 2 15 offull 2 15\n",
     "3 4 3 0 3|protocol = \"retry\";tries = 3;outcome = \"delivered\";max_sets = 15|full 3 20 offull 3 20\n",

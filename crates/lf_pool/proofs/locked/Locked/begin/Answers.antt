@@ -1,7 +1,7 @@
 use Rattle.std.proofs.Common.{rules}
 use Rattle.lf_book.specs.Books.{state_of}
 use Rattle.lf_search.specs.Events.{FindsLevelDone}
-use Rattle.lf_pool.proofs.HoldLemmas.{take-counted, deepened-counted}
+use Rattle.lf_pool.proofs.HoldLemmas.{take-counted, deepened-counted, still-busy}
 use Rattle.lf_pool.proofs.locked.Locked.begin.Goals as goal
 
 pub invariant_of-self : goal.invariant_of-self
@@ -39,3 +39,7 @@ pub returns-in-LevelDone-clause-begun : goal.returns-in-LevelDone-clause-begun
 returns-in-LevelDone-clause-begun g c =
     let done : FindsLevelDone (state_of c.args.self.now.book) (state_of c.take.new.self) = search rules in
     (c.take.new.self, done, c.deepen.ensures.deepened)
+
+pub returns-in-Busy-clause-busy : goal.returns-in-Busy-clause-busy
+returns-in-Busy-clause-busy g c = λ same.
+    still-busy c.args.self.now.book c.take.new.self c.in_ok-job.field-0 c.in-Busy.is c.in_ok-job.ensures.taken c.in_ok-job.ensures.unchanged

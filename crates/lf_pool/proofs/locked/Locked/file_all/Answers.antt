@@ -1,0 +1,18 @@
+use Rattle.std.proofs.Common.{◌≡◌, ◌∷◌, ◌∙◌}
+use Rattle.lf_pool.proofs.HoldLemmas.{filed-more, one-off}
+use Rattle.lf_pool.proofs.locked.Locked.file_all.Goals as goal
+
+pub findings-preserved : goal.findings-preserved
+findings-preserved g c =
+    let so = c.findings.invariant in
+    let f = c.in-Some.finding in
+    let next = filed-more c.file-filed.result f so.done so.count c.args.share.now.filed c.findings.share.filed c.file-filed.new.share.filed
+    c.args.self.now.book c.findings.self.book c.file-filed.new.self.book so.filed c.file-filed.ensures.filed so.share in
+    record {
+      done = f ∷ so.done;
+      count = next.0;
+      rest = one-off c.args.findings.now.items c.findings.findings.items c.pop.new.self.items so.done f so.rest c.in-Some.ensures.items;
+      filed = next.1;
+      share = next.2;
+      scenario = c.file-filed.ensures.scenario ∙ so.scenario;
+    }

@@ -1,0 +1,18 @@
+use Rattle.std.specs.Prelude.{◌≡◌, ℕ, ◌+◌, ◌++◌, List}
+use Rattle.lf_book.specs.Books.{scenario_of}
+use Rattle.lf_work.specs.declared.finding.Finding.{Finding}
+use Rattle.lf_pool.specs.Holds.{AreFiled}
+use Rattle.lf_pool.proofs.locked.Locked.file_all.Given as goal
+
+abbrev pub invariant-findings : goal.invariant-findings
+invariant-findings g l = record {
+  done : List Finding;
+  count : ℕ;
+  rest : l.initial.findings.items ≡ l.findings.items ++ done;
+  filed : AreFiled done count l.initial.self.book l.self.book;
+  share : l.share.filed ≡ l.initial.share.filed + count;
+  scenario : scenario_of l.self.book ≡ scenario_of l.initial.self.book;
+}
+
+abbrev pub decreases-findings : goal.decreases-findings
+decreases-findings g l = goal.left-findings g l

@@ -1,0 +1,17 @@
+use Rattle.std.specs.Prelude.{◌≡◌, ◌++◌, List}
+use Rattle.lf_book.specs.Books.{scenario_of}
+use Rattle.lf_work.specs.declared.job.Job.{Job}
+use Rattle.lf_pool.specs.Holds.{AreGivenBack}
+use Rattle.lf_pool.proofs.locked.Locked.give_back_all.Given as goal
+
+abbrev pub invariant-jobs : goal.invariant-jobs
+invariant-jobs g l = record {
+  done : List Job;
+  rest : l.initial.jobs.items ≡ l.jobs.items ++ done;
+  given : AreGivenBack done l.initial.self.book l.self.book;
+  scenario : scenario_of l.self.book ≡ scenario_of l.initial.self.book;
+  total : l.self.total ≡ l.initial.self.total;
+}
+
+abbrev pub decreases-jobs : goal.decreases-jobs
+decreases-jobs g l = goal.left-jobs g l

@@ -1,0 +1,15 @@
+use Rattle.std.specs.Prelude.{◌≡◌, ℕ, ◌+◌, ◌≤◌, ◌++◌, List, length, vec_capacity}
+use Rattle.lf_work.specs.declared.job.Job.{Job}
+use Rattle.lf_pool.specs.Holds.{AreOfJobs}
+use Rattle.lf_pool.proofs.turning.work_each.Given as goal
+
+abbrev pub invariant-jobs : goal.invariant-jobs
+invariant-jobs g l = record {
+  done : List Job;
+  rest : l.initial.jobs.items ≡ l.jobs.items ++ done;
+  worked : AreOfJobs done l.findings.items;
+  room : length l.jobs.items + length l.findings.items ≤ vec_capacity l.findings;
+}
+
+abbrev pub decreases-jobs : goal.decreases-jobs
+decreases-jobs g l = length l.jobs.items
