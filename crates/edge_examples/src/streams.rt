@@ -1,7 +1,7 @@
 //! Sources and sinks that give and take in pieces, fail at a call, or never end.
 
-use crate::testing::{Chunks, Endless, FailsAfter};
-use crate::{Failed, FromRead, ReadFault, Sink, Source, ToWrite, read_up_to, write_all};
+use lf_streams::testing::{Chunks, Endless, FailsAfter};
+use lf_streams::{Failed, FromRead, ReadFault, Sink, Source, ToWrite, read_up_to, write_all};
 use std::io::{self, ErrorKind, Read};
 use std::test::Fail;
 
