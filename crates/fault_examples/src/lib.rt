@@ -1,8 +1,16 @@
-//! Worked examples of fault sets and of latencies: the order of the allowed sets beside a plain enumeration, the words of the published
-//! stream, and arrivals.
+//! Worked examples of fault sets and of latencies: the texts of faults, the order of the allowed sets beside a plain enumeration, the
+//! words of the published stream, and arrivals. Besides, lists that a type holds of itself, and a small automaton in layers, searched
+//! beside all its walks.
 #![tactic(auto)]
 
 #[cfg(test)]
 mod latencies;
 #[cfg(test)]
+mod lists;
+pub mod mazes;
+#[cfg(test)]
 mod order;
+#[cfg(test)]
+mod texts;
+#[cfg(test)]
+mod walks;

@@ -18,6 +18,3 @@ pub use reader::FromRead;
 pub use reading::read_up_to;
 pub use writer::ToWrite;
 pub use writing::write_all;
-
-#[cfg(test)]
-mod tests;

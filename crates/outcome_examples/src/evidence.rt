@@ -46,20 +46,14 @@ fn rests_on(
 ) -> Result<(), Fail>
     requires { IsRun (world_of setting.now) run.now }
 {
-    match evidence(alloc, setting, formula, run)? {
-        Some(found) => {
-            let text = listed(alloc, found.as_slice())?;
-            agrees(rt, text.as_str(), Some(points), points)?;
-            let reach = covering(found.as_slice()).ok_or("a reach")?;
-            let within = holds_within(setting, formula, run, &reach);
-            agrees(rt, within, Some(true), points)?;
-            agrees(rt, holds(setting, formula, run), Some(true), points)
-        }
-        None => {
-            agrees(rt, "none", Some(points), points)?;
-            agrees(rt, holds(setting, formula, run), Some(false), points)
-        }
-    }
+    let reaches = holds(setting, formula, run);
+    let Some(found) = evidence(alloc, setting, formula, run)? else {
+        return agrees(rt, points == "none" && !reaches, Some(true), points);
+    };
+    let reach = covering(found.as_slice()).ok_or("a reach")?;
+    let suffices = reaches && holds_within(setting, formula, run, &reach);
+    let text = listed(alloc, found.as_slice())?;
+    agrees(rt, suffices && text.as_str() == points, Some(true), points)
 }
 
 /// Formulas, and the points on which they rest.
@@ -76,15 +70,19 @@ const EVIDENCE: &str = concat!(
     "shows 0 1 has,shows 1 1 has,all 2|none\n",
 );
 
-#[test]
-fn evidence_has_the_points_of_the_first_true_parts(rt: HostRuntime) -> Result<(), Fail> {
-    let alloc = rt.alloc();
-    let (protocol, numbers) = THREE_NODES;
-    let setting = setting(alloc, protocol, numbers)?;
-    let run = run(alloc, &setting, &FaultSet::empty())?;
+/// Each formula rests on its points.
+fn rest_on_points(
+    rt: &impl Abort,
+    alloc: Global,
+    setting: &Setting<Protocol>,
+    run: &Run<Protocol>,
+) -> Result<(), Fail>
+    requires { IsRun (world_of setting.now) run.now }
+{
     for row in EVIDENCE.lines() {
         let (text, points) = columns(row);
-        rests_on(&rt, alloc, &setting, &run, &formula(alloc, text)?, points)?;
+        let formula = formula(alloc, text)?;
+        rests_on(rt, alloc, setting, run, &formula, points)?;
     }
     Ok(())
 }
@@ -96,20 +94,40 @@ const WITHIN: &str = concat!(
     "0 4 0|shows 1 3 has|true\n0 4 0|down 1 5|true\n",
 );
 
+/// The formula of the row is true within the reach or not, as it says.
+fn is_true_within(
+    rt: &impl Abort,
+    alloc: Global,
+    setting: &Setting<Protocol>,
+    run: &Run<Protocol>,
+    row: &str,
+) -> Result<(), Fail>
+    requires { IsRun (world_of setting.now) run.now }
+{
+    let (steps, rest) = columns(row);
+    let (text, truth) = columns(rest);
+    let truth = first_of(truth, "true", "false");
+    let reach = reach(alloc, steps)?.ok_or("a reach")?;
+    let formula = formula(alloc, text)?;
+    let within = holds_within(setting, &formula, run, &reach);
+    agrees(rt, within, truth, row)
+}
+
+#[test]
+fn evidence_has_the_points_of_the_first_true_parts(rt: HostRuntime) -> Result<(), Fail> {
+    let (protocol, numbers) = THREE_NODES;
+    let setting = setting(rt.alloc(), protocol, numbers)?;
+    let run = run(rt.alloc(), &setting, &FaultSet::empty())?;
+    rest_on_points(&rt, rt.alloc(), &setting, &run)
+}
+
 #[test]
 fn a_fact_past_the_reach_counts_as_not_shown(rt: HostRuntime) -> Result<(), Fail> {
-    let alloc = rt.alloc();
     let (protocol, numbers) = THREE_NODES;
-    let setting = setting(alloc, protocol, numbers)?;
-    let run = run(alloc, &setting, &FaultSet::empty())?;
+    let setting = setting(rt.alloc(), protocol, numbers)?;
+    let run = run(rt.alloc(), &setting, &FaultSet::empty())?;
     for row in WITHIN.lines() {
-        let (steps, rest) = columns(row);
-        let (text, truth) = columns(rest);
-        let reach = reach(alloc, steps)?.ok_or("a reach")?;
-        let formula = formula(alloc, text)?;
-        let truth = first_of(truth, "true", "false");
-        let within = holds_within(&setting, &formula, &run, &reach);
-        agrees(&rt, within, truth, row)?;
+        is_true_within(&rt, rt.alloc(), &setting, &run, row)?;
     }
     Ok(())
 }

@@ -56,22 +56,36 @@ fn last(
     Ok(Listed::from_vec(parts))
 }
 
+/// The formula of an item, whose parts are the last of the formulas.
+fn item_formula(
+    alloc: Global,
+    formulas: &mut Vec<Formula<Fact>>,
+    item: &str,
+) -> Result<Formula<Fact>, Fail> {
+    let (name, rest) = words(item);
+    if name != "all" && name != "any" {
+        let atom = atom(item).ok_or("an atom")?;
+        return Ok(atom);
+    }
+    let count = number(rest).ok_or("a number")?;
+    let parts = last(alloc, formulas, count)?;
+    Ok(if name == "all" {
+        Formula::All(parts)
+    } else {
+        Formula::Any(parts)
+    })
+}
+
 /// The formula of a list, in which the parts of each `all` and `any` stand before it.
 pub(crate) fn formula(alloc: Global, text: &str) -> Result<Formula<Fact>, Fail> {
     let mut formulas = Vec::new(alloc);
     for item in text.split(',') {
-        let (name, rest) = words(item);
-        let found = match name {
-            "all" => Formula::All(last(alloc, &mut formulas, number(rest).ok_or("a number")?)?),
-            "any" => Formula::Any(last(alloc, &mut formulas, number(rest).ok_or("a number")?)?),
-            _ => atom(item).ok_or("an atom")?,
-        };
+        let found = item_formula(alloc, &mut formulas, item)?;
         formulas.push(found)?;
     }
-    let whole = formulas.pop().ok_or("a formula")?;
-    if formulas.is_empty() {
-        Ok(whole)
-    } else {
-        Err("one formula")?
+    let is_one = formulas.len() == 1;
+    match formulas.pop() {
+        Some(whole) if is_one => Ok(whole),
+        _ => Err("one formula")?,
     }
 }

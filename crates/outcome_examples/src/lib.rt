@@ -1,4 +1,5 @@
-//! Worked examples of outcomes: runs told line by line, and formulas with their truth, size and evidence.
+//! Worked examples of outcomes: runs told line by line, and formulas with their truth, size and evidence. Besides, traces of runs, and
+//! names of sets.
 //!
 //! A table of examples is one text, a line for each, in which `|` parts the columns, `,` the items of a list, and blanks the
 //! words. A formula stands behind its parts: `all 2` is of the two formulas before it.
@@ -20,5 +21,7 @@ mod sizes;
 mod texts;
 #[cfg(test)]
 mod traces;
+#[cfg(test)]
+mod tracing;
 #[cfg(test)]
 mod words;

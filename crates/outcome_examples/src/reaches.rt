@@ -6,15 +6,13 @@ use std::alloc::Global;
 use std::process::Abort;
 use std::test::Fail;
 
-/// The reach gives these numbers back.
-fn has_steps(rt: &impl Abort, reach: &Reach, steps: &[u32], row: &str) -> Result<(), Fail> {
-    agrees(rt, reach.len(), Some(steps.len()), row)?;
-    agrees(rt, reach.items().len(), Some(steps.len()), row)?;
+/// Whether the reach gives these numbers back.
+fn has_steps(reach: &Reach, steps: &[u32]) -> bool {
+    let mut same = reach.len() == steps.len() && reach.items().len() == steps.len();
     for (node, step) in (0..8).zip(steps) {
-        agrees(rt, reach.at(node), Some(*step), row)?;
+        same = same && reach.at(node) == *step;
     }
-    agrees(rt, reach.at(steps.len().min(8) as u32), Some(0), row)?;
-    agrees(rt, reach.at(4294967295), Some(0), row)
+    same && reach.at(steps.len().min(8) as u32) == 0 && reach.at(4294967295) == 0
 }
 
 /// For each line of the table numbers that are a reach.
@@ -22,7 +20,7 @@ fn are_reaches(rt: &impl Abort, alloc: Global, table: &str) -> Result<(), Fail> 
     for row in table.lines() {
         let steps = numbers(alloc, row)?;
         let reach = Reach::new(steps.as_slice()).ok_or("a reach")?;
-        has_steps(rt, &reach, steps.as_slice(), row)?;
+        agrees(rt, has_steps(&reach, steps.as_slice()), Some(true), row)?;
     }
     Ok(())
 }

@@ -1,12 +1,28 @@
 //! Runs, against traces that were made independently, and whether they reach the outcome.
 
+ghost use Rattle.lf_sim.specs.Settings.{IsRun, world_of};
+
 use crate::texts::{agrees, columns, first_of, outcome, set, setting};
 use crate::traces::told;
-use lf_outcome::{holds, named};
-use lf_sim::run;
-use std::alloc::Global;
+use lf_outcome::{Outcome, holds, named};
+use lf_protocols::Protocol;
+use lf_sim::{Run, Setting, run};
+use std::alloc::{AllocError, Global};
 use std::process::Abort;
 use std::test::Fail;
+
+/// Whether a run reaches an outcome.
+fn reaches(
+    alloc: Global,
+    setting: &Setting<Protocol>,
+    run: &Run<Protocol>,
+    outcome: Outcome,
+) -> Result<bool, AllocError>
+    requires { IsRun (world_of setting.now) run.now }
+{
+    let formula = named(alloc, outcome, run.nodes(), run.horizon())?;
+    Ok(holds(setting, &formula, run))
+}
 
 /// The run of a row is told and judged as it says.
 fn is_run(rt: &impl Abort, alloc: Global, row: &str) -> Result<(), Fail> {
@@ -15,14 +31,15 @@ fn is_run(rt: &impl Abort, alloc: Global, row: &str) -> Result<(), Fail> {
     let (word, rest) = columns(rest);
     let (faults, rest) = columns(rest);
     let (truth, lines) = columns(rest);
-    let setting = setting(alloc, protocol, numbers)?;
-    let run = run(alloc, &setting, &set(faults).ok_or("a set")?)?;
-    let found = told(alloc, &setting, &run)?;
-    agrees(rt, found.as_str(), Some(lines), row)?;
-    let outcome = outcome(word).ok_or("an outcome")?;
-    let formula = named(alloc, outcome, run.nodes(), run.horizon())?;
     let truth = first_of(truth, "reaches", "misses");
-    agrees(rt, holds(&setting, &formula, &run), truth, row)
+    let outcome = outcome(word).ok_or("an outcome")?;
+    let faults = set(faults).ok_or("a set")?;
+    let setting = setting(alloc, protocol, numbers)?;
+    let run = run(alloc, &setting, &faults)?;
+    let reaches = reaches(alloc, &setting, &run, outcome)?;
+    let found = told(alloc, &setting, &run)?;
+    let same = truth == Some(reaches) && found.as_str() == lines;
+    agrees(rt, same, Some(true), row)
 }
 
 /// For each line of the table a protocol and the numbers of its setting, an outcome, a set of faults, whether its run reaches

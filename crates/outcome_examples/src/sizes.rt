@@ -1,5 +1,7 @@
 //! The formulas of the named outcomes, and small formulas with their truth.
 
+ghost use Rattle.lf_sim.specs.Settings.{IsRun, world_of};
+
 use crate::formulas::formula;
 use crate::texts::{agrees, columns, first_of, number, outcome, setting, words};
 use lf_faults::FaultSet;
@@ -7,8 +9,8 @@ use lf_outcome::{
     Formula, agreement_by_nodes, atoms, delivered_by_nodes, depth, durable_by_nodes, holds, named,
     one_primary_by_nodes, same, unblocked_by_nodes,
 };
-use lf_protocols::{Fact, Note, State};
-use lf_sim::run;
+use lf_protocols::{Fact, Note, Protocol, State};
+use lf_sim::{Run, Setting, run};
 use std::alloc::Global;
 use std::process::Abort;
 use std::test::Fail;
@@ -23,10 +25,34 @@ fn named_by(alloc: Global, text: &str) -> Result<Formula<Fact>, Fail> {
     Ok(named(alloc, outcome, nodes, horizon)?)
 }
 
-/// The formula has this depth and so many atoms.
-fn has_sizes(rt: &impl Abort, formula: &Formula<Fact>, deep: &str, many: &str) -> Result<(), Fail> {
-    agrees(rt, depth(formula), number(deep), deep)?;
-    agrees(rt, atoms(formula), number(many), many)
+/// Whether the formula has this depth and so many atoms.
+fn has_sizes(formula: &Formula<Fact>, deep: &str, many: &str) -> bool {
+    number(deep) == Some(depth(formula)) && number(many) == Some(atoms(formula))
+}
+
+/// The outcome has the formula of the text, which is so deep and has so many atoms.
+fn is_formula(
+    rt: &impl Abort,
+    alloc: Global,
+    head: &str,
+    deep: &str,
+    many: &str,
+    text: &str,
+) -> Result<(), Fail> {
+    let found = named_by(alloc, head)?;
+    let by_hand = formula(alloc, text)?;
+    let same = same(&found, &by_hand) && has_sizes(&found, deep, many);
+    agrees(rt, same, Some(true), head)
+}
+
+/// The outcomes of the list have other formulas than the one of the text.
+fn differ(rt: &impl Abort, alloc: Global, others: &str, text: &str) -> Result<(), Fail> {
+    let by_hand = formula(alloc, text)?;
+    for item in others.split(',') {
+        let other = named_by(alloc, item)?;
+        agrees(rt, same(&by_hand, &other), Some(false), item)?;
+    }
+    Ok(())
 }
 
 /// For each line of the table an outcome, how deep its formula is, how many atoms it has, outcomes that have another
@@ -36,26 +62,9 @@ fn are_formulas(rt: &impl Abort, alloc: Global, table: &str) -> Result<(), Fail>
         let (head, rest) = columns(row);
         let (deep, rest) = columns(rest);
         let (many, rest) = columns(rest);
-        let (others, by_hand) = columns(rest);
-        let found = named_by(alloc, head)?;
-        let by_hand = formula(alloc, by_hand)?;
-        agrees(rt, same(&found, &by_hand), Some(true), head)?;
-        has_sizes(rt, &found, deep, many)?;
-        differs(rt, alloc, &by_hand, others)?;
-    }
-    Ok(())
-}
-
-/// The outcomes of the list have other formulas.
-fn differs(
-    rt: &impl Abort,
-    alloc: Global,
-    formula: &Formula<Fact>,
-    others: &str,
-) -> Result<(), Fail> {
-    for item in others.split(',') {
-        let other = named_by(alloc, item)?;
-        agrees(rt, same(formula, &other), Some(false), item)?;
+        let (others, text) = columns(rest);
+        is_formula(rt, alloc, head, deep, many, text)?;
+        differ(rt, alloc, others, text)?;
     }
     Ok(())
 }
@@ -93,19 +102,32 @@ fn outcomes_of_replicas_are_formulas(rt: HostRuntime) -> Result<(), Fail> {
     are_formulas(&rt, rt.alloc(), OF_REPLICAS)
 }
 
+/// The formula of the row is true in the run or not, and is so deep and has so many atoms, as it says.
+fn is_judged(
+    rt: &impl Abort,
+    alloc: Global,
+    setting: &Setting<Protocol>,
+    run: &Run<Protocol>,
+    row: &str,
+) -> Result<(), Fail>
+    requires { IsRun (world_of setting.now) run.now }
+{
+    let (text, rest) = columns(row);
+    let (truth, rest) = columns(rest);
+    let (deep, many) = columns(rest);
+    let formula = formula(alloc, text)?;
+    let truth = first_of(truth, "true", "false");
+    let same = truth == Some(holds(setting, &formula, run)) && has_sizes(&formula, deep, many);
+    agrees(rt, same, Some(true), row)
+}
+
 /// For each line of the table a formula, whether it is true in a run of retry without faults, how deep it is, and how many
 /// atoms it has.
 fn are_judged(rt: &impl Abort, alloc: Global, table: &str) -> Result<(), Fail> {
     let setting = setting(alloc, "retry 2 1", "3 0 0 1 0 1 0 0")?;
     let run = run(alloc, &setting, &FaultSet::empty())?;
     for row in table.lines() {
-        let (text, rest) = columns(row);
-        let (truth, rest) = columns(rest);
-        let (deep, many) = columns(rest);
-        let formula = formula(alloc, text)?;
-        let truth = first_of(truth, "true", "false");
-        agrees(rt, holds(&setting, &formula, &run), truth, row)?;
-        has_sizes(rt, &formula, deep, many)?;
+        is_judged(rt, alloc, &setting, &run, row)?;
     }
     Ok(())
 }

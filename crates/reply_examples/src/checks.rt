@@ -67,9 +67,13 @@ fn texts_that_are_no_trees(rt: HostRuntime) -> Result<(), Fail> {
 
 /// Two beats are lost in a certificate of three levels; and the same with a root whose reach leaves out what it should hold.
 const TWO_LEVELS: &str = concat!(
-    r#"{"answer":["omit 0>1 @1","omit 0>1 @2"],"format":1,"root":{"edges":["omit 0>1 @1","omit 2>0 @1","omit 0>1 @2"],"kids":[{"edges":["omit 2>0 @1","omit 0>1 @2"],"kids":[{"misses":false},{"misses":true}],"reach":[5,5,6]},{"edges":["omit 0>1 @2"],"kids":[{"misses":false}],"reach":[5,5,6]},{"edges":[],"kids":[],"reach":[5,5,6]}],"reach":[5,5,6]}}|0|yes"#,
+    r#"{"answer":["omit 0>1 @1","omit 0>1 @2"],"format":1,"root":{"edges":["omit 0>1 @1","omit 2>0 @1","omit 0>1 @2"],"#,
+    r#""kids":[{"edges":["omit 2>0 @1","omit 0>1 @2"],"kids":[{"misses":false},{"misses":true}],"reach":[5,5,6]}"#,
+    r#",{"edges":["omit 0>1 @2"],"kids":[{"misses":false}],"reach":[5,5,6]},{"edges":[],"kids":[],"reach":[5,5,6]}],"reach":[5,5,6]}}|0|yes"#,
     "\n",
-    r#"{"answer":["omit 0>1 @1","omit 0>1 @2"],"format":1,"root":{"edges":["omit 0>1 @1","omit 2>0 @1","omit 0>1 @2"],"kids":[{"edges":["omit 2>0 @1","omit 0>1 @2"],"kids":[{"misses":false},{"misses":true}],"reach":[5,5,6]},{"edges":["omit 0>1 @2"],"kids":[{"misses":false}],"reach":[5,5,6]},{"edges":[],"kids":[],"reach":[5,5,6]}],"reach":[4,3,6]}}|1|no 5 -"#,
+    r#"{"answer":["omit 0>1 @1","omit 0>1 @2"],"format":1,"root":{"edges":["omit 0>1 @1","omit 2>0 @1","omit 0>1 @2"],"#,
+    r#""kids":[{"edges":["omit 2>0 @1","omit 0>1 @2"],"kids":[{"misses":false},{"misses":true}],"reach":[5,5,6]}"#,
+    r#",{"edges":["omit 0>1 @2"],"kids":[{"misses":false}],"reach":[5,5,6]},{"edges":[],"kids":[],"reach":[5,5,6]}],"reach":[4,3,6]}}|1|no 5 -"#,
     "\n",
 );
 

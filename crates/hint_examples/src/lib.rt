@@ -1,5 +1,0 @@
-//! Worked examples of hints.
-#![tactic(auto)]
-
-#[cfg(test)]
-mod hints;

@@ -1,5 +1,0 @@
-//! Worked examples of traces, and of names of sets.
-#![tactic(auto)]
-
-#[cfg(test)]
-mod traces;
