@@ -1,7 +1,7 @@
 //! Searches of scenarios that promise delivery, and of texts that are refused.
 
 use crate::texts::{ONCE, columns, is_tree_text, push_lines, scenario, search_replies, searches};
-use leastfault::{plain_answer, report};
+use leastfault::{merged_answer, plain_answer, report};
 use lf_scenario::{LONGEST, read};
 use std::alloc::{AllocError, Global};
 use std::process::Abort;
@@ -259,9 +259,11 @@ fn is_reported(
     budget: u32,
     expected: &str,
 ) -> Result<(), Fail> {
-    let answer = plain_answer(alloc, &read(alloc, text.as_bytes())?)?;
+    let asked = read(alloc, text.as_bytes())?;
+    let answer = plain_answer(alloc, &asked)?;
     let found = report(alloc, budget, &answer)?;
     assert_eq!(rt; found.as_str(), expected);
+    assert!(rt; merged_answer(alloc, &asked)? == answer, "merged");
     Ok(())
 }
 

@@ -1,8 +1,8 @@
 //! The texts of examples, and how the replies to them are compared.
 
 use leastfault::{
-    all_bytes, all_report, check_bytes, check_bytes_rows, plain_all, plain_answer, run_bytes,
-    search_bytes,
+    all_bytes, all_report, answer_bytes, check_bytes, check_bytes_rows, plain_all, plain_answer,
+    run_bytes, search_bytes,
 };
 use lf_scenario::read;
 use lf_streams::{FromRead, ToWrite};
@@ -126,7 +126,25 @@ fn plain_row(alloc: Global, status: &str, text: &[u8]) -> Result<String, Fail> {
     Ok(row)
 }
 
-/// The search of the text has this status and this reply, and a certificate where there is an answer. One that reports all least sets
+/// What tells the answer alone has this status and this reply, but where a level of the search is too full.
+fn answer_replies(
+    rt: &impl Abort,
+    alloc: Global,
+    text: &[u8],
+    row: &str,
+    name: &str,
+) -> Result<(), Fail> {
+    if row.starts_with("2|full ") {
+        return Ok(());
+    }
+    let mut out = Vec::new(alloc);
+    let mut source = FromRead::new(text);
+    let status = answer_bytes(alloc, &mut source, &mut ToWrite::new(&mut out))?;
+    is_reply(rt, alloc, out.as_slice(), status, row, name)
+}
+
+/// The search of the text has this status and this reply, and a certificate where there is an answer. What tells the answer alone replies the
+/// same. One that reports all least sets
 /// replies the same without an answer, and else with what the plain search finds.
 pub(crate) fn search_replies(
     rt: &impl Abort,
@@ -140,6 +158,7 @@ pub(crate) fn search_replies(
     let searched = search_bytes(alloc, &mut source, &mut ToWrite::new(&mut out))?;
     is_certified(rt, alloc, text, searched.status, &searched.tree, name)?;
     is_reply(rt, alloc, out.as_slice(), searched.status, row, name)?;
+    answer_replies(rt, alloc, text, row, name)?;
     let (status, _reply) = columns(row);
     if status == "2" {
         return all_replies(rt, alloc, text, row, name);
