@@ -111,7 +111,9 @@ fn answer<'a>(alloc: Global) -> Result<Command<'a>, AllocError>
     ensures { IfOk result (λ c. (app_of c ≡ answer) × ((out-Command c).has_globals ≡ false)) }
 {
     Command::new(alloc, "answer")
-        .about("Prints what search does, by another way that no bound of the scenario on how many sets are kept can stop, and that makes no certificate")
+        .about(
+            "Prints what search does, by another way that no bound of the scenario on how many sets are kept can stop, and that makes no certificate",
+        )
         .arg(file(alloc))
 }
 
