@@ -1,43 +1,65 @@
-//! A text as long as may be.
+//! A text as long as may be, and one that is longer by a byte.
 
-use crate::same::are_same;
+use crate::same::{agrees, are_same};
 use lf_faults::Fault;
 use lf_outcome::Reach;
 use lf_tree::{Edges, Kids, Node, Tree, TreeFault, read_tree, text_length, to_text};
-use std::alloc::Global;
-use std::test::Fail;
+use std::alloc::{AllocError, Global};
 
 /// A tree of one branch with so many edges `omit 0>1 @10`, this reach and no kids.
-fn wide(alloc: Global, count: u32, reach: &[u32]) -> Result<Tree, Fail> {
-    let edge = Fault::omit(0, 1, 10).ok_or("no fault")?;
+fn wide(alloc: Global, count: u32, reach: Reach) -> Result<Tree, AllocError> {
     let mut edges = Vec::new(alloc);
-    for _ in 0..count {
-        edges.push(edge)?;
+    if let Some(edge) = Fault::omit(0, 1, 10) {
+        for _ in 0..count {
+            edges.push(edge)?;
+        }
     }
     Ok(Tree {
         answer: None,
         root: Node::Branch {
-            reach: Reach::new(reach).ok_or("no reach")?,
+            reach,
             edges: Edges::from_vec(edges),
             kids: Kids::from_vec(Vec::new(alloc)),
         },
     })
 }
 
-#[test]
-fn the_longest_text_reads_back(rt: HostRuntime) -> Result<(), Fail> {
-    let tree = wide(rt.alloc(), 1_118_476, &[10, 0, 0, 0, 0])?;
-    let text = to_text(rt.alloc(), &tree).map_err(|_| "no text")?;
-    assert!(rt; (text.len(), text_length(&tree)) == (16_777_216, 16_777_216));
-    let found = read_tree(rt.alloc(), text.as_slice()).map_err(|_| "no tree")?;
-    assert!(rt; are_same(&found, &tree));
-    Ok(())
+/// Whether the text is that of the tree.
+fn is_read(alloc: Global, text: &[u8], tree: &Tree) -> bool {
+    match read_tree(alloc, text) {
+        Ok(found) => are_same(&found, tree),
+        Err(_) => false,
+    }
+}
+
+/// Whether the tree's text has so many bytes and is read back, or is refused where it has too many.
+fn fits(alloc: Global, tree: &Tree, length: u32) -> bool {
+    let is_long = text_length(tree) == length;
+    match to_text(alloc, tree) {
+        Ok(text) => {
+            is_long
+                && length == 16_777_216
+                && text.len() == 16_777_216
+                && is_read(alloc, text.as_slice(), tree)
+        }
+        Err(fault) => is_long && length == 16_777_217 && fault == TreeFault::TooLong,
+    }
+}
+
+/// Whether a tree of a reach of these numbers fits, or is refused, with so many bytes.
+fn wide_fits(alloc: Global, steps: &[u32], length: u32) -> bool {
+    let Some(reach) = Reach::new(steps) else {
+        return false;
+    };
+    match wide(alloc, 1_118_476, reach) {
+        Ok(tree) => fits(alloc, &tree, length),
+        Err(_) => false,
+    }
 }
 
 #[test]
-fn a_text_longer_by_a_byte_is_refused(rt: HostRuntime) -> Result<(), Fail> {
-    let tree = wide(rt.alloc(), 1_118_476, &[10, 10, 0, 0, 0])?;
-    let refused = to_text(rt.alloc(), &tree).err();
-    assert!(rt; refused == Some(TreeFault::TooLong) && text_length(&tree) == 16_777_217);
-    Ok(())
+fn the_longest_text_reads_back_and_a_byte_more_is_refused(rt: HostRuntime) {
+    let reads_back = wide_fits(rt.alloc(), &[10, 0, 0, 0, 0], 16_777_216);
+    let is_refused = wide_fits(rt.alloc(), &[10, 10, 0, 0, 0], 16_777_217);
+    agrees(&rt, reads_back && is_refused, "the longest text");
 }

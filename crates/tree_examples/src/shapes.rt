@@ -1,12 +1,10 @@
 //! Trees of all shapes.
 
-use crate::same::{are_same, depth};
+use crate::same::{agrees, are_same, depth};
 use lf_faults::{Fault, FaultSet};
 use lf_outcome::Reach;
 use lf_tree::{Edges, Kids, Node, Tree, TreeFault, read_tree, to_text};
 use std::alloc::{AllocError, Global};
-use std::process::Abort;
-use std::test::Fail;
 
 /// A branch of the last nodes, at most two, which are taken out. Its edges and its reach go by how many nodes are left.
 fn branch(alloc: Global, count: u32, nodes: &mut Vec<Node>) -> Result<Node, AllocError> {
@@ -78,38 +76,36 @@ fn answer(number: u32) -> Option<FaultSet> {
     }
 }
 
-/// Writes the tree and reads it back, or it is refused as too deep where more than six branches stand one in the other.
-fn reads_back(rt: &impl Abort, alloc: Global, tree: &Tree) -> Result<(), Fail> {
-    let text = to_text(alloc, tree).map_err(|_| "no text")?;
+/// Whether the tree is written and read back, or refused as too deep where more than six branches stand one in the other.
+fn reads_back(alloc: Global, tree: &Tree) -> bool {
+    let Ok(text) = to_text(alloc, tree) else {
+        return false;
+    };
     match read_tree(alloc, text.as_slice()) {
-        Ok(found) => {
-            assert!(rt; depth(&tree.root) <= 6);
-            assert!(rt; are_same(&found, tree));
-        }
-        Err(fault) => {
-            assert!(rt; depth(&tree.root) > 6);
-            assert_eq!(rt; fault, TreeFault::TooDeep);
-        }
+        Ok(found) => depth(&tree.root) <= 6 && are_same(&found, tree),
+        Err(fault) => depth(&tree.root) > 6 && fault == TreeFault::TooDeep,
     }
-    Ok(())
 }
 
-/// All words of so many digits.
-fn all_read_back(rt: &impl Abort, alloc: Global, digits: u32, words: u32) -> Result<(), Fail> {
+/// Whether the tree of each word of so many digits reads back.
+fn all_read_back(alloc: Global, digits: u32, words: u32) -> bool {
     for word in 0..words {
-        let tree = Tree {
-            answer: answer(word),
-            root: spelled(alloc, word, digits)?,
+        let Ok(root) = spelled(alloc, word, digits) else {
+            return false;
         };
-        reads_back(rt, alloc, &tree)?;
+        let answer = answer(word);
+        if !reads_back(alloc, &Tree { answer, root }) {
+            return false;
+        }
     }
-    Ok(())
+    true
 }
 
 #[test]
-fn trees_of_all_shapes_read_back(rt: HostRuntime) -> Result<(), Fail> {
-    all_read_back(&rt, rt.alloc(), 1, 5)?;
-    all_read_back(&rt, rt.alloc(), 2, 25)?;
-    all_read_back(&rt, rt.alloc(), 4, 625)?;
-    all_read_back(&rt, rt.alloc(), 7, 78_125)
+fn trees_of_all_shapes_read_back(rt: HostRuntime) {
+    let read_back = all_read_back(rt.alloc(), 1, 5)
+        && all_read_back(rt.alloc(), 2, 25)
+        && all_read_back(rt.alloc(), 4, 625)
+        && all_read_back(rt.alloc(), 7, 78_125);
+    agrees(&rt, read_back, "trees of all shapes");
 }

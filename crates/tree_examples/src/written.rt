@@ -1,139 +1,179 @@
 //! Trees, their texts to the byte, and their rows.
+//!
+//! A tree is told by its answer, which is `null` or faults with `,` between them, and by its nodes, each before its kids, with `;`
+//! between them. A branch is told by how many kids it has, its reach and its edges, with `:` between them.
 
-use lf_faults::{Fault, FaultSet};
-use lf_list::Listed;
+use crate::same::{agrees, are_same, columns};
+use lf_faults::{Fault, FaultSet, read_fault};
 use lf_outcome::Reach;
-use lf_tree::{Node, Tree, TreeFault, count, rows, text_length, to_text};
+use lf_tree::{Edges, Kids, Node, Row, Tree, count, read_tree, rows, text_length, to_text};
 use std::alloc::{AllocError, Global};
-use std::process::Abort;
-use std::test::Fail;
 
-/// A branch with the reach that the numbers are.
-fn branch(steps: &[u32], edges: Vec<Fault>, kids: Vec<Node>) -> Result<Node, Fail> {
-    Ok(Node::Branch {
-        reach: Reach::new(steps).ok_or("no reach")?,
-        edges: Listed::from_vec(edges),
-        kids: Listed::from_vec(kids),
-    })
+/// Trees, and their texts.
+const TEXTS: &str = concat!(
+    // one kid
+    r#"omit 0>1 @1|1:3,3:omit 0>1 @1;misses|"#,
+    r#"{"answer":["omit 0>1 @1"],"format":1,"root":{"edges":["omit 0>1 @1"],"kids":[{"misses":true}],"reach":[3,3]}}"#,
+    "\n",
+    // two kids
+    r#"omit 0>1 @1|2:4,4,4:omit 0>1 @1,omit 0>2 @1;misses;misses|"#,
+    r#"{"answer":["omit 0>1 @1"],"format":1,"root":{"edges":["omit 0>1 @1","omit 0>2 @1"],"kids":[{"misses":true},{"misses":true}],"reach":[4,4,4]}}"#,
+    "\n",
+    // a pause in an edge, or in the answer, has format 2
+    r#"null|1:48,10:crash 7 @48;0:1,0:pause 1 @9|"#,
+    r#"{"answer":null,"format":2,"root":{"edges":["crash 7 @48"],"kids":[{"edges":["pause 1 @9"],"kids":[],"reach":[1,0]}],"reach":[48,10]}}"#,
+    "\n",
+    r#"omit 3>0 @10,pause 2 @10|reaches|"#,
+    r#"{"answer":["omit 3>0 @10","pause 2 @10"],"format":2,"root":{"misses":false}}"#,
+    "\n",
+    // no answer is null, and the empty set an empty list
+    r#"null|reaches|{"answer":null,"format":1,"root":{"misses":false}}"#,
+    "\n",
+    r#"|misses|{"answer":[],"format":1,"root":{"misses":true}}"#,
+    "\n",
+    // each part of its own kind
+    r#"omit 0>1 @1|2:0,48:pause 1 @2,crash 3 @10;reaches;misses|"#,
+    r#"{"answer":["omit 0>1 @1"],"format":2,"root":{"edges":["pause 1 @2","crash 3 @10"],"kids":[{"misses":false},{"misses":true}],"reach":[0,48]}}"#,
+    "\n",
+);
+
+/// The columns before and behind the first `:`.
+fn fields(word: &str) -> (&str, &str) {
+    word.split_once(':').unwrap_or((word, ""))
 }
 
-fn omission(from: u32, to: u32, step: u32) -> Result<Fault, Fail> {
-    Ok(Fault::omit(from, to, step).ok_or("no omission")?)
+/// The faults of a text.
+fn faults(alloc: Global, text: &str) -> Result<Vec<Fault>, AllocError> {
+    let mut faults = Vec::new(alloc);
+    for word in text.split(',') {
+        if let Some(fault) = read_fault(word) {
+            faults.push(fault)?;
+        }
+    }
+    Ok(faults)
 }
 
-fn crash(node: u32, step: u32) -> Result<Fault, Fail> {
-    Ok(Fault::crash(node, step).ok_or("no crash")?)
+/// The answer of a text.
+fn answer(text: &str) -> Option<FaultSet> {
+    if text == "null" {
+        return None;
+    }
+    let mut set = FaultSet::empty();
+    for word in text.split(',') {
+        if let Some(fault) = read_fault(word) {
+            set = set.insert(fault).unwrap_or(set);
+        }
+    }
+    Some(set)
 }
 
-fn pause(node: u32, step: u32) -> Result<Fault, Fail> {
-    Ok(Fault::pause(node, step).ok_or("no pause")?)
+/// The reach of a text, if it is one.
+fn reach(text: &str) -> Option<Reach> {
+    let mut steps = [0; 3];
+    let mut count = 0_usize;
+    for word in text.split(',') {
+        if let Some(step) = steps.get_mut(count) {
+            *step = word.parse::<u32>().ok()?;
+            count = count.saturating_add(1);
+        }
+    }
+    Reach::new(steps.get(..count)?)
 }
 
-/// The set of one fault.
-fn only(fault: Fault) -> Result<FaultSet, Fail> {
-    Ok(FaultSet::empty().insert(fault).ok_or("not added")?)
+/// Takes out the last nodes, so many and the last first.
+fn taken(alloc: Global, nodes: &mut Vec<Node>, count: u32) -> Result<Kids, AllocError> {
+    let mut kids = Vec::new(alloc);
+    for _ in 0..count {
+        if let Some(kid) = nodes.pop() {
+            kids.push(kid)?;
+        }
+    }
+    Ok(Kids::from_vec(kids))
 }
 
-fn assert_text(rt: &impl Abort, alloc: Global, tree: &Tree, wanted: &str) -> Result<(), Fail> {
-    let text = to_text(alloc, tree).map_err(|_| "no text")?;
-    let length = text_length(tree) as usize;
-    assert!(rt;
-        text.as_slice() == wanted.as_bytes() && length == wanted.len(),
-        "not {wanted}"
-    );
-    Ok(())
+/// The branch of a word, whose kids are taken out of the nodes. A leaf where the word is of no branch.
+fn branch(alloc: Global, nodes: &mut Vec<Node>, word: &str) -> Result<Node, AllocError> {
+    let (count, rest) = fields(word);
+    let (steps, edges) = fields(rest);
+    let kids = taken(alloc, nodes, count.parse::<u32>().unwrap_or(0))?;
+    match reach(steps) {
+        Some(reach) => Ok(Node::Branch {
+            reach,
+            edges: Edges::from_vec(faults(alloc, edges)?),
+            kids,
+        }),
+        None => Ok(Node::Misses),
+    }
+}
+
+/// The root of nodes that are told by words.
+fn root(alloc: Global, words: &str) -> Result<Node, AllocError> {
+    let mut nodes = Vec::new(alloc);
+    for word in words.rsplit(';') {
+        let node = match word {
+            "misses" => Node::Misses,
+            "reaches" => Node::Reaches,
+            word => branch(alloc, &mut nodes, word)?,
+        };
+        nodes.push(node)?;
+    }
+    Ok(nodes.pop().unwrap_or(Node::Misses))
+}
+
+/// Whether this is the text of the tree, and its length.
+fn is_text(alloc: Global, tree: &Tree, wanted: &str) -> bool {
+    match to_text(alloc, tree) {
+        Ok(text) => {
+            text.as_slice() == wanted.as_bytes() && text_length(tree) as usize == wanted.len()
+        }
+        Err(_) => false,
+    }
+}
+
+/// Whether the tree is read of this text, and then written again.
+fn is_read(alloc: Global, tree: &Tree, text: &str) -> bool {
+    match read_tree(alloc, text.as_bytes()) {
+        Ok(found) => are_same(&found, tree) && is_text(alloc, &found, text),
+        Err(_) => false,
+    }
+}
+
+/// Whether the tree of a row has its text.
+fn row_is_written(alloc: Global, row: &str) -> bool {
+    let (answer_text, rest) = columns(row);
+    let (words, wanted) = columns(rest);
+    let Ok(root) = root(alloc, words) else {
+        return false;
+    };
+    let answer = answer(answer_text);
+    let tree = Tree { answer, root };
+    is_text(alloc, &tree, wanted) && is_read(alloc, &tree, wanted)
 }
 
 #[test]
-fn writes_a_branch_with_one_kid(rt: HostRuntime) -> Result<(), Fail> {
-    let alloc = rt.alloc();
-    let lost = omission(0, 1, 1)?;
-    let root = branch(
-        &[3, 3],
-        vec![in alloc; lost]?,
-        vec![in alloc; Node::Misses]?,
-    )?;
-    let tree = Tree {
-        answer: Some(only(lost)?),
-        root,
-    };
-    let wanted =
-        r#"{"answer":["omit 0>1 @1"],"format":1,"root":{"edges":["omit 0>1 @1"],"kids":[{"misses":true}],"reach":[3,3]}}"#;
-    assert_text(&rt, alloc, &tree, wanted)
+fn trees_are_written_and_read_to_the_byte(rt: HostRuntime) {
+    for row in TEXTS.lines() {
+        agrees(&rt, row_is_written(rt.alloc(), row), row);
+    }
 }
 
-#[test]
-fn writes_a_branch_with_two_kids(rt: HostRuntime) -> Result<(), Fail> {
-    let alloc = rt.alloc();
-    let lost = omission(0, 1, 1)?;
-    let edges = vec![in alloc; lost, omission(0, 2, 1)?]?;
-    let root = branch(
-        &[4, 4, 4],
-        edges,
-        vec![in alloc; Node::Misses, Node::Misses]?,
-    )?;
-    let tree = Tree {
-        answer: Some(only(lost)?),
-        root,
-    };
-    let wanted =
-        r#"{"answer":["omit 0>1 @1"],"format":1,"root":{"edges":["omit 0>1 @1","omit 0>2 @1"],"kids":[{"misses":true},{"misses":true}],"reach":[4,4,4]}}"#;
-    assert_text(&rt, alloc, &tree, wanted)
-}
+/// A tree of depth 3. The first number of each reach tells the branches apart.
+const UNEVEN: &str = concat!(
+    "3:1,0:crash 0 @1;2:2,0:crash 0 @1;misses;1:3,0:crash 0 @1;0:4,0:;reaches;",
+    "1:5,0:crash 0 @1;misses",
+);
 
-#[test]
-fn a_pause_in_an_edge_has_format_2(rt: HostRuntime) -> Result<(), Fail> {
-    let alloc = rt.alloc();
-    let inner = branch(&[1, 0], vec![in alloc; pause(1, 9)?]?, Vec::new(alloc))?;
-    let root = branch(
-        &[48, 10],
-        vec![in alloc; crash(7, 48)?]?,
-        vec![in alloc; inner]?,
-    )?;
-    let tree = Tree { answer: None, root };
-    let wanted =
-        r#"{"answer":null,"format":2,"root":{"edges":["crash 7 @48"],"kids":[{"edges":["pause 1 @9"],"kids":[],"reach":[1,0]}],"reach":[48,10]}}"#;
-    assert_text(&rt, alloc, &tree, wanted)
-}
-
-#[test]
-fn a_pause_in_the_answer_has_format_2(rt: HostRuntime) -> Result<(), Fail> {
-    let alloc = rt.alloc();
-    let answer = only(omission(3, 0, 10)?)?
-        .insert(pause(2, 10)?)
-        .ok_or("not added")?;
-    let tree = Tree {
-        answer: Some(answer),
-        root: Node::Reaches,
-    };
-    let wanted = r#"{"answer":["omit 3>0 @10","pause 2 @10"],"format":2,"root":{"misses":false}}"#;
-    assert_text(&rt, alloc, &tree, wanted)
-}
-
-#[test]
-fn no_answer_is_null_and_the_empty_set_an_empty_list(rt: HostRuntime) -> Result<(), Fail> {
-    let alloc = rt.alloc();
-    let none = Tree {
-        answer: None,
-        root: Node::Reaches,
-    };
-    assert_text(
-        &rt,
-        alloc,
-        &none,
-        r#"{"answer":null,"format":1,"root":{"misses":false}}"#,
-    )?;
-    let empty = Tree {
-        answer: Some(FaultSet::empty()),
-        root: Node::Misses,
-    };
-    assert_text(
-        &rt,
-        alloc,
-        &empty,
-        r#"{"answer":[],"format":1,"root":{"misses":true}}"#,
-    )
-}
+/// The rows of that tree: the parent, the place among its kids, the depth, and what tells the node from the others.
+const UNEVEN_ROWS: [(Option<usize>, usize, usize, u32); 8] = [
+    (None, 0, 0, 1),
+    (Some(0), 0, 1, 2),
+    (Some(1), 0, 2, 100),
+    (Some(1), 1, 2, 3),
+    (Some(3), 0, 3, 4),
+    (Some(0), 1, 1, 101),
+    (Some(0), 2, 1, 5),
+    (Some(6), 0, 2, 100),
+];
 
 /// A number that tells a node from the others: the first of a branch's reach.
 fn mark(node: &Node) -> u32 {
@@ -144,80 +184,62 @@ fn mark(node: &Node) -> u32 {
     }
 }
 
-/// A tree of depth 3.
-fn uneven(alloc: Global) -> Result<Tree, Fail> {
-    let edge = crash(0, 1)?;
-    let deepest = branch(&[4, 0], Vec::new(alloc), Vec::new(alloc))?;
-    let second = branch(&[3, 0], vec![in alloc; edge]?, vec![in alloc; deepest]?)?;
-    let first = branch(
-        &[2, 0],
-        vec![in alloc; edge]?,
-        vec![in alloc; Node::Misses, second]?,
-    )?;
-    let last = branch(
-        &[5, 0],
-        vec![in alloc; edge]?,
-        vec![in alloc; Node::Misses]?,
-    )?;
-    let kids = vec![in alloc; first, Node::Reaches, last]?;
-    Ok(Tree {
-        answer: None,
-        root: branch(&[1, 0], vec![in alloc; edge]?, kids)?,
-    })
-}
-
-#[test]
-fn rows_are_the_root_and_then_each_kid_with_all_beneath_it(rt: HostRuntime) -> Result<(), Fail> {
-    let tree = uneven(rt.alloc())?;
-    let wanted = [
-        (None, 0, 0, 1),
-        (Some(0), 0, 1, 2),
-        (Some(1), 0, 2, 100),
-        (Some(1), 1, 2, 3),
-        (Some(3), 0, 3, 4),
-        (Some(0), 1, 1, 101),
-        (Some(0), 2, 1, 5),
-        (Some(6), 0, 2, 100),
-    ];
-    let rows = rows(rt.alloc(), &tree)?;
-    assert!(rt; (rows.len(), count(&tree)) == (8, 8));
-    for (row, expected) in rows.iter().zip(wanted) {
-        assert!(rt; (row.parent, row.kid, row.depth, mark(row.node)) == expected);
+/// Whether the rows of the tree are those of the uneven one.
+fn is_uneven(alloc: Global, tree: &Tree) -> bool {
+    let Ok(rows) = rows(alloc, tree) else {
+        return false;
+    };
+    for (row, expected) in rows.iter().zip(UNEVEN_ROWS) {
+        if (row.parent, row.kid, row.depth, mark(row.node)) != expected {
+            return false;
+        }
     }
-    Ok(())
+    rows.len() == 8 && count(tree) == 8
 }
 
 #[test]
-fn a_million_leaves(rt: HostRuntime) -> Result<(), Fail> {
-    let alloc = rt.alloc();
+fn rows_are_the_root_and_then_each_kid_with_all_beneath_it(rt: HostRuntime) {
+    let is_uneven = match root(rt.alloc(), UNEVEN) {
+        Ok(root) => is_uneven(rt.alloc(), &Tree { answer: None, root }),
+        Err(_) => false,
+    };
+    agrees(&rt, is_uneven, UNEVEN);
+}
+
+/// A branch over a million leaves.
+fn million(alloc: Global, reach: Reach) -> Result<Node, AllocError> {
     let mut kids = Vec::new(alloc);
     for _ in 0..1_000_000 {
         kids.push(Node::Misses)?;
     }
-    let tree = Tree {
-        answer: None,
-        root: branch(&[1, 1], Vec::new(alloc), kids)?,
+    Ok(Node::Branch {
+        reach,
+        edges: Edges::from_vec(Vec::new(alloc)),
+        kids: Kids::from_vec(kids),
+    })
+}
+
+/// Whether the tree has the rows of a branch over a million leaves.
+fn has_a_million(alloc: Global, tree: &Tree) -> bool {
+    let Ok(rows) = rows(alloc, tree) else {
+        return false;
     };
-    assert!(rt; (count(&tree), text_length(&tree)) == (1_000_001, 16_000_069));
-    let rows = rows(alloc, &tree)?;
-    let last = rows.last().ok_or("no row")?;
-    assert!(rt;
-        (rows.len(), last.parent, last.kid, last.depth) == (1_000_001, Some(0), 999_999, 1)
-    );
-    Ok(())
+    let Some(last) = rows.last() else {
+        return false;
+    };
+    rows.len() == 1_000_001
+        && (last.parent, last.kid, last.depth) == (Some(0), 999_999, 1)
+        && (count(tree), text_length(tree)) == (1_000_001, 16_000_069)
 }
 
 #[test]
-fn the_faults_are_numbered(rt: HostRuntime) {
-    let faults = [
-        TreeFault::TooLong,
-        TreeFault::NoJson,
-        TreeFault::Form,
-        TreeFault::OutOfRange,
-        TreeFault::TooDeep,
-        TreeFault::Memory,
-    ];
-    for (i, fault) in faults.iter().enumerate() {
-        assert_eq!(rt; fault.number() as usize, i + 1);
-    }
+fn a_million_leaves(rt: HostRuntime) {
+    let Some(reach) = Reach::new(&[1, 1]) else {
+        return agrees(&rt, false, "a reach");
+    };
+    let is_counted = match million(rt.alloc(), reach) {
+        Ok(root) => has_a_million(rt.alloc(), &Tree { answer: None, root }),
+        Err(_) => false,
+    };
+    agrees(&rt, is_counted, "a million leaves");
 }
