@@ -3,8 +3,12 @@
 /// How far the work has come.
 #[derive(Clone, Copy, Debug, PartialEq, Eq)]
 pub enum Progress {
-    /// A search has run `done` of the `all` sets of `level` faults that it has to run.
-    Sets { level: u32, done: u64, all: u64 },
+    /// A search has run `done` sets of `level` faults, of `all` that it has to run, where that is known.
+    Sets {
+        level: u32,
+        done: u64,
+        all: Option<u64>,
+    },
     /// A search over configurations has worked `done` of them in the pass over sets of at most `pass` faults. How many
     /// there are isn't known before its end.
     Configurations { pass: usize, done: u64 },
