@@ -11,7 +11,13 @@ pub enum Progress {
     },
     /// A search over configurations has worked `done` of them in the pass over sets of at most `pass` faults. How many
     /// there are isn't known before its end.
-    Configurations { pass: usize, done: u64 },
+    Configurations {
+        pass: usize,
+        done: u64,
+    },
     /// A check has judged `done` of the `all` nodes of a tree.
-    Nodes { done: u64, all: u64 },
+    Nodes {
+        done: u64,
+        all: u64,
+    },
 }
