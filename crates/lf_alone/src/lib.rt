@@ -6,4 +6,4 @@ mod ended;
 mod solving;
 
 pub use ended::Ended;
-pub use solving::solve;
+pub use solving::{solve, solve_watched};

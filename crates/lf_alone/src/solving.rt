@@ -13,6 +13,7 @@ use crate::Ended;
 use lf_book::{Book, Deepened, Spent, Taken, work_up};
 use lf_certificate::settings_are_bounded;
 use lf_scenario::Scenario;
+use lf_watch::{NoWatch, Progress, Watch};
 use std::alloc::{AllocError, Global};
 use std::sync::Arc;
 
@@ -23,10 +24,21 @@ use std::sync::Arc;
 pub fn solve(alloc: Global, scenario: Arc<Scenario>) -> Result<Ended, AllocError>
     ensures { IfOk result (IsEnd (arc_value scenario)) }
 {
+    solve_watched(alloc, scenario, &NoWatch)
+}
+
+/// The same, with a watch that is told before each set how many of its level were run.
+pub fn solve_watched<W: Watch>(
+    alloc: Global,
+    scenario: Arc<Scenario>,
+    watch: &W,
+) -> Result<Ended, AllocError>
+    ensures { IfOk result (IsEnd (arc_value scenario)) }
+{
     let mut book = Book::begin(alloc, scenario)?;
     let mut spent = Spent::new(alloc);
     'levels: loop {
-        work_level(&mut book, &mut spent)?;
+        work_level(&mut book, &mut spent, watch)?;
         match after_level(&mut book) {
             After::Down => {}
             After::Finished => return Ok(Ended::Finished(book)),
@@ -36,17 +48,28 @@ pub fn solve(alloc: Global, scenario: Arc<Scenario>) -> Result<Ended, AllocError
 }
 
 /// Works all open sets of the level.
-fn work_level(book: &mut Book, spent: &mut Spent) -> Result<(), AllocError>
+fn work_level<W: Watch>(book: &mut Book, spent: &mut Spent, watch: &W) -> Result<(), AllocError>
     requires { IsUnderway (state_of book.old) }
     ensures underway { OnOk result (IsUnderway (state_of book.new)) }
     ensures done { OnOk result (IsDone (state_of book.new).marks) }
     ensures level { OnOk result ((state_of book.new).level ≡ (state_of book.old).level) }
     ensures scenario { scenario_of book.new ≡ scenario_of book.old }
 {
+    let all = open_sets(book);
     'sets: while book.counts().ready > 0 {
+        watch.tell(Progress::Sets {
+            level: book.level(),
+            done: all.saturating_sub(open_sets(book)),
+            all: Some(all),
+        });
         work_next(book, spent)?;
     }
     Ok(())
+}
+
+/// How many sets are open.
+fn open_sets(book: &Book) -> u64 {
+    book.counts().ready
 }
 
 /// Works an open set.

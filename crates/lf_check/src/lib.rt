@@ -12,9 +12,10 @@ mod places;
 mod rows;
 mod same;
 mod scenarios;
+mod tally;
 mod verdict;
 mod walk;
 
 pub use judging::judge;
-pub use scenarios::{check, check_rows};
+pub use scenarios::{check, check_rows, check_rows_watched};
 pub use verdict::Verdict;

@@ -13,23 +13,26 @@ use crate::listing::{places_of, put_way};
 use crate::part::{PART, found_from, lower};
 use crate::places::Places;
 use crate::same::are_same_answers;
+use crate::tally::Tally;
 use crate::walk::Judged;
 use lf_certificate::{Reason, settings_are_bounded};
 use lf_outcome::Formula;
 use lf_protocols::{Fact, Protocol};
 use lf_sim::Setting;
 use lf_tree::Tree;
+use lf_watch::Watch;
 use rayon::prelude::*;
 use std::alloc::{AllocError, Global};
 use std::thread::Threads;
 
 /// The same as `judge`, where the nodes of the tree are judged in as many threads as there are processors.
-pub(crate) fn judge_rows(
+pub(crate) fn judge_rows<W: Watch>(
     rt: &(impl Threads + Sync),
     alloc: Global,
     setting: &Setting<Protocol>,
     formula: &Formula<Fact>,
     tree: &Tree,
+    watch: &W,
 ) -> Result<Verdict, AllocError>
     ensures { IfOk result (IsVerdict (world_of setting.now) setting.now.spec formula.now tree.now) }
 {
@@ -47,7 +50,7 @@ pub(crate) fn judge_rows(
     settings_are_bounded(setting);
     let places = places_of(alloc, tree)?;
     let mut path = Vec::new(alloc);
-    match found_in(rt, alloc, &judged, &places)? {
+    match found_in(rt, alloc, &judged, &places, watch)? {
         Found::Fails { at, reason } => {
             put_way(&places, at, &mut path)?;
             Ok(Verdict::No { reason, path })
@@ -63,18 +66,19 @@ pub(crate) fn judge_rows(
 }
 
 /// What is found in all nodes, part by part: the first part in which one fails has the first that fails.
-fn found_in(
+fn found_in<W: Watch>(
     rt: &(impl Threads + Sync),
     alloc: Global,
     judged: &Judged<'_, Protocol>,
     places: &Places<'_>,
+    watch: &W,
 ) -> Result<Found, AllocError>
     requires { ArePlaces places.now }
     ensures { IfOk result (IsFoundInAll (world_of judged.now.setting.now) judged.now.setting.now.spec judged.now.formula.now
         judged.now.last places.now.tree.now places.now.sets.items) }
 {
     let parts = places.rows.len() / PART + 1;
-    let found = found_by_part(rt, alloc, judged, places, parts)?;
+    let found = found_by_part(rt, alloc, judged, places, parts, watch)?;
     let mut first = None;
     for part in 0..parts {
         match in_part(found.as_slice(), part)? {
@@ -94,12 +98,13 @@ fn in_part(found: &[Result<Found, AllocError>], part: usize) -> Result<Found, Al
 }
 
 /// What is found in each of so many parts, in order.
-fn found_by_part(
+fn found_by_part<W: Watch>(
     rt: &(impl Threads + Sync),
     alloc: Global,
     judged: &Judged<'_, Protocol>,
     places: &Places<'_>,
     parts: usize,
+    watch: &W,
 ) -> Result<Vec<Result<Found, AllocError>>, AllocError>
     requires places { ArePlaces places.now }
     requires parts { (part : ℕ) → part < parts → part * 256 ≤ vec_len places.now.rows }
@@ -107,6 +112,8 @@ fn found_by_part(
         judged.now.setting.now.spec judged.now.formula.now judged.now.last places.now.tree.now places.now.sets.items
         (part * 256) (part * 256 + 256))) (range_with_len 0 parts) found.items) }
 {
+    let tally = Tally::new(watch, places.rows.len());
+    let tally = &tally;
     (0..parts)
         .into_par_iter()
         .with_min_len(1)
@@ -116,7 +123,11 @@ fn found_by_part(
                 ensures { IfOk result (IsFound (world_of judged.entry.now.setting.now) judged.entry.now.setting.now.spec
                     judged.entry.now.formula.now judged.entry.now.last places.entry.now.tree.now places.entry.now.sets.items
                     (part * 256) (part * 256 + 256)) }
-            { found_from(alloc, judged, places, part * PART) },
+            {
+                let found = found_from(alloc, judged, places, part * PART);
+                tally.add(PART);
+                found
+            },
         )
         .collect(rt, alloc)
 }

@@ -8,6 +8,7 @@ use crate::rows::judge_rows;
 use crate::{Verdict, judge};
 use lf_scenario::Scenario;
 use lf_tree::Tree;
+use lf_watch::{NoWatch, Watch};
 use std::alloc::{AllocError, Global};
 use std::thread::Threads;
 
@@ -28,5 +29,25 @@ pub fn check_rows(
 ) -> Result<Verdict, AllocError>
     ensures { IfOk result (IsVerdict (world_of scenario.now.setting) scenario.now.setting.spec scenario.now.formula tree.now) }
 {
-    judge_rows(rt, alloc, scenario.setting(), scenario.formula(), tree)
+    check_rows_watched(rt, alloc, scenario, tree, &NoWatch)
+}
+
+/// The same as `check_rows`, with a watch that is told how many nodes were judged, each time that some more were.
+pub fn check_rows_watched<W: Watch>(
+    rt: &(impl Threads + Sync),
+    alloc: Global,
+    scenario: &Scenario,
+    tree: &Tree,
+    watch: &W,
+) -> Result<Verdict, AllocError>
+    ensures { IfOk result (IsVerdict (world_of scenario.now.setting) scenario.now.setting.spec scenario.now.formula tree.now) }
+{
+    judge_rows(
+        rt,
+        alloc,
+        scenario.setting(),
+        scenario.formula(),
+        tree,
+        watch,
+    )
 }

@@ -57,10 +57,10 @@ named_range (Some text) n is = is.2
 
 asked_range : (words : List Text) (o : Option (Text × List Row)) (a : Asked) → IsAskedIn words o a → IsWorkers (workers_of a)
 asked_range words None a h = elim h [ ]
-asked_range words (Some p) (asked.Search file tree all workers) h = named_range (first_of (codes "workers") p.1) workers h.0.4
+asked_range words (Some p) (asked.Search file tree all workers quiet) h = named_range (first_of (codes "workers") p.1) workers h.0.4
 asked_range words (Some p) (asked.Run file faults) h = (omega arith, omega arith)
-asked_range words (Some p) (asked.Check file tree) h = (omega arith, omega arith)
-asked_range words (Some p) (asked.Answer file) h = (omega arith, omega arith)
+asked_range words (Some p) (asked.Check file tree quiet) h = (omega arith, omega arith)
+asked_range words (Some p) (asked.Answer file quiet) h = (omega arith, omega arith)
 
 pub range_of : (words : List Text) (r : Result Asked Unasked) → Answers words r → IfOk r (λ a. IsWorkers (workers_of a))
 range_of words (Ok a) asks = asked_range words (subcommand_of program words) a asks.0.1

@@ -44,21 +44,35 @@ is_taken (x ∷ y ∷ rest) plain = taken_other x (y ∷ rest) (not-true (x == 4
 abbrev pub named_both : Text → Text × List Row → Text × Option Text × Option Text
 named_both key p = (p.0, first_of (codes "file") p.1, first_of key p.1)
 
--- a command's name and its file
-abbrev pub named_one : Text × List Row → Text × Option Text
-named_one p = (p.0, first_of (codes "file") p.1)
+-- whether nothing is to be told on the way
+abbrev named_quiet : Text × List Row → Bool
+named_quiet p = is_set (first_of (codes "quiet") p.1)
 
--- the same of a search, with its flag and its workers
-abbrev pub named_search : Text × List Row → Text × Option Text × Option Text × Bool × Option Text
-named_search p =
-    (p.0, first_of (codes "file") p.1, first_of (codes "tree") p.1, is_set (first_of (codes "all") p.1), first_of (codes "workers") p.1)
+-- a command's name, its file, and its flag
+abbrev pub named_one : Text × List Row → Text × Option Text × Bool
+named_one p = (p.0, first_of (codes "file") p.1, named_quiet p)
+
+-- the same of a check, with its tree
+abbrev pub named_check : Text × List Row → Text × Option Text × Option Text × Bool
+named_check p = (p.0, first_of (codes "file") p.1, first_of (codes "tree") p.1, named_quiet p)
+
+-- the same of a search, with its tree, its flags and its workers
+abbrev pub named_search : Text × List Row → Text × Option Text × Option Text × Bool × Option Text × Bool
+named_search p = (
+  p.0,
+  first_of (codes "file") p.1,
+  first_of (codes "tree") p.1,
+  is_set (first_of (codes "all") p.1),
+  first_of (codes "workers") p.1,
+  named_quiet p,
+)
 
 pub search_fault : (file : Text) → IsTaken file → fault_of program (codes "search" ∷ file ∷ []) ≡ []
 unfolding clap_on_literals
 search_fault file taken = rw (taken.no_end, taken.no_long, taken.no_short) refl
 
 pub search_names : (file : Text) → IsTaken file
-    → option_map named_search (subcommand_of program (codes "search" ∷ file ∷ [])) ≡ Some (codes "search", Some file, None, false, None)
+    → option_map named_search (subcommand_of program (codes "search" ∷ file ∷ [])) ≡ Some (codes "search", Some file, None, false, None, false)
 unfolding clap_on_literals
 search_names file taken = rw (taken.no_end, taken.no_long, taken.no_short) refl
 
@@ -77,8 +91,8 @@ unfolding clap_on_literals
 check_fault file tree taken taken_too = rw (taken.no_end, taken.no_long, taken.no_short, taken_too.no_end, taken_too.no_long, taken_too.no_short) refl
 
 pub check_names : (file tree : Text) → IsTaken file → IsTaken tree
-    → option_map (named_both (codes "tree")) (subcommand_of program (codes "check" ∷ file ∷ tree ∷ []))
-    ≡ Some (codes "check", Some file, Some tree)
+    → option_map named_check (subcommand_of program (codes "check" ∷ file ∷ tree ∷ []))
+    ≡ Some (codes "check", Some file, Some tree, false)
 unfolding clap_on_literals
 check_names file tree taken taken_too = rw (taken.no_end, taken.no_long, taken.no_short, taken_too.no_end, taken_too.no_long, taken_too.no_short) refl
 
@@ -87,7 +101,7 @@ unfolding clap_on_literals
 answer_fault file taken = rw (taken.no_end, taken.no_long, taken.no_short) refl
 
 pub answer_names : (file : Text) → IsTaken file
-    → option_map named_one (subcommand_of program (codes "answer" ∷ file ∷ [])) ≡ Some (codes "answer", Some file)
+    → option_map named_one (subcommand_of program (codes "answer" ∷ file ∷ [])) ≡ Some (codes "answer", Some file, false)
 unfolding clap_on_literals
 answer_names file taken = rw (taken.no_end, taken.no_long, taken.no_short) refl
 

@@ -17,19 +17,22 @@ use Rattle.lf_words.specs.declared.types.Asked.{Asked}
 use Rattle.lf_words.specs.declared.types.Asked.TheVariants as asked
 use Rattle.lf_words.specs.declared.unasked.Unasked.{Unasked}
 use Rattle.lf_words.specs.declared.unasked.Unasked.TheVariants as unasked
-use Rattle.lf_words.proofs.Plain.{named_one, answer_fault, answer_names}
-use Rattle.lf_words.proofs.Plain.{IsTaken, is_taken, named_both, named_search, check_fault, check_names, run_fault, run_names, search_fault, search_names}
+use Rattle.lf_words.proofs.Plain.{IsTaken, is_taken, named_both, named_check, named_one, named_search}
+use Rattle.lf_words.proofs.Plain.{answer_fault, answer_names, check_fault, check_names, run_fault, run_names, search_fault, search_names}
 use Rattle.lf_words.proofs.Plain.{help_fault, short_help_fault, short_version_fault, unknown_fault, version_fault}
 use Rattle.lf_words.proofs.Reading.{apart, no_truth}
 
 abbrev Both : Type 0
 Both = Text × Option Text × Option Text
 
+abbrev Check : Type 0
+Check = Text × Option Text × Option Text × Bool
+
 abbrev One : Type 0
-One = Text × Option Text
+One = Text × Option Text × Bool
 
 abbrev Search : Type 0
-Search = Text × Option Text × Option Text × Bool × Option Text
+Search = Text × Option Text × Option Text × Bool × Option Text × Bool
 
 both : (x y : Bool) → (x && y) ≡ true → (x ≡ true) × (y ≡ true)
 both true y h = (refl, h)
@@ -72,40 +75,42 @@ answer_or_check : (name : Text) → name ≡ codes "answer" → name ≡ codes "
 answer_or_check name is_answer is_check = apart 97 99 (omega arith) (ap first (sym is_answer ∙ is_check))
 
 search_of : (words : List Text) (o : Option (Text × List Row)) (file : Text) (a : Asked)
-    → option_map named_search o ≡ Some (codes "search", Some file, None, false, None)
+    → option_map named_search o ≡ Some (codes "search", Some file, None, false, None, false)
     → IsAskedIn words o a → IsPlainly (codes "search" ∷ file ∷ []) a
 search_of words None file a names asked = elim asked [ ]
-search_of words (Some p) file (asked.Search own tree all workers) names asked =
-    let found : named_search p ≡ (codes "search", Some file, None, false, None) = some_is _ _ names in
+search_of words (Some p) file (asked.Search own tree all workers quiet) names asked =
+    let found : named_search p ≡ (codes "search", Some file, None, false, None, false) = some_is _ _ names in
     let same : own.bytes.items ≡ file = some_is _ _ (sym asked.0.1 ∙ ap (λ (q : Search). q.1) found) in
     record {
       texts = ap (λ x. codes "search" ∷ x ∷ []) same;
       unwritten = sym asked.0.2 ∙ ap (λ (q : Search). q.2) found;
       one = sym asked.0.3 ∙ ap (λ (q : Search). q.3) found;
       alone = subst (λ o. AreNamed o workers) (ap (λ (q : Search). q.4) found) asked.0.4;
+      told = sym asked.0.5 ∙ ap (λ (q : Search). q.5) found;
     }
 search_of words (Some p) file (asked.Run own faults) names asked =
-    let found : named_search p ≡ (codes "search", Some file, None, false, None) = some_is _ _ names in
+    let found : named_search p ≡ (codes "search", Some file, None, false, None, false) = some_is _ _ names in
     absurd (run_or_search p.0 asked.0.0 (ap (λ (q : Search). q.0) found))
-search_of words (Some p) file (asked.Check own tree) names asked =
-    let found : named_search p ≡ (codes "search", Some file, None, false, None) = some_is _ _ names in
+search_of words (Some p) file (asked.Check own tree quiet) names asked =
+    let found : named_search p ≡ (codes "search", Some file, None, false, None, false) = some_is _ _ names in
     absurd (check_or_search p.0 asked.0.0 (ap (λ (q : Search). q.0) found))
-search_of words (Some p) file (asked.Answer own) names asked =
-    let found : named_search p ≡ (codes "search", Some file, None, false, None) = some_is _ _ names in
+search_of words (Some p) file (asked.Answer own quiet) names asked =
+    let found : named_search p ≡ (codes "search", Some file, None, false, None, false) = some_is _ _ names in
     absurd (answer_or_search p.0 asked.0.0 (ap (λ (q : Search). q.0) found))
 
 asks_search : (words : List Text) (o : Option (Text × List Row)) (file : String Global)
-    → option_map named_search o ≡ Some (codes "search", Some (string_bytes file), None, false, None)
-    → words ≡ codes "search" ∷ string_bytes file ∷ [] → IsAskedIn words o (asked.Search file None false 1)
+    → option_map named_search o ≡ Some (codes "search", Some (string_bytes file), None, false, None, false)
+    → words ≡ codes "search" ∷ string_bytes file ∷ [] → IsAskedIn words o (asked.Search file None false 1 false)
 asks_search words None file names is = absurd (no_thing _ names)
 asks_search words (Some p) file names is =
-    let found : named_search p ≡ (codes "search", Some (string_bytes file), None, false, None) = some_is _ _ names in (
+    let found : named_search p ≡ (codes "search", Some (string_bytes file), None, false, None, false) = some_is _ _ names in (
       (
         ap (λ (q : Search). q.0) found,
         ap (λ (q : Search). q.1) found,
         ap (λ (q : Search). q.2) found,
         ap (λ (q : Search). q.3) found,
         subst (λ o. AreNamed o 1) (sym (ap (λ (q : Search). q.4) found)) refl,
+        ap (λ (q : Search). q.5) found,
       ),
       rw (is) (inl (refl, inl (refl, tt))),
     )
@@ -114,18 +119,18 @@ run_of : (words : List Text) (o : Option (Text × List Row)) (file faults : Text
     → option_map (named_both (codes "faults")) o ≡ Some (codes "run", Some file, Some faults)
     → IsAskedIn words o a → IsPlainly (codes "run" ∷ file ∷ faults ∷ []) a
 run_of words None file faults a names asked = elim asked [ ]
-run_of words (Some p) file faults (asked.Search own tree all workers) names asked =
+run_of words (Some p) file faults (asked.Search own tree all workers quiet) names asked =
     let pair : named_both (codes "faults") p ≡ (codes "run", Some file, Some faults) = some_is _ _ names in
     absurd (run_or_search p.0 (ap (λ (q : Both). q.0) pair) asked.0.0)
 run_of words (Some p) file faults (asked.Run own own_faults) names asked =
     let pair : named_both (codes "faults") p ≡ (codes "run", Some file, Some faults) = some_is _ _ names in
     let same : own.bytes.items ≡ file = some_is _ _ (sym asked.0.1 ∙ ap (λ (q : Both). q.1) pair) in
     let same_too : own_faults.bytes.items ≡ faults = some_is _ _ (sym asked.0.2 ∙ ap (λ (q : Both). q.2) pair) in
-    record { texts = rw (same, same_too) refl; unwritten = refl; one = refl; alone = refl }
-run_of words (Some p) file faults (asked.Check own tree) names asked =
+    record { texts = rw (same, same_too) refl; unwritten = refl; one = refl; alone = refl; told = refl }
+run_of words (Some p) file faults (asked.Check own tree quiet) names asked =
     let pair : named_both (codes "faults") p ≡ (codes "run", Some file, Some faults) = some_is _ _ names in
     absurd (check_or_run p.0 asked.0.0 (ap (λ (q : Both). q.0) pair))
-run_of words (Some p) file faults (asked.Answer own) names asked =
+run_of words (Some p) file faults (asked.Answer own quiet) names asked =
     let pair : named_both (codes "faults") p ≡ (codes "run", Some file, Some faults) = some_is _ _ names in
     absurd (answer_or_run p.0 asked.0.0 (ap (λ (q : Both). q.0) pair))
 
@@ -138,56 +143,70 @@ asks_run words (Some p) file faults names is =
     ((ap (λ (q : Both). q.0) pair, ap (λ (q : Both). q.1) pair, ap (λ (q : Both). q.2) pair), rw (is) (inl (refl, inl (refl, inl (refl, tt)))))
 
 check_of : (words : List Text) (o : Option (Text × List Row)) (file tree : Text) (a : Asked)
-    → option_map (named_both (codes "tree")) o ≡ Some (codes "check", Some file, Some tree)
+    → option_map named_check o ≡ Some (codes "check", Some file, Some tree, false)
     → IsAskedIn words o a → IsPlainly (codes "check" ∷ file ∷ tree ∷ []) a
 check_of words None file tree a names asked = elim asked [ ]
-check_of words (Some p) file tree (asked.Search own written all workers) names asked =
-    let pair : named_both (codes "tree") p ≡ (codes "check", Some file, Some tree) = some_is _ _ names in
-    absurd (check_or_search p.0 (ap (λ (q : Both). q.0) pair) asked.0.0)
+check_of words (Some p) file tree (asked.Search own written all workers quiet) names asked =
+    let pair : named_check p ≡ (codes "check", Some file, Some tree, false) = some_is _ _ names in
+    absurd (check_or_search p.0 (ap (λ (q : Check). q.0) pair) asked.0.0)
 check_of words (Some p) file tree (asked.Run own faults) names asked =
-    let pair : named_both (codes "tree") p ≡ (codes "check", Some file, Some tree) = some_is _ _ names in
-    absurd (check_or_run p.0 (ap (λ (q : Both). q.0) pair) asked.0.0)
-check_of words (Some p) file tree (asked.Check own own_tree) names asked =
-    let pair : named_both (codes "tree") p ≡ (codes "check", Some file, Some tree) = some_is _ _ names in
-    let same : own.bytes.items ≡ file = some_is _ _ (sym asked.0.1 ∙ ap (λ (q : Both). q.1) pair) in
-    let same_too : own_tree.bytes.items ≡ tree = some_is _ _ (sym asked.0.2 ∙ ap (λ (q : Both). q.2) pair) in
-    record { texts = rw (same, same_too) refl; unwritten = refl; one = refl; alone = refl }
-check_of words (Some p) file tree (asked.Answer own) names asked =
-    let pair : named_both (codes "tree") p ≡ (codes "check", Some file, Some tree) = some_is _ _ names in
-    absurd (answer_or_check p.0 asked.0.0 (ap (λ (q : Both). q.0) pair))
+    let pair : named_check p ≡ (codes "check", Some file, Some tree, false) = some_is _ _ names in
+    absurd (check_or_run p.0 (ap (λ (q : Check). q.0) pair) asked.0.0)
+check_of words (Some p) file tree (asked.Check own own_tree quiet) names asked =
+    let pair : named_check p ≡ (codes "check", Some file, Some tree, false) = some_is _ _ names in
+    let same : own.bytes.items ≡ file = some_is _ _ (sym asked.0.1 ∙ ap (λ (q : Check). q.1) pair) in
+    let same_too : own_tree.bytes.items ≡ tree = some_is _ _ (sym asked.0.2 ∙ ap (λ (q : Check). q.2) pair) in
+    record {
+      texts = rw (same, same_too) refl;
+      unwritten = refl;
+      one = refl;
+      alone = refl;
+      told = sym asked.0.3 ∙ ap (λ (q : Check). q.3) pair;
+    }
+check_of words (Some p) file tree (asked.Answer own quiet) names asked =
+    let pair : named_check p ≡ (codes "check", Some file, Some tree, false) = some_is _ _ names in
+    absurd (answer_or_check p.0 asked.0.0 (ap (λ (q : Check). q.0) pair))
 
 asks_check : (words : List Text) (o : Option (Text × List Row)) (file tree : String Global)
-    → option_map (named_both (codes "tree")) o ≡ Some (codes "check", Some (string_bytes file), Some (string_bytes tree))
-    → words ≡ codes "check" ∷ string_bytes file ∷ string_bytes tree ∷ [] → IsAskedIn words o (asked.Check file tree)
+    → option_map named_check o ≡ Some (codes "check", Some (string_bytes file), Some (string_bytes tree), false)
+    → words ≡ codes "check" ∷ string_bytes file ∷ string_bytes tree ∷ [] → IsAskedIn words o (asked.Check file tree false)
 asks_check words None file tree names is = absurd (no_thing _ names)
 asks_check words (Some p) file tree names is =
-    let pair : named_both (codes "tree") p ≡ (codes "check", Some (string_bytes file), Some (string_bytes tree)) = some_is _ _ names in
-    ((ap (λ (q : Both). q.0) pair, ap (λ (q : Both). q.1) pair, ap (λ (q : Both). q.2) pair), rw (is) (inl (refl, inl (refl, inl (refl, tt)))))
+    let pair : named_check p ≡ (codes "check", Some (string_bytes file), Some (string_bytes tree), false) = some_is _ _ names in (
+      (ap (λ (q : Check). q.0) pair, ap (λ (q : Check). q.1) pair, ap (λ (q : Check). q.2) pair, ap (λ (q : Check). q.3) pair),
+      rw (is) (inl (refl, inl (refl, inl (refl, tt)))),
+    )
 
 answer_of : (words : List Text) (o : Option (Text × List Row)) (file : Text) (a : Asked)
-    → option_map named_one o ≡ Some (codes "answer", Some file) → IsAskedIn words o a → IsPlainly (codes "answer" ∷ file ∷ []) a
+    → option_map named_one o ≡ Some (codes "answer", Some file, false) → IsAskedIn words o a → IsPlainly (codes "answer" ∷ file ∷ []) a
 answer_of words None file a names asked = elim asked [ ]
-answer_of words (Some p) file (asked.Search own tree all workers) names asked =
-    let found : named_one p ≡ (codes "answer", Some file) = some_is _ _ names in
+answer_of words (Some p) file (asked.Search own tree all workers quiet) names asked =
+    let found : named_one p ≡ (codes "answer", Some file, false) = some_is _ _ names in
     absurd (answer_or_search p.0 (ap (λ (q : One). q.0) found) asked.0.0)
 answer_of words (Some p) file (asked.Run own faults) names asked =
-    let found : named_one p ≡ (codes "answer", Some file) = some_is _ _ names in
+    let found : named_one p ≡ (codes "answer", Some file, false) = some_is _ _ names in
     absurd (answer_or_run p.0 (ap (λ (q : One). q.0) found) asked.0.0)
-answer_of words (Some p) file (asked.Check own tree) names asked =
-    let found : named_one p ≡ (codes "answer", Some file) = some_is _ _ names in
+answer_of words (Some p) file (asked.Check own tree quiet) names asked =
+    let found : named_one p ≡ (codes "answer", Some file, false) = some_is _ _ names in
     absurd (answer_or_check p.0 (ap (λ (q : One). q.0) found) asked.0.0)
-answer_of words (Some p) file (asked.Answer own) names asked =
-    let found : named_one p ≡ (codes "answer", Some file) = some_is _ _ names in
+answer_of words (Some p) file (asked.Answer own quiet) names asked =
+    let found : named_one p ≡ (codes "answer", Some file, false) = some_is _ _ names in
     let same : own.bytes.items ≡ file = some_is _ _ (sym asked.0.1 ∙ ap (λ (q : One). q.1) found) in
-    record { texts = rw (same) refl; unwritten = refl; one = refl; alone = refl }
+    record {
+      texts = rw (same) refl;
+      unwritten = refl;
+      one = refl;
+      alone = refl;
+      told = sym asked.0.2 ∙ ap (λ (q : One). q.2) found;
+    }
 
 asks_answer : (words : List Text) (o : Option (Text × List Row)) (file : String Global)
-    → option_map named_one o ≡ Some (codes "answer", Some (string_bytes file))
-    → words ≡ codes "answer" ∷ string_bytes file ∷ [] → IsAskedIn words o (asked.Answer file)
+    → option_map named_one o ≡ Some (codes "answer", Some (string_bytes file), false)
+    → words ≡ codes "answer" ∷ string_bytes file ∷ [] → IsAskedIn words o (asked.Answer file false)
 asks_answer words None file names is = absurd (no_thing _ names)
 asks_answer words (Some p) file names is =
-    let found : named_one p ≡ (codes "answer", Some (string_bytes file)) = some_is _ _ names in
-    ((ap (λ (q : One). q.0) found, ap (λ (q : One). q.1) found), rw (is) (inl (refl, inl (refl, tt))))
+    let found : named_one p ≡ (codes "answer", Some (string_bytes file), false) = some_is _ _ names in
+    ((ap (λ (q : One). q.0) found, ap (λ (q : One). q.1) found, ap (λ (q : One). q.2) found), rw (is) (inl (refl, inl (refl, tt))))
 
 -- words that are taken, and ask for something that can be done, are refused for want of memory alone
 only_memory : (words : List Text) (a : Asked) (u : Unasked) → Asks words a → ((b : Asked) → Asks words b → shares_input b ≡ true → ⊥)
@@ -251,14 +270,14 @@ asks_plainly (command ∷ one ∷ other ∷ more ∷ rest) a plain asks = absurd
 
 -- what shares standard input isn't asked for by plain words
 shared_not_plain : (a : Asked) → shares_input a ≡ true → is_plain_command (texts_of a) ≡ true → ⊥
-shared_not_plain (asked.Search file tree all workers) shared plain = no_truth shared
+shared_not_plain (asked.Search file tree all workers quiet) shared plain = no_truth shared
 shared_not_plain (asked.Run file faults) shared plain = no_truth shared
-shared_not_plain (asked.Check file tree) shared plain =
+shared_not_plain (asked.Check file tree quiet) shared plain =
     elim (two_are (codes "check") file.bytes.items tree.bytes.items plain).0 [
       | inl run ↦ check_or_run (codes "check") refl run
       | inr check ↦ no_truth (sym (not-true _ check.1) ∙ shared)
     ]
-shared_not_plain (asked.Answer file) shared plain = no_truth shared
+shared_not_plain (asked.Answer file quiet) shared plain = no_truth shared
 
 can_be_done : (words : List Text) → is_plain_command words ≡ true → (a : Asked) → Asks words a → shares_input a ≡ true → ⊥
 can_be_done words plain a asks shared =
@@ -273,7 +292,7 @@ asks_some (command ∷ file ∷ []) plain =
       | inl search ↦
           let words = codes "search" ∷ string_bytes file ∷ [] in
           subst (λ c. (a : Asked) × Asks (c ∷ string_bytes file ∷ []) a) (sym search) (
-            asked.Search file None false 1,
+            asked.Search file None false 1 false,
             (
               search_fault (string_bytes file) is.1,
               asks_search words (subcommand_of program words) file (search_names (string_bytes file) is.1) refl,
@@ -282,7 +301,7 @@ asks_some (command ∷ file ∷ []) plain =
       | inr answer ↦
           let words = codes "answer" ∷ string_bytes file ∷ [] in
           subst (λ c. (a : Asked) × Asks (c ∷ string_bytes file ∷ []) a) (sym answer) (
-            asked.Answer file,
+            asked.Answer file false,
             (
               answer_fault (string_bytes file) is.1,
               asks_answer words (subcommand_of program words) file (answer_names (string_bytes file) is.1) refl,
@@ -304,7 +323,7 @@ asks_some (command ∷ one ∷ other ∷ []) plain =
       | inr check ↦
           let words = codes "check" ∷ string_bytes one ∷ string_bytes other ∷ [] in
           subst (λ c. (a : Asked) × Asks (c ∷ string_bytes one ∷ string_bytes other ∷ []) a) (sym check.0) (
-            asked.Check one other,
+            asked.Check one other false,
             (
               check_fault (string_bytes one) (string_bytes other) is.1 is.2,
               asks_check words (subcommand_of program words) one other (check_names (string_bytes one) (string_bytes other) is.1 is.2) refl,
@@ -346,13 +365,13 @@ size (x ∷ y ∷ z ∷ []) = 3
 size (x ∷ y ∷ z ∷ more ∷ rest) = 4
 
 shared_is : (a : Asked) → texts_of a ≡ shared_words → shares_input a ≡ true
-shared_is (asked.Search file tree all workers) is = absurd (apart 2 3 (omega arith) (ap size is))
+shared_is (asked.Search file tree all workers quiet) is = absurd (apart 2 3 (omega arith) (ap size is))
 shared_is (asked.Run file faults) is = absurd (check_or_run (codes "check") refl (sym (ap head is)))
-shared_is (asked.Check file tree) is =
+shared_is (asked.Check file tree quiet) is =
     let one : is_input file.bytes.items ≡ true = (bytes_eq-Decides file.bytes.items (codes "-")).1 (ap second is) in
     let other : is_input tree.bytes.items ≡ true = (bytes_eq-Decides tree.bytes.items (codes "-")).1 (ap third is) in
     rw (one, other) refl
-shared_is (asked.Answer file) is = absurd (apart 2 3 (omega arith) (ap size is))
+shared_is (asked.Answer file quiet) is = absurd (apart 2 3 (omega arith) (ap size is))
 
 pub shared_is_refused : (words : List Text) (a : Asked) → words ≡ shared_words → Asks words a → shares_input a ≡ false → ⊥
 shared_is_refused words a is asks possible =
@@ -373,11 +392,11 @@ shared_refusal [] u is refusal = absurd (apart 0 3 (omega arith) (ap size is))
 shared_refusal (command ∷ []) u is refusal = absurd (apart 1 3 (omega arith) (ap size is))
 shared_refusal (command ∷ file ∷ []) u is refusal = absurd (apart 2 3 (omega arith) (ap size is))
 shared_refusal (command ∷ file ∷ tree ∷ []) u is refusal =
-    let names : option_map (named_both (codes "tree")) (subcommand_of program shared_words)
-    ≡ Some (codes "check", Some (string_bytes file), Some (string_bytes tree)) =
+    let names : option_map named_check (subcommand_of program shared_words)
+    ≡ Some (codes "check", Some (string_bytes file), Some (string_bytes tree), false) =
     rw (ap second is, ap third is) (check_names (codes "-") (codes "-") minus_is_taken minus_is_taken) in
     let words : shared_words ≡ codes "check" ∷ string_bytes file ∷ string_bytes tree ∷ [] = rw (ap second is, ap third is) refl in
-    only_shared (asked.Check file tree) u (
+    only_shared (asked.Check file tree false) u (
       check_fault (codes "-") (codes "-") minus_is_taken minus_is_taken,
       asks_check shared_words (subcommand_of program shared_words) file tree names words,
     )

@@ -20,9 +20,17 @@ each = record (new_rule (codes "all")) { long = Some (codes "all"); action = Som
 abbrev pub workers : Rule
 workers = record (new_rule (codes "workers")) { long = Some (codes "workers"); value_names = 1 }
 
+-- the flag --quiet
+abbrev pub quiet : Rule
+quiet = record (new_rule (codes "quiet")) { long = Some (codes "quiet"); action = Some SetTrue }
+
+-- search FILE, with all but its last flag
+abbrev pub loud_search : App
+loud_search = with_rule (with_rule (with_rule (with_rule (new_app (codes "search")) file) written) each) workers
+
 -- search FILE
 abbrev pub search : App
-search = with_rule (with_rule (with_rule (with_rule (new_app (codes "search")) file) written) each) workers
+search = with_rule loud_search quiet
 
 -- the argument FAULTS
 abbrev pub faults : Rule
@@ -38,11 +46,11 @@ tree = record (new_rule (codes "tree")) { required = true; value_names = 1 }
 
 -- check FILE TREE
 abbrev pub check : App
-check = with_rule (with_rule (new_app (codes "check")) file) tree
+check = with_rule (with_rule (with_rule (new_app (codes "check")) file) tree) quiet
 
 -- answer FILE
 abbrev pub answer : App
-answer = with_rule (new_app (codes "answer")) file
+answer = with_rule (with_rule (new_app (codes "answer")) file) quiet
 
 -- the words are all after the program's name, there is a version and no command `help`, and one command has to be named
 abbrev pub plain : App

@@ -20,31 +20,38 @@ IsPartOf (text ∷ texts) (word ∷ words) = ((text ≡ word) × IsPartOf texts 
 
 -- the command, and what it requires
 abbrev pub texts_of : Asked → List Text
-texts_of (asked.Search file tree all workers) = codes "search" ∷ file.bytes.items ∷ []
+texts_of (asked.Search file tree all workers quiet) = codes "search" ∷ file.bytes.items ∷ []
 texts_of (asked.Run file faults) = codes "run" ∷ file.bytes.items ∷ faults.bytes.items ∷ []
-texts_of (asked.Check file tree) = codes "check" ∷ file.bytes.items ∷ tree.bytes.items ∷ []
-texts_of (asked.Answer file) = codes "answer" ∷ file.bytes.items ∷ []
+texts_of (asked.Check file tree quiet) = codes "check" ∷ file.bytes.items ∷ tree.bytes.items ∷ []
+texts_of (asked.Answer file quiet) = codes "answer" ∷ file.bytes.items ∷ []
 
 -- the file for a certificate that is to be written
 abbrev pub written_to : Asked → Option Text
-written_to (asked.Search file tree all workers) = option_map (λ t. t.bytes.items) tree
+written_to (asked.Search file tree all workers quiet) = option_map (λ t. t.bytes.items) tree
 written_to (asked.Run file faults) = None
-written_to (asked.Check file tree) = None
-written_to (asked.Answer file) = None
+written_to (asked.Check file tree quiet) = None
+written_to (asked.Answer file quiet) = None
 
 -- all least sets are to be told
 abbrev pub wants_all : Asked → Bool
-wants_all (asked.Search file tree all workers) = all
+wants_all (asked.Search file tree all workers quiet) = all
 wants_all (asked.Run file faults) = false
-wants_all (asked.Check file tree) = false
-wants_all (asked.Answer file) = false
+wants_all (asked.Check file tree quiet) = false
+wants_all (asked.Answer file quiet) = false
 
 -- how many workers are to do it
 abbrev pub workers_of : Asked → ℕ
-workers_of (asked.Search file tree all workers) = workers
+workers_of (asked.Search file tree all workers quiet) = workers
 workers_of (asked.Run file faults) = 1
-workers_of (asked.Check file tree) = 1
-workers_of (asked.Answer file) = 1
+workers_of (asked.Check file tree quiet) = 1
+workers_of (asked.Answer file quiet) = 1
+
+-- nothing is to be told on the way
+abbrev pub is_quiet : Asked → Bool
+is_quiet (asked.Search file tree all workers quiet) = quiet
+is_quiet (asked.Run file faults) = false
+is_quiet (asked.Check file tree quiet) = quiet
+is_quiet (asked.Answer file quiet) = quiet
 
 -- just these words are asked for, and no option
 pub record IsPlainly (words : List Text) (a : Asked) : Type 0 where
@@ -52,6 +59,7 @@ pub record IsPlainly (words : List Text) (a : Asked) : Type 0 where
   pub unwritten : written_to a ≡ None
   pub one : wants_all a ≡ false
   pub alone : workers_of a ≡ 1
+  pub told : is_quiet a ≡ false
 
 -- the file is standard input
 abbrev pub is_input : Text → Bool
@@ -59,10 +67,10 @@ is_input file = bytes_eq file (codes "-")
 
 -- two texts are to be read from standard input
 abbrev pub shares_input : Asked → Bool
-shares_input (asked.Search file tree all workers) = false
+shares_input (asked.Search file tree all workers quiet) = false
 shares_input (asked.Run file faults) = false
-shares_input (asked.Check file tree) = is_input file.bytes.items && is_input tree.bytes.items
-shares_input (asked.Answer file) = false
+shares_input (asked.Check file tree quiet) = is_input file.bytes.items && is_input tree.bytes.items
+shares_input (asked.Answer file quiet) = false
 
 -- what `clap` has of a flag, which is on where it is among the words
 abbrev pub is_set : Option Text → Bool
@@ -81,14 +89,15 @@ AreNamed (Some text) n =
 
 -- the command of this name with these matches asks for this
 abbrev pub IsMatched : Text → List Row → Asked → Type 0
-IsMatched name rows (asked.Search file tree all workers) = (name ≡ codes "search") × (first_of (codes "file") rows ≡ Some file.bytes.items)
+IsMatched name rows (asked.Search file tree all workers quiet) = (name ≡ codes "search") × (first_of (codes "file") rows ≡ Some file.bytes.items)
     × (first_of (codes "tree") rows ≡ option_map (λ t. t.bytes.items) tree) × (is_set (first_of (codes "all") rows) ≡ all)
-    × AreNamed (first_of (codes "workers") rows) workers
+    × AreNamed (first_of (codes "workers") rows) workers × (is_set (first_of (codes "quiet") rows) ≡ quiet)
 IsMatched name rows (asked.Run file faults) = (name ≡ codes "run") × (first_of (codes "file") rows ≡ Some file.bytes.items)
     × (first_of (codes "faults") rows ≡ Some faults.bytes.items)
-IsMatched name rows (asked.Check file tree) = (name ≡ codes "check") × (first_of (codes "file") rows ≡ Some file.bytes.items)
-    × (first_of (codes "tree") rows ≡ Some tree.bytes.items)
-IsMatched name rows (asked.Answer file) = (name ≡ codes "answer") × (first_of (codes "file") rows ≡ Some file.bytes.items)
+IsMatched name rows (asked.Check file tree quiet) = (name ≡ codes "check") × (first_of (codes "file") rows ≡ Some file.bytes.items)
+    × (first_of (codes "tree") rows ≡ Some tree.bytes.items) × (is_set (first_of (codes "quiet") rows) ≡ quiet)
+IsMatched name rows (asked.Answer file quiet) = (name ≡ codes "answer") × (first_of (codes "file") rows ≡ Some file.bytes.items)
+    × (is_set (first_of (codes "quiet") rows) ≡ quiet)
 
 -- it asks for this, and of words that are there
 abbrev pub IsAskedBy : List Text → Text → List Row → Asked → Type 0

@@ -3,8 +3,8 @@
 ghost use Rattle.std.specs.Prelude.{◌≡◌, IfOk, false};
 ghost use Rattle.clap.specs.Words.{app_of, rule_of};
 ghost use Rattle.clap.specs.declared.builder.command.Command.TheViews.{out-Command};
-ghost use Rattle.lf_words.specs.Commands.{workers, written};
-ghost use Rattle.lf_words.specs.Commands.{answer, check, each, file, plain, program, run, search, tree, without_answer};
+ghost use Rattle.lf_words.specs.Commands.{loud_search, workers, written};
+ghost use Rattle.lf_words.specs.Commands.{answer, check, each, file, plain, program, quiet, run, search, tree, without_answer};
 
 use clap::{Arg, ArgAction, Command};
 use std::alloc::{AllocError, Global};
@@ -66,9 +66,16 @@ fn plain<'a>(alloc: Global) -> Command<'a>
         .after_help(WORDS)
 }
 
-/// The command `search FILE`, with the options `--tree TREE` and `--workers N` and the flag `--all`.
+/// The command `search FILE`, with the options `--tree TREE` and `--workers N` and the flags `--all` and `--quiet`.
 fn search<'a>(alloc: Global) -> Result<Command<'a>, AllocError>
     ensures { IfOk result (λ c. (app_of c ≡ search) × ((out-Command c).has_globals ≡ false)) }
+{
+    loud_search(alloc)?.arg(quiet(alloc))
+}
+
+/// The command `search FILE` without the flag `--quiet`.
+fn loud_search<'a>(alloc: Global) -> Result<Command<'a>, AllocError>
+    ensures { IfOk result (λ c. (app_of c ≡ loud_search) × ((out-Command c).has_globals ≡ false)) }
 {
     Command::new(alloc, "search")
         .about("Prints the fewest faults with which the scenario FILE misses its outcome, or none")
@@ -94,7 +101,7 @@ fn run<'a>(alloc: Global) -> Result<Command<'a>, AllocError>
         .arg(faults)
 }
 
-/// The command `check FILE TREE`.
+/// The command `check FILE TREE`, with the flag `--quiet`.
 fn check<'a>(alloc: Global) -> Result<Command<'a>, AllocError>
     ensures { IfOk result (λ c. (app_of c ≡ check) × ((out-Command c).has_globals ≡ false)) }
 {
@@ -103,10 +110,11 @@ fn check<'a>(alloc: Global) -> Result<Command<'a>, AllocError>
             "Judges the certificate TREE of an answer to the scenario FILE: prints yes, or why not",
         )
         .arg(file(alloc))?
-        .arg(tree(alloc))
+        .arg(tree(alloc))?
+        .arg(quiet(alloc))
 }
 
-/// The command `answer FILE`.
+/// The command `answer FILE`, with the flag `--quiet`.
 fn answer<'a>(alloc: Global) -> Result<Command<'a>, AllocError>
     ensures { IfOk result (λ c. (app_of c ≡ answer) × ((out-Command c).has_globals ≡ false)) }
 {
@@ -114,7 +122,8 @@ fn answer<'a>(alloc: Global) -> Result<Command<'a>, AllocError>
         .about(
             "Prints what search does, by another way that no bound of the scenario on how many sets are kept can stop, and that makes no certificate",
         )
-        .arg(file(alloc))
+        .arg(file(alloc))?
+        .arg(quiet(alloc))
 }
 
 /// The argument TREE.
@@ -155,6 +164,18 @@ fn workers<'a>(alloc: Global) -> Arg<'a>
         .long("workers")
         .value_name("N")
         .help("Searches by N workers at once, 1 to 32: the answer is the same for every N")
+}
+
+/// The flag `--quiet`.
+fn quiet<'a>(alloc: Global) -> Arg<'a>
+    ensures { (rule_of result ≡ quiet) × (result.global ≡ false) }
+{
+    Arg::new(alloc, "quiet")
+        .long("quiet")
+        .action(ArgAction::SetTrue)
+        .help(
+            "Tells nothing on the way: otherwise standard error, where it is a terminal, says how far it has come",
+        )
 }
 
 /// The argument FILE.

@@ -17,6 +17,8 @@ pub enum Asked {
         all: bool,
         /// How many workers are to search, 1..=32.
         workers: u32,
+        /// Whether nothing is to be told on the way.
+        quiet: bool,
     },
     /// To run a scenario once, under faults that are given.
     Run {
@@ -31,11 +33,15 @@ pub enum Asked {
         file: String,
         /// The file of the certificate.
         tree: String,
+        /// Whether nothing is to be told on the way.
+        quiet: bool,
     },
     /// To tell the answer to a scenario alone, with no bound on how much a level keeps.
     Answer {
         /// The file of the scenario.
         file: String,
+        /// Whether nothing is to be told on the way.
+        quiet: bool,
     },
 }
 
@@ -45,7 +51,7 @@ impl Asked {
         ensures { result ≡ shares_input self.now }
     {
         match self {
-            Asked::Check { file, tree } => file.as_str() == "-" && tree.as_str() == "-",
+            Asked::Check { file, tree, .. } => file.as_str() == "-" && tree.as_str() == "-",
             Asked::Search { .. } | Asked::Run { .. } | Asked::Answer { .. } => false,
         }
     }

@@ -46,6 +46,7 @@ pub fn asked(alloc: Global, words: &[String]) -> Result<Asked, Unasked>
             tree: None,
             all: false,
             workers: 1,
+            quiet: false,
         });
     }
     match program(alloc)?.try_get_matches_from(words) {
@@ -114,6 +115,7 @@ fn search(
         tree,
         all: is_set(matches, "all"),
         workers,
+        quiet: is_set(matches, "quiet"),
     }))
 }
 
@@ -184,6 +186,7 @@ fn check(
     Ok(Some(Asked::Check {
         file: String::from_str(alloc, file)?,
         tree: String::from_str(alloc, tree)?,
+        quiet: is_set(matches, "quiet"),
     }))
 }
 
@@ -204,6 +207,7 @@ fn answer(
     }
     Ok(Some(Asked::Answer {
         file: String::from_str(alloc, file)?,
+        quiet: is_set(matches, "quiet"),
     }))
 }
 

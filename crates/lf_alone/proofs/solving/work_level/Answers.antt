@@ -6,12 +6,12 @@ use Rattle.lf_marks.proofs.Laws.{none-ready}
 use Rattle.lf_alone.proofs.solving.work_level.Goals as goal
 
 pub work_next-requires-clause-ready : goal.work_next-requires-clause-ready
-work_next-requires-clause-ready c =
+work_next-requires-clause-ready g c =
     let n = c.counts.result in
     some_ready (state_of c.sets.book).marks n.ready n.claimed n.answered n.waiting c.sets-test.true c.counts.ensures
 
 pub returns-clause-done : goal.returns-clause-done
-returns-clause-done c =
+returns-clause-done g c =
     let n = c.counts.result in
     let at = (state_of c.sets.book).marks in
     let no : n.ready ≡ 0 = omega (arith, c.sets-test.false) in
