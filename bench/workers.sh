@@ -57,7 +57,7 @@ apart() {
 # unworked SCENARIO WORKERS: prints how much of a hundred parts of the workers' time they worked no set
 unworked() {
     "$program" "$2" shares <"$1" 2>&1 >/dev/null |
-        awk '/of work$/ { printf "%.0f\n", $1 > 0 ? 100 * ($1 - $5) / $1 : 0 }'
+        awk '/of work$/ { if ($1 > 0) printf "%.0f\n", 100 * ($1 - $5) / $1; else print 0 }'
 }
 
 # ratio A B: prints A / B, or - where B is nothing
