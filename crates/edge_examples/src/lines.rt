@@ -28,6 +28,11 @@ fn why(unasked: &Unasked) -> &'static str {
     }
 }
 
+/// How a table says whether nothing is to be told on the way.
+fn stillness(quiet: bool) -> &'static str {
+    if quiet { ";quiet" } else { "" }
+}
+
 /// What the words ask for, as a table says it.
 fn said(alloc: Global, words: &str) -> Result<String, AllocError> {
     match asked(alloc, owned(alloc, words)?.as_slice()) {
@@ -37,17 +42,26 @@ fn said(alloc: Global, words: &str) -> Result<String, AllocError> {
                 tree,
                 all,
                 workers,
+                quiet,
             },
         ) => {
             let told = if all { ";all" } else { "" };
+            let still = stillness(quiet);
             match tree {
-                Some(tree) => format!(in alloc; ";search;{file};tree;{tree}{told};{workers}"),
-                None => format!(in alloc; ";search;{file}{told};{workers}"),
+                Some(tree) => format!(in alloc;
+                    ";search;{file};tree;{tree}{told};{workers}{still}"
+                ),
+                None => format!(in alloc; ";search;{file}{told};{workers}{still}"),
             }
         }
         Ok(Asked::Run { file, faults }) => format!(in alloc; ";run;{file};{faults}"),
-        Ok(Asked::Check { file, tree }) => format!(in alloc; ";check;{file};{tree}"),
-        Ok(Asked::Answer { file }) => format!(in alloc; ";answer;{file}"),
+        Ok(Asked::Check { file, tree, quiet }) => {
+            format!(in alloc; ";check;{file};{tree}{}", stillness(quiet))
+        }
+        Ok(Asked::Answer { file, quiet }) => format!(in alloc;
+            ";answer;{file}{}",
+            stillness(quiet)
+        ),
         Err(unasked) => String::from_str(alloc, why(&unasked)),
     }
 }
@@ -93,6 +107,10 @@ fn searches_name_their_file(rt: HostRuntime) -> Result<(), Fail> {
         ";search;a;--workers;4294967297|wrong\n",
         ";search;a;--workers|wrong\n",
         ";search;a;--workers;2;--workers;2|wrong\n",
+        ";search;a;--quiet|;search;a;1;quiet\n",
+        ";search;--quiet;a;--all;--tree;t|;search;a;tree;t;all;1;quiet\n",
+        ";search;a;--quiet;--workers;2|;search;a;2;quiet\n",
+        ";search;--;--quiet|;search;--quiet;1\n",
     );
     check_lines(&rt, rt.alloc(), table)
 }
@@ -119,7 +137,10 @@ fn checks_name_their_file_and_their_tree(rt: HostRuntime) -> Result<(), Fail> {
         ";check;a.toml;-|;check;a.toml;-\n",
         ";check;check;|;check;check;\n",
         ";check;--;-a;-|;check;-a;-\n",
+        ";check;a;b;--quiet|;check;a;b;quiet\n",
+        ";check;--quiet;a;-|;check;a;-;quiet\n",
         ";check;-;-|shared\n",
+        ";check;-;--quiet;-|shared\n",
         ";check;--;-;-|shared\n",
     );
     check_lines(&rt, rt.alloc(), table)
@@ -134,6 +155,7 @@ fn answers_name_their_file(rt: HostRuntime) -> Result<(), Fail> {
         ";answer;answer|;answer;answer\n",
         ";answer|wrong\n",
         ";answer;a;b|wrong\n",
+        ";answer;a;--quiet|;answer;a;quiet\n",
         ";answer;a;--all|wrong\n",
         ";answer;--help|help\n",
     );
@@ -159,6 +181,10 @@ fn wrong_words_are_refused(rt: HostRuntime) -> Result<(), Fail> {
         ";search;a;--all;--all|wrong\n",
         ";search;a;--all=true|wrong\n",
         ";search;a;--al|wrong\n",
+        ";search;a;--quiet;--quiet|wrong\n",
+        ";search;a;--quiet=true|wrong\n",
+        ";run;a;;--quiet|wrong\n",
+        ";--quiet;search;a|wrong\n",
         ";run;a;;--all|wrong\n",
         ";check;a;b;--all|wrong\n",
         ";run;a;;--tree;b|wrong\n",

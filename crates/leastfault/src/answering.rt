@@ -13,8 +13,8 @@ ghost use Rattle.leastfault.specs.Replies.{IsAnswerReply, IsRunReply, IsSearched
 ghost use Rattle.leastfault.specs.Searches.{IsFoundFor};
 ghost use Rattle.leastfault.specs.Reports.{full_line, no_set_line, refusal, run_status, search_status};
 
-use crate::{all_report, full_line, merged_answer, refusal, report};
-use lf_alone::{Ended, solve};
+use crate::{all_report, full_line, merged_watched, refusal, report};
+use lf_alone::{Ended, solve_watched};
 use lf_book::Book;
 use lf_faults::{FaultSet, admits};
 use lf_outcome::holds;
@@ -22,6 +22,7 @@ use lf_scenario::{Scenario, ScenarioError, read};
 use lf_sim::run;
 use lf_trace::{read_faults, trace};
 use lf_tree::Tree;
+use lf_watch::Watch;
 use std::alloc::{AllocError, Global};
 use std::sync::Arc;
 
@@ -40,8 +41,8 @@ pub(crate) struct Found {
 }
 
 /// What a search is to report.
-#[derive(Clone, Copy)]
-pub(crate) enum Wanted {
+#[derive(Clone, Copy, Debug)]
+pub enum Wanted {
     /// The answer: the first of the least sets.
     Answer,
     /// All least sets.
@@ -49,12 +50,17 @@ pub(crate) enum Wanted {
 }
 
 /// The reply of a search to a scenario's text.
-pub(crate) fn search_reply(alloc: Global, wanted: Wanted, text: &[u8]) -> Result<Found, AllocError>
+pub(crate) fn search_reply<V: Watch>(
+    alloc: Global,
+    wanted: Wanted,
+    text: &[u8],
+    watch: &V,
+) -> Result<Found, AllocError>
     ensures { IfOk result (λ found.
         IsSearchedWith (reports_of wanted) found.tree text.now (string_bytes found.reply.text) found.reply.status) }
 {
     match read(alloc, text) {
-        Ok(scenario) => searched(alloc, wanted, scenario),
+        Ok(scenario) => searched(alloc, wanted, scenario, watch),
         Err(error) => Ok(Found {
             reply: refused(alloc, error)?,
             tree: None,
@@ -63,10 +69,15 @@ pub(crate) fn search_reply(alloc: Global, wanted: Wanted, text: &[u8]) -> Result
 }
 
 /// The reply of a search for a scenario.
-fn searched(alloc: Global, wanted: Wanted, scenario: Scenario) -> Result<Found, AllocError>
+fn searched<V: Watch>(
+    alloc: Global,
+    wanted: Wanted,
+    scenario: Scenario,
+    watch: &V,
+) -> Result<Found, AllocError>
     ensures { IfOk result (IsFoundFor wanted scenario) }
 {
-    match solve(alloc, Arc::new(alloc, scenario)?)? {
+    match solve_watched(alloc, Arc::new(alloc, scenario)?, watch)? {
         Ended::Finished(book) => {
             let reply = reported(alloc, wanted, &book)?;
             let made = book.into_tree();
@@ -112,20 +123,28 @@ fn least_sets(book: &Book) -> Result<Vec<FaultSet>, AllocError>
 }
 
 /// The reply that tells the answer to a scenario's text.
-pub(crate) fn answer_reply(alloc: Global, text: &[u8]) -> Result<Reply, AllocError>
+pub(crate) fn answer_reply<V: Watch>(
+    alloc: Global,
+    text: &[u8],
+    watch: &V,
+) -> Result<Reply, AllocError>
     ensures { IfOk result (λ reply. IsAnswerReply text.now (string_bytes reply.text) reply.status) }
 {
     match read(alloc, text) {
-        Ok(scenario) => answered(alloc, &scenario),
+        Ok(scenario) => answered(alloc, &scenario, watch),
         Err(why) => refused(alloc, why),
     }
 }
 
 /// The reply that tells the answer to a scenario.
-fn answered(alloc: Global, scenario: &Scenario) -> Result<Reply, AllocError>
+fn answered<V: Watch>(
+    alloc: Global,
+    scenario: &Scenario,
+    watch: &V,
+) -> Result<Reply, AllocError>
     ensures { IfOk result (λ reply. RepliesAnswer scenario.now (string_bytes reply.text) reply.status) }
 {
-    let answer = merged_answer(alloc, scenario)?;
+    let answer = merged_watched(alloc, scenario, watch)?;
     Ok(Reply {
         text: report(alloc, scenario.setting().spec.budget(), &answer)?,
         status: search_status(&answer),

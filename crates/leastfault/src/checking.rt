@@ -7,9 +7,10 @@ ghost use Rattle.leastfault.specs.Reports.{check_status, judgement, tree_refusal
 
 use crate::answering::{Reply, refused};
 use crate::{judgement, tree_refusal};
-use lf_check::{Verdict, check, check_rows};
+use lf_check::{Verdict, check, check_rows_watched};
 use lf_scenario::{Scenario, read};
 use lf_tree::{Tree, TreeFault, read_tree, types_are_kept};
+use lf_watch::Watch;
 use std::alloc::{AllocError, Global};
 use std::thread::Threads;
 
@@ -38,17 +39,21 @@ pub(crate) fn check_reply(
 }
 
 /// The same, where the tree is judged in as many threads as there are processors.
-pub(crate) fn check_reply_rows(
+pub(crate) fn check_reply_rows<V: Watch>(
     rt: &(impl Threads + Sync),
     alloc: Global,
     text: &[u8],
     certificate: &[u8],
+    watch: &V,
 ) -> Result<Reply, AllocError>
     ensures { IfOk result (λ reply.
         IsCheckReply text.now certificate.now (string_bytes reply.text) reply.status) }
 {
     match read_both(alloc, text, certificate)? {
-        Given::Both { scenario, tree } => judged(alloc, &check_rows(rt, alloc, &scenario, &tree)?),
+        Given::Both { scenario, tree } => {
+            let verdict = check_rows_watched(rt, alloc, &scenario, &tree, watch)?;
+            judged(alloc, &verdict)
+        }
         Given::Refused(reply) => Ok(reply),
     }
 }

@@ -4,16 +4,17 @@ ghost use Rattle.std.specs.Prelude.{◌≡◌, ◌≢◌, ℕ, ◌+◌, ◌<◌,
 ghost use Rattle.std.specs.Io.KnownBytes.{Appends};
 ghost use Rattle.lf_scenario.specs.Limits.{longest};
 ghost use Rattle.lf_tree.specs.Texts.{most_bytes};
-ghost use Rattle.leastfault.specs.Replies.{IsAllReply, IsAnswerReply, IsCheckReply, IsReplyWith, IsRunReply, IsSearchReply};
-ghost use Rattle.leastfault.specs.Replies.{IsSearched, IsSearchedAll, IsSearchedWith, reports_of};
+ghost use Rattle.leastfault.specs.Replies.{IsAllReply, IsAnswerReply, IsCheckReply, IsRunReply, IsSearchReply};
+ghost use Rattle.leastfault.specs.Replies.{IsSearched, IsSearchedAll};
 ghost use Rattle.leastfault.specs.Replies.{ToBoth, ToHeld, TookAtMost, WrotePart, WroteReply, tells_read, tells_write};
 
-use crate::answering::{Reply, Wanted, answer_reply, run_reply, search_reply};
-use crate::checking::{check_reply, check_reply_rows};
-use crate::workers::shared_reply;
+use crate::answering::{Reply, Wanted, run_reply};
+use crate::checking::check_reply;
+use crate::watched::{answer_watched, check_watched, search_watched, shared_watched};
 use lf_scenario::LONGEST;
 use lf_streams::{ReadFault, Sink, Source, read_up_to, write_all};
 use lf_tree::Tree;
+use lf_watch::NoWatch;
 use std::alloc::Global;
 use std::rt::Clock;
 use std::sync::Wait;
@@ -76,7 +77,7 @@ pub fn search_bytes<R: Source, W: Sink>(
     // No more than one byte past the longest text is taken.
     ensures taken { TookAtMost (longest + 1) (R.left reader.old) (R.left reader.new) }
 {
-    search_for(alloc, Wanted::Answer, reader, writer)
+    search_watched(alloc, Wanted::Answer, reader, writer, &NoWatch)
 }
 
 /// The same as `search_bytes`, but where there is an answer the reply reports all least sets: `all K M`, and the M allowed sets of K
@@ -102,36 +103,7 @@ pub fn all_bytes<R: Source, W: Sink>(
     // No more than one byte past the longest text is taken.
     ensures taken { TookAtMost (longest + 1) (R.left reader.old) (R.left reader.new) }
 {
-    search_for(alloc, Wanted::AllLeast, reader, writer)
-}
-
-/// Reads a scenario, searches it, and writes the reply that reports what is wanted.
-fn search_for<R: Source, W: Sink>(
-    alloc: Global,
-    wanted: Wanted,
-    reader: &mut R,
-    writer: &mut W,
-) -> Result<Searched, BytesFault>
-    requires reader { R.has_failed reader.old ≡ false }
-    requires writer { W.has_failed writer.old ≡ false }
-    ensures reply { IfOk result (λ searched. WroteReply (ToHeld (IsSearchedWith (reports_of wanted) searched.tree) (R.left reader.old))
-        (W.written writer.old) (W.written writer.new) searched.status) }
-    ensures part { result ≡ Err BytesFault.Write →
-        WrotePart (ToHeld (IsReplyWith (reports_of wanted)) (R.left reader.old)) (W.written writer.old) (W.written writer.new) }
-    ensures unwritten { IfErr result (λ e. e ≢ BytesFault.Write → writer.new ≡ writer.old) }
-    ensures source { R.has_failed reader.new ≡ tells_read result }
-    ensures sink { W.has_failed writer.new ≡ tells_write result }
-    ensures taken { TookAtMost (longest + 1) (R.left reader.old) (R.left reader.new) }
-{
-    let text = read_text(alloc, reader, LONGEST)?;
-    let Ok(found) = search_reply(alloc, wanted, text.as_slice()) else {
-        return Err(BytesFault::Memory);
-    };
-    let status = send(writer, &found.reply)?;
-    Ok(Searched {
-        status,
-        tree: found.tree,
-    })
+    search_watched(alloc, Wanted::AllLeast, reader, writer, &NoWatch)
 }
 
 /// The same as `search_bytes`, but the search is made by so many workers at once, 1..=32: the reply, the tree and the status are the
@@ -159,7 +131,7 @@ pub fn search_shared<T: Threads + Wait + Clock + Sync, R: Source, W: Sink>(
     // No more than one byte past the longest text is taken.
     ensures taken { TookAtMost (longest + 1) (R.left reader.old) (R.left reader.new) }
 {
-    shared_for(rt, alloc, Wanted::Answer, workers, reader, writer)
+    shared_watched(rt, alloc, Wanted::Answer, workers, reader, writer, &NoWatch)
 }
 
 /// The same as `all_bytes`, by so many workers, as `search_shared`.
@@ -185,36 +157,7 @@ pub fn all_shared<T: Threads + Wait + Clock + Sync, R: Source, W: Sink>(
     // No more than one byte past the longest text is taken.
     ensures taken { TookAtMost (longest + 1) (R.left reader.old) (R.left reader.new) }
 {
-    shared_for(rt, alloc, Wanted::AllLeast, workers, reader, writer)
-}
-
-/// Reads a scenario, searches it by so many workers, and writes the reply that reports what is wanted.
-fn shared_for<T: Threads + Wait + Clock + Sync, R: Source, W: Sink>(
-    rt: &T,
-    alloc: Global,
-    wanted: Wanted,
-    workers: u32,
-    reader: &mut R,
-    writer: &mut W,
-) -> Result<Searched, BytesFault>
-    requires reader { R.has_failed reader.old ≡ false }
-    requires writer { W.has_failed writer.old ≡ false }
-    ensures reply { IfOk result (λ searched. WroteReply (ToHeld (IsSearchedWith (reports_of wanted) searched.tree) (R.left reader.old))
-        (W.written writer.old) (W.written writer.new) searched.status) }
-    ensures part { result ≡ Err BytesFault.Write →
-        WrotePart (ToHeld (IsReplyWith (reports_of wanted)) (R.left reader.old)) (W.written writer.old) (W.written writer.new) }
-    ensures unwritten { IfErr result (λ e. e ≢ BytesFault.Write → writer.new ≡ writer.old) }
-    ensures source { R.has_failed reader.new ≡ tells_read result }
-    ensures sink { W.has_failed writer.new ≡ tells_write result }
-    ensures taken { TookAtMost (longest + 1) (R.left reader.old) (R.left reader.new) }
-{
-    let text = read_text(alloc, reader, LONGEST)?;
-    let found = shared_reply(rt, alloc, wanted, workers, text.as_slice())?;
-    let status = send(writer, &found.reply)?;
-    Ok(Searched {
-        status,
-        tree: found.tree,
-    })
+    shared_watched(rt, alloc, Wanted::AllLeast, workers, reader, writer, &NoWatch)
 }
 
 /// Reads a scenario, and writes the report of its answer, or the line of its refusal. It answers the status: 0 where no allowed set of
@@ -245,11 +188,7 @@ pub fn answer_bytes<R: Source, W: Sink>(
     // No more than one byte past the longest text is taken.
     ensures taken { TookAtMost (longest + 1) (R.left reader.old) (R.left reader.new) }
 {
-    let text = read_text(alloc, reader, LONGEST)?;
-    let Ok(reply) = answer_reply(alloc, text.as_slice()) else {
-        return Err(BytesFault::Memory);
-    };
-    send(writer, &reply)
+    answer_watched(alloc, reader, writer, &NoWatch)
 }
 
 /// Reads a scenario, runs it under the set of faults that `faults` names, and writes the trace of that run. It answers the
@@ -358,16 +297,11 @@ pub fn check_bytes_rows<R: Source, S: Source, W: Sink>(
     ensures taken { TookAtMost (longest + 1) (R.left scenario_reader.old) (R.left scenario_reader.new) }
     ensures taken_too { TookAtMost (most_bytes + 1) (S.left tree_reader.old) (S.left tree_reader.new) }
 {
-    let text = read_text(alloc, scenario_reader, LONGEST)?;
-    let certificate = read_text(alloc, tree_reader, LONGEST_TREE)?;
-    let Ok(reply) = check_reply_rows(rt, alloc, text.as_slice(), certificate.as_slice()) else {
-        return Err(BytesFault::Memory);
-    };
-    send(writer, &reply)
+    check_watched(rt, alloc, scenario_reader, tree_reader, writer, &NoWatch)
 }
 
 /// What the source holds, or as much of it as tells that it is longer than `limit`.
-fn read_text<R: Source>(alloc: Global, reader: &mut R, limit: usize) -> Result<Vec<u8>, BytesFault>
+pub(crate) fn read_text<R: Source>(alloc: Global, reader: &mut R, limit: usize) -> Result<Vec<u8>, BytesFault>
     requires { R.has_failed reader.old ≡ false }
     ensures text { IfOk result (λ text.
         IfSome (R.left reader.old) (λ held. text.items ≡ take (limit + 1) held)) }
@@ -383,7 +317,7 @@ fn read_text<R: Source>(alloc: Global, reader: &mut R, limit: usize) -> Result<V
 }
 
 /// Writes a reply, and answers its status.
-fn send<W: Sink>(writer: &mut W, reply: &Reply) -> Result<u8, BytesFault>
+pub(crate) fn send<W: Sink>(writer: &mut W, reply: &Reply) -> Result<u8, BytesFault>
     requires { W.has_failed writer.old ≡ false }
     ensures whole { IfOk result (λ status. (status ≡ reply.now.status)
         × Appends (W.written writer.old) (W.written writer.new) (string_bytes reply.now.text)) }

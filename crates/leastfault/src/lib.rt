@@ -12,9 +12,12 @@ mod engine;
 mod laws;
 mod least;
 mod replies;
+mod telling;
+mod watched;
 mod workers;
 
-pub use answer::{merged_answer, plain_answer};
+pub use answer::{merged_answer, merged_watched, plain_answer};
+pub use answering::Wanted;
 pub use engine::{
     BytesFault, LONGEST_TREE, Searched, all_bytes, all_shared, answer_bytes, check_bytes,
     check_bytes_rows, run_bytes, search_bytes, search_shared,
@@ -25,5 +28,7 @@ pub use laws::{
 pub use least::plain_all;
 pub use lf_streams::{Failed, FromRead, Sink, Source, ToWrite};
 pub use lf_tree::{Tree, TreeFault, to_text};
+pub use lf_watch::{NoWatch, Progress, Watch};
 pub use lf_words::{Asked, Unasked, asked};
 pub use replies::{all_report, full_line, judgement, refusal, report, tree_refusal};
+pub use watched::{answer_watched, check_watched, search_watched, shared_watched};

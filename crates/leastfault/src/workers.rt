@@ -9,31 +9,34 @@ ghost use Rattle.leastfault.specs.Searches.{IsFoundFor};
 
 use crate::answering::{Found, Reply, Wanted, full, refused, search_status};
 use crate::engine::BytesFault;
+use crate::telling::Told;
 use crate::{all_report, report};
 use lf_book::Book;
 use lf_faults::FaultSet;
-use lf_pool::{NoGate, PoolError, Solved, SolvedAll};
+use lf_pool::{PoolError, Solved, SolvedAll};
 use lf_scenario::{Scenario, read};
 use lf_tree::Tree;
+use lf_watch::Watch;
 use std::alloc::Global;
 use std::rt::Clock;
 use std::sync::{Arc, Wait};
 use std::thread::Threads;
 
 /// The reply of a search by so many workers to a scenario's text. The error is `Memory` or `Pool`.
-pub(crate) fn shared_reply<R: Threads + Wait + Clock + Sync>(
+pub(crate) fn shared_reply<R: Threads + Wait + Clock + Sync, V: Watch>(
     rt: &R,
     alloc: Global,
     wanted: Wanted,
     workers: u32,
     text: &[u8],
+    watch: &V,
 ) -> Result<Found, BytesFault>
     ensures found { IfOk result (λ found.
         IsSearchedWith (reports_of wanted) found.tree text.now (string_bytes found.reply.text) found.reply.status) }
     ensures fault { IfErr result (λ e. (e ≢ BytesFault.Read) × (e ≢ BytesFault.Write)) }
 {
     match read(alloc, text) {
-        Ok(scenario) => searched(rt, alloc, wanted, workers, scenario),
+        Ok(scenario) => searched(rt, alloc, wanted, workers, scenario, watch),
         Err(error) => match refused(alloc, error) {
             Ok(reply) => Ok(Found { reply, tree: None }),
             Err(_) => Err(BytesFault::Memory),
@@ -42,12 +45,13 @@ pub(crate) fn shared_reply<R: Threads + Wait + Clock + Sync>(
 }
 
 /// The reply of a search by so many workers for a scenario.
-fn searched<R: Threads + Wait + Clock + Sync>(
+fn searched<R: Threads + Wait + Clock + Sync, V: Watch>(
     rt: &R,
     alloc: Global,
     wanted: Wanted,
     workers: u32,
     scenario: Scenario,
+    watch: &V,
 ) -> Result<Found, BytesFault>
     ensures found { IfOk result (IsFoundFor wanted scenario) }
     ensures fault { IfErr result (λ e. (e ≢ BytesFault.Read) × (e ≢ BytesFault.Write)) }
@@ -56,17 +60,18 @@ fn searched<R: Threads + Wait + Clock + Sync>(
         return Err(BytesFault::Memory);
     };
     match wanted {
-        Wanted::Answer => answered(rt, alloc, &scenario, workers),
-        Wanted::AllLeast => listed(rt, alloc, &scenario, workers),
+        Wanted::Answer => answered(rt, alloc, &scenario, workers, watch),
+        Wanted::AllLeast => listed(rt, alloc, &scenario, workers, watch),
     }
 }
 
 /// What a search by so many workers comes to that is to report the answer.
-fn answered<R: Threads + Wait + Clock + Sync>(
+fn answered<R: Threads + Wait + Clock + Sync, V: Watch>(
     rt: &R,
     alloc: Global,
     scenario: &Arc<Scenario>,
     workers: u32,
+    watch: &V,
 ) -> Result<Found, BytesFault>
     ensures found { IfOk result (IsFoundFor wanted.Answer (arc_value scenario.now)) }
     ensures fault { IfErr result (λ e. (e ≢ BytesFault.Read) × (e ≢ BytesFault.Write)) }
@@ -74,7 +79,7 @@ fn answered<R: Threads + Wait + Clock + Sync>(
     let Ok(shared) = Arc::try_clone(scenario) else {
         return Err(BytesFault::Memory);
     };
-    match lf_pool::solve(rt, alloc, shared, workers, &NoGate) {
+    match lf_pool::solve(rt, alloc, shared, workers, &Told::new(watch)) {
         Ok(Solved::Answer { set, tree, runs: _ }) => answer_found(alloc, scenario, &set, tree),
         Ok(Solved::Full(book)) => full_found(alloc, scenario, &book),
         Err(error) => Err(fault_of(&error)),
@@ -82,11 +87,12 @@ fn answered<R: Threads + Wait + Clock + Sync>(
 }
 
 /// What a search by so many workers comes to that is to report all least sets.
-fn listed<R: Threads + Wait + Clock + Sync>(
+fn listed<R: Threads + Wait + Clock + Sync, V: Watch>(
     rt: &R,
     alloc: Global,
     scenario: &Arc<Scenario>,
     workers: u32,
+    watch: &V,
 ) -> Result<Found, BytesFault>
     ensures found { IfOk result (IsFoundFor wanted.AllLeast (arc_value scenario.now)) }
     ensures fault { IfErr result (λ e. (e ≢ BytesFault.Read) × (e ≢ BytesFault.Write)) }
@@ -94,7 +100,7 @@ fn listed<R: Threads + Wait + Clock + Sync>(
     let Ok(shared) = Arc::try_clone(scenario) else {
         return Err(BytesFault::Memory);
     };
-    match lf_pool::solve_all(rt, alloc, shared, workers, &NoGate) {
+    match lf_pool::solve_all(rt, alloc, shared, workers, &Told::new(watch)) {
         Ok(
             SolvedAll::All {
                 sets,

@@ -1,10 +1,10 @@
 //! The program `leastfault`: it reads a scenario and prints the fewest faults that defeat its outcome, or one run, or whether
 //! a certificate of its answer is right.
 //!
-//!     leastfault search FILE [--all] [--tree TREE] [--workers N]
-//!     leastfault answer FILE
+//!     leastfault search FILE [--all] [--tree TREE] [--workers N] [--quiet]
+//!     leastfault answer FILE [--quiet]
 //!     leastfault run FILE FAULTS
-//!     leastfault check FILE TREE
+//!     leastfault check FILE TREE [--quiet]
 //!
 //! FILE is a scenario, and `-` is standard input. FAULTS are faults joined by single commas, and the empty word is none. TREE
 //! is a certificate, and `-` is standard input; it can't be that of FILE and of TREE at once. With no words it is `search -`.
@@ -20,23 +20,27 @@
 //! memory ran out, a device failed, or the workers gave no answer: standard error then has the line `memory`, `read` or `write`,
 //! with the device on the next line, or `pool NUMBER`.
 //!
-//! Where the status is 2, standard error says in words what is wrong with what was refused. Where all is well it stays empty.
+//! Where the status is 2, standard error says in words what is wrong with what was refused. Where all is well it stays empty. But where it
+//! is a terminal, a search, an answer or a check that takes longer than a second says on one line there how far it has come, and erases
+//! that line before it replies. With `--quiet` it doesn't.
 #![tactic(auto)]
 
 ghost use Rattle.std.specs.Prelude.{◌≡◌, false};
 
 mod devices;
 mod kept;
+mod line;
 mod stop;
 
 use devices::{opened, print, put};
 use kept::Kept;
 use leastfault::{
-    Asked, BytesFault, FromRead, Searched, Sink, Source, ToWrite, Tree, TreeFault, Unasked,
-    all_bytes, all_shared, answer_bytes, asked, check_bytes_rows, run_bytes, search_bytes,
-    search_shared, to_text, tree_refusal,
+    Asked, BytesFault, FromRead, Searched, Sink, Source, ToWrite, Tree, TreeFault, Unasked, Wanted,
+    answer_watched, asked, check_watched, run_bytes, search_watched, shared_watched, to_text,
+    tree_refusal,
 };
 use lf_hints::{check_hint, run_hint, search_hint, tree_hint};
+use line::{Cleared, Line};
 use std::alloc::AllocError;
 use std::env;
 use std::io::{ErrorKind, Read};
@@ -109,7 +113,7 @@ fn done(
         Asked::Search { file, .. }
         | Asked::Run { file, .. }
         | Asked::Check { file, .. }
-        | Asked::Answer { file } => file.as_str(),
+        | Asked::Answer { file, .. } => file.as_str(),
     };
     if file == "-" {
         replied(rt, threads, asked, file, rt.stdin())
@@ -131,37 +135,45 @@ fn replied<R: Read + Drop>(
             tree,
             all,
             workers,
+            quiet,
             ..
         } => {
-            let wanted = Wanted {
-                all: *all,
+            let way = Way {
+                wanted: if *all {
+                    Wanted::AllLeast
+                } else {
+                    Wanted::Answer
+                },
                 workers: *workers,
+                quiet: *quiet,
             };
             match tree {
-                Some(tree) => certified(rt, threads, file, reader, wanted, tree.as_str()),
-                None => searched(rt, threads, file, reader, wanted),
+                Some(tree) => certified(rt, threads, file, reader, way, tree.as_str()),
+                None => searched(rt, threads, file, reader, way),
             }
         }
-        Asked::Answer { .. } => answered(rt, file, reader),
+        Asked::Answer { quiet, .. } => answered(rt, file, reader, *quiet),
         Asked::Run { faults, .. } => ran(rt, file, reader, faults.as_str()),
-        Asked::Check { tree, .. } => {
+        Asked::Check { tree, quiet, .. } => {
             let files = (file, tree.as_str());
             if files.1 == "-" {
-                judged(rt, threads, files, reader, rt.stdin())
+                judged(rt, threads, files, reader, rt.stdin(), *quiet)
             } else {
-                judged(rt, threads, files, reader, opened(rt, files.1)?)
+                judged(rt, threads, files, reader, opened(rt, files.1)?, *quiet)
             }
         }
     }
 }
 
-/// What is wanted of a search.
+/// How a search is to go.
 #[derive(Clone, Copy)]
-struct Wanted {
-    /// Whether all least sets are to be told.
-    all: bool,
+struct Way {
+    /// What it is to report.
+    wanted: Wanted,
     /// How many workers are to search.
     workers: u32,
+    /// Whether nothing is to be told on the way.
+    quiet: bool,
 }
 
 /// Searches the scenario that the reader of a file has, and writes the reply to standard output.
@@ -170,11 +182,14 @@ fn searched<R: Read + Drop>(
     threads: &(impl Threads + Wait + Clock + Sync),
     file: &str,
     reader: R,
-    wanted: Wanted,
+    way: Way,
 ) -> Result<u8, Stop> {
+    let line = Line::new(rt, way.quiet);
     let mut source = Kept::new(rt.alloc(), FromRead::new(reader));
-    let mut sink = Kept::new(rt.alloc(), ToWrite::new(rt.stdout()));
-    match search_for(rt, threads, wanted, &mut source, &mut sink) {
+    let mut sink = Kept::new(rt.alloc(), Cleared::new(&line, ToWrite::new(rt.stdout())));
+    let ended = search_for(rt, threads, way, &mut source, &mut sink, &line);
+    line.erase();
+    match ended {
         Ok(Searched { status, .. }) => {
             hint_search(rt, status, source.bytes(), sink.bytes());
             Ok(status)
@@ -191,12 +206,15 @@ fn certified<R: Read + Drop>(
     threads: &(impl Threads + Wait + Clock + Sync),
     file: &str,
     reader: R,
-    wanted: Wanted,
+    way: Way,
     tree_file: &str,
 ) -> Result<u8, Stop> {
+    let line = Line::new(rt, way.quiet);
     let mut source = Kept::new(rt.alloc(), FromRead::new(reader));
     let mut reply = Vec::new(rt.alloc());
-    let Searched { status, tree } = match search_to(rt, threads, wanted, &mut source, &mut reply) {
+    let ended = search_to(rt, threads, way, &mut source, &mut reply, &line);
+    line.erase();
+    let Searched { status, tree } = match ended {
         Ok(searched) => searched,
         Err(fault) => return Err(Stop::of(rt.alloc(), fault, file)),
     };
@@ -212,13 +230,14 @@ fn certified<R: Read + Drop>(
 fn search_to<R: Source>(
     rt: &HostRuntime,
     threads: &(impl Threads + Wait + Clock + Sync),
-    wanted: Wanted,
+    way: Way,
     source: &mut R,
     reply: &mut Vec<u8>,
+    line: &Line<'_>,
 ) -> Result<Searched, BytesFault>
     requires { R.has_failed source.old ≡ false }
 {
-    match search_for(rt, threads, wanted, source, &mut ToWrite::new(reply)) {
+    match search_for(rt, threads, way, source, &mut ToWrite::new(reply), line) {
         Err(BytesFault::Write) => Err(BytesFault::Memory),
         answered => answered,
     }
@@ -228,19 +247,18 @@ fn search_to<R: Source>(
 fn search_for<R: Source, W: Sink>(
     rt: &HostRuntime,
     threads: &(impl Threads + Wait + Clock + Sync),
-    wanted: Wanted,
+    way: Way,
     source: &mut R,
     sink: &mut W,
+    line: &Line<'_>,
 ) -> Result<Searched, BytesFault>
     requires source { R.has_failed source.old ≡ false }
     requires sink { W.has_failed sink.old ≡ false }
 {
     let alloc = rt.alloc();
-    match (wanted.all, wanted.workers) {
-        (false, 1) => search_bytes(alloc, source, sink),
-        (true, 1) => all_bytes(alloc, source, sink),
-        (false, workers) => search_shared(threads, alloc, source, sink, workers),
-        (true, workers) => all_shared(threads, alloc, source, sink, workers),
+    match way.workers {
+        1 => search_watched(alloc, way.wanted, source, sink, line),
+        workers => shared_watched(threads, alloc, way.wanted, workers, source, sink, line),
     }
 }
 
@@ -271,10 +289,18 @@ fn written(
 }
 
 /// Answers the scenario that the reader of a file has, and writes the reply to standard output.
-fn answered<R: Read + Drop>(rt: &HostRuntime, file: &str, reader: R) -> Result<u8, Stop> {
+fn answered<R: Read + Drop>(
+    rt: &HostRuntime,
+    file: &str,
+    reader: R,
+    quiet: bool,
+) -> Result<u8, Stop> {
+    let line = Line::new(rt, quiet);
     let mut source = Kept::new(rt.alloc(), FromRead::new(reader));
-    let mut sink = Kept::new(rt.alloc(), ToWrite::new(rt.stdout()));
-    match answer_bytes(rt.alloc(), &mut source, &mut sink) {
+    let mut sink = Kept::new(rt.alloc(), Cleared::new(&line, ToWrite::new(rt.stdout())));
+    let ended = answer_watched(rt.alloc(), &mut source, &mut sink, &line);
+    line.erase();
+    match ended {
         Ok(status) => {
             hint_search(rt, status, source.bytes(), sink.bytes());
             Ok(status)
@@ -307,17 +333,22 @@ fn judged<R: Read + Drop, S: Read + Drop>(
     files: (&str, &str),
     reader: R,
     tree_reader: S,
+    quiet: bool,
 ) -> Result<u8, Stop> {
+    let line = Line::new(rt, quiet);
     let mut source = Kept::new(rt.alloc(), FromRead::new(reader));
     let mut tree_source = Kept::new(rt.alloc(), FromRead::new(tree_reader));
-    let mut sink = ToWrite::new(rt.stdout());
-    match check_bytes_rows(
+    let mut sink = Cleared::new(&line, ToWrite::new(rt.stdout()));
+    let ended = check_watched(
         threads,
         rt.alloc(),
         &mut source,
         &mut tree_source,
         &mut sink,
-    ) {
+        &line,
+    );
+    line.erase();
+    match ended {
         Ok(2) => {
             if let (Some(text), Some(certificate)) = (source.bytes(), tree_source.bytes()) {
                 hint(rt, check_hint(rt.alloc(), text, certificate));

@@ -22,4 +22,6 @@ mod searches;
 #[cfg(test)]
 mod texts;
 #[cfg(test)]
+mod watches;
+#[cfg(test)]
 mod workers;

@@ -6,7 +6,7 @@ use Rattle.leastfault.specs.Reports.{refusal}
 use Rattle.leastfault.proofs.answering.answer_reply.Goals as goal
 
 pub returns-in-Ok : goal.returns-in-Ok
-returns-in-Ok c =
+returns-in-Ok g c =
     let s = c.in-Ok.scenario in
     IfOk-weaker c.answered.result (λ reply. RepliesAnswer s (string_bytes reply.text) reply.status)
     (λ reply. IsAnswerReply c.args.text.now (string_bytes reply.text) reply.status)
@@ -14,7 +14,7 @@ returns-in-Ok c =
     c.answered.ensures
 
 pub returns-in-Err : goal.returns-in-Err
-returns-in-Err c =
+returns-in-Err g c =
     let error = c.in-Err.why in
     IfOk-weaker c.refused.result
     (λ reply. (error ≢ ScenarioError.Memory) × (string_bytes reply.text ≡ refusal error) × (reply.status ≡ 2))

@@ -6,7 +6,7 @@ use Rattle.leastfault.proofs.ReplyLemmas.{found_for}
 use Rattle.leastfault.proofs.answering.searched.Goals as goal
 
 pub returns-in-Ok : goal.returns-in-Ok
-returns-in-Ok c =
+returns-in-Ok g c =
     let s = c.args.scenario in
     let t = arc_value c.in_ok-new.field-0 in
     let ended = rw c.in-Finished.is at c.in_ok-book.ensures in

@@ -4,7 +4,7 @@ use Rattle.std.proofs.lemmas.Result.{IfOk-weaker}
 use Rattle.leastfault.specs.declared.engine.BytesFault.TheVariants as faults
 use Rattle.leastfault.specs.Replies.{IsCheckReply, ToBoth, WroteReply}
 use Rattle.leastfault.proofs.ReplyLemmas.{known_of, to_both, wrote_part, wrote_reply}
-use Rattle.leastfault.proofs.engine.check_bytes_rows.Goals as goal
+use Rattle.leastfault.proofs.watched.check_watched.Goals as goal
 
 pub returns-clause-reply : goal.returns-clause-reply
 returns-clause-reply g c =

@@ -5,7 +5,7 @@ use Rattle.lf_scenario.specs.Limits.{longest}
 use Rattle.leastfault.specs.declared.engine.BytesFault.TheVariants as faults
 use Rattle.leastfault.specs.Replies.{IsAnswerReply, ToHeld, WroteReply}
 use Rattle.leastfault.proofs.ReplyLemmas.{answer_by_front, known_of, to_held, wrote_part, wrote_reply}
-use Rattle.leastfault.proofs.engine.answer_bytes.Goals as goal
+use Rattle.leastfault.proofs.watched.answer_watched.Goals as goal
 
 pub returns-clause-reply : goal.returns-clause-reply
 returns-clause-reply g c =
