@@ -137,11 +137,7 @@ pub(crate) fn answer_reply<V: Watch>(
 }
 
 /// The reply that tells the answer to a scenario.
-fn answered<V: Watch>(
-    alloc: Global,
-    scenario: &Scenario,
-    watch: &V,
-) -> Result<Reply, AllocError>
+fn answered<V: Watch>(alloc: Global, scenario: &Scenario, watch: &V) -> Result<Reply, AllocError>
     ensures { IfOk result (λ reply. RepliesAnswer scenario.now (string_bytes reply.text) reply.status) }
 {
     let answer = merged_watched(alloc, scenario, watch)?;

@@ -157,7 +157,15 @@ pub fn all_shared<T: Threads + Wait + Clock + Sync, R: Source, W: Sink>(
     // No more than one byte past the longest text is taken.
     ensures taken { TookAtMost (longest + 1) (R.left reader.old) (R.left reader.new) }
 {
-    shared_watched(rt, alloc, Wanted::AllLeast, workers, reader, writer, &NoWatch)
+    shared_watched(
+        rt,
+        alloc,
+        Wanted::AllLeast,
+        workers,
+        reader,
+        writer,
+        &NoWatch,
+    )
 }
 
 /// Reads a scenario, and writes the report of its answer, or the line of its refusal. It answers the status: 0 where no allowed set of
@@ -301,7 +309,11 @@ pub fn check_bytes_rows<R: Source, S: Source, W: Sink>(
 }
 
 /// What the source holds, or as much of it as tells that it is longer than `limit`.
-pub(crate) fn read_text<R: Source>(alloc: Global, reader: &mut R, limit: usize) -> Result<Vec<u8>, BytesFault>
+pub(crate) fn read_text<R: Source>(
+    alloc: Global,
+    reader: &mut R,
+    limit: usize,
+) -> Result<Vec<u8>, BytesFault>
     requires { R.has_failed reader.old ≡ false }
     ensures text { IfOk result (λ text.
         IfSome (R.left reader.old) (λ held. text.items ≡ take (limit + 1) held)) }
