@@ -22,6 +22,4 @@ mod searches;
 #[cfg(test)]
 mod texts;
 #[cfg(test)]
-mod watches;
-#[cfg(test)]
 mod workers;
