@@ -1,243 +1,54 @@
-//! Trees with one change, at every place and of every kind.
+//! Trees with one change, at every place and of every kind, and whether the two checkers agree on them.
+//!
+//! What is found has a bit for the number of each reason that was met, the lowest where a tree was accepted, and a bit of no
+//! reason where the checkers differ.
 
-use crate::lists::{Edit, branch, copied, copied_edges, copied_kids, edited_edges, edited_kids};
-use lf_faults::{Fault, FaultSet, FaultSpec, Parts};
+use crate::lists::{BranchParts, Edit, branch, exchange};
+use crate::plain::{Case, NO_REASON, looked};
+use lf_check::{Verdict, check};
+use lf_faults::{Fault, FaultSet, FaultSpec};
 use lf_outcome::Reach;
-use lf_tree::Node;
-use std::alloc::{AllocError, Global};
+use lf_tree::{Node, Tree};
+use std::alloc::AllocError;
 
-/// The numbers of a reach.
-fn steps_of(alloc: Global, reach: &Reach) -> Result<Vec<u32>, AllocError> {
-    let mut steps = Vec::new(alloc);
-    for step in reach.items() {
-        steps.push(u32::from(*step))?;
-    }
-    Ok(steps)
-}
+/// What is found where the checkers differ.
+pub(crate) const DIFFER: u32 = 1 << NO_REASON;
 
-/// The reach with the number at a place one higher. None past the last step of all.
-fn raised(alloc: Global, reach: &Reach, place: usize) -> Result<Option<Reach>, AllocError> {
-    let mut steps = steps_of(alloc, reach)?;
-    if let Some(step) = steps.get_mut(place) {
-        *step = step.saturating_add(1);
-    }
-    Ok(Reach::new(steps.as_slice()))
-}
-
-/// The reach with the number at a place one lower, or 0 as before.
-fn lowered(alloc: Global, reach: &Reach, place: usize) -> Result<Option<Reach>, AllocError> {
-    let mut steps = steps_of(alloc, reach)?;
-    if let Some(step) = steps.get_mut(place) {
-        *step = step.saturating_sub(1);
-    }
-    Ok(Reach::new(steps.as_slice()))
-}
-
-/// The reach without its last number. None where it would be of one node.
-fn shortened(alloc: Global, reach: &Reach) -> Result<Option<Reach>, AllocError> {
-    let mut steps = steps_of(alloc, reach)?;
-    let _last = steps.pop();
-    Ok(Reach::new(steps.as_slice()))
-}
-
-/// The reach with a number more. None where it would be of nine nodes.
-fn lengthened(alloc: Global, reach: &Reach) -> Result<Option<Reach>, AllocError> {
-    let mut steps = steps_of(alloc, reach)?;
-    steps.push(reach.at(0))?;
-    Ok(Reach::new(steps.as_slice()))
-}
-
-/// The reach with one change, of each kind and at each of its numbers.
-fn other_reaches(alloc: Global, reach: &Reach) -> Result<Vec<Option<Reach>>, AllocError> {
-    let mut reaches = Vec::new(alloc);
-    reaches.push(shortened(alloc, reach)?)?;
-    reaches.push(lengthened(alloc, reach)?)?;
-    for place in 0..reach.len() {
-        reaches.push(raised(alloc, reach, place)?)?;
-        reaches.push(lowered(alloc, reach, place)?)?;
-    }
-    Ok(reaches)
-}
-
-/// Puts a branch for each of the reaches, with copies of the edges and the kids.
-fn put_reaches(
-    alloc: Global,
-    all: &mut Vec<Node>,
-    reaches: &[Option<Reach>],
-    edges: &[Fault],
-    kids: &[Node],
-) -> Result<(), AllocError> {
-    for reach in reaches {
-        if let Some(reach) = *reach {
-            let edges = copied_edges(alloc, edges)?;
-            let kids = copied_kids(alloc, kids)?;
-            all.push(branch(reach, edges, kids))?;
+/// What both checkers say of the tree.
+pub(crate) fn judged(case: &Case<'_>, tree: &Tree) -> u32 {
+    let look = looked(case, tree);
+    let is_same = match check(case.alloc, case.scenario, tree) {
+        Ok(Verdict::Yes) => look.reason == 0,
+        Ok(Verdict::No { reason, path }) => {
+            reason.number() == look.reason && path.as_slice() == look.path.as_slice()
         }
-    }
-    Ok(())
-}
-
-/// Another fault of the same nodes and step.
-fn other_fault(fault: &Fault) -> Option<Fault> {
-    match fault.parts() {
-        Parts::Omit { from, to, step } => Fault::omit(to, from, step),
-        Parts::Crash { node, step } => Fault::pause(node, step),
-        Parts::Pause { node, step } => Fault::crash(node, step),
+        Err(_) => false,
+    };
+    if is_same {
+        1u32.wrapping_shl(look.reason)
+    } else {
+        DIFFER
     }
 }
 
-/// The faults with another at a place.
-fn exchanged(alloc: Global, edges: &[Fault], place: usize) -> Result<Vec<Fault>, AllocError> {
-    let mut exchanged = Vec::new(alloc);
-    for (i, edge) in edges.iter().enumerate() {
-        let other = if i == place { other_fault(edge) } else { None };
-        exchanged.push(other.unwrap_or(*edge))?;
-    }
-    Ok(exchanged)
+/// What both say of the tree with another answer.
+fn with_answer(case: &Case<'_>, tree: &mut Tree, answer: Option<FaultSet>) -> u32 {
+    let kept = tree.answer;
+    tree.answer = answer;
+    let found = judged(case, tree);
+    tree.answer = kept;
+    found
 }
 
-/// Puts the branch with another fault in the place of each edge.
-fn put_other_edges(
-    alloc: Global,
-    all: &mut Vec<Node>,
-    reach: Reach,
-    edges: &[Fault],
-    kids: &[Node],
-) -> Result<(), AllocError> {
-    for place in 0..edges.len() {
-        let others = exchanged(alloc, edges, place)?;
-        let kids = copied_kids(alloc, kids)?;
-        all.push(branch(reach, others, kids))?;
-    }
-    Ok(())
-}
-
-/// Puts the branch with an edit of its edges at each place, with the edit of its kids, and with both.
-fn put_edits(
-    alloc: Global,
-    all: &mut Vec<Node>,
-    reach: Reach,
-    edges: &[Fault],
-    kids: &[Node],
-    edit: Edit,
-) -> Result<(), AllocError> {
-    for at in 0..edges.len() {
-        let old_edges = copied_edges(alloc, edges)?;
-        let new_edges = edited_edges(alloc, edges, edit, at)?;
-        let old_kids = copied_kids(alloc, kids)?;
-        let new_kids = edited_kids(alloc, kids, edit, at)?;
-        all.push(branch(reach, old_edges, new_kids))?;
-        all.push(branch(reach, new_edges, old_kids))?;
-        let edges = edited_edges(alloc, edges, edit, at)?;
-        let kids = edited_kids(alloc, kids, edit, at)?;
-        all.push(branch(reach, edges, kids))?;
-    }
-    Ok(())
-}
-
-/// Puts the branch with one change, of each kind and at each place.
-fn put_branches(
-    alloc: Global,
-    all: &mut Vec<Node>,
-    reach: Reach,
-    edges: &[Fault],
-    kids: &[Node],
-) -> Result<(), AllocError> {
-    let reaches = other_reaches(alloc, &reach)?;
-    put_reaches(alloc, all, reaches.as_slice(), edges, kids)?;
-    put_other_edges(alloc, all, reach, edges, kids)?;
-    put_edits(alloc, all, reach, edges, kids, Edit::Dropped)?;
-    put_edits(alloc, all, reach, edges, kids, Edit::Doubled)?;
-    put_edits(alloc, all, reach, edges, kids, Edit::Swapped)?;
-    put_edits(alloc, all, reach, edges, kids, Edit::Moved)
-}
-
-/// The reach of a scenario's nodes that goes up to the last step.
-fn whole(alloc: Global, spec: &FaultSpec) -> Result<Option<Reach>, AllocError> {
-    let mut steps = Vec::new(alloc);
-    for _ in 0..spec.nodes() {
-        steps.push(spec.horizon())?;
-    }
-    Ok(Reach::new(steps.as_slice()))
-}
-
-/// The node, changed in one place in each way. A leaf is turned, and a branch without edges comes in its place; a leaf of
-/// either kind comes in the place of a branch.
-pub(crate) fn changed(
-    alloc: Global,
-    spec: &FaultSpec,
-    node: &Node,
-) -> Result<Vec<Node>, AllocError> {
-    let mut all = Vec::new(alloc);
-    match node {
-        Node::Misses => all.push(Node::Reaches)?,
-        Node::Reaches => all.push(Node::Misses)?,
-        Node::Branch { reach, edges, kids } => {
-            all.push(Node::Misses)?;
-            all.push(Node::Reaches)?;
-            put_branches(alloc, &mut all, *reach, edges.as_slice(), kids.as_slice())?;
-        }
-    }
-    if let Some(reach) = whole(alloc, spec)? {
-        all.push(branch(reach, Vec::new(alloc), Vec::new(alloc)))?;
-    }
-    Ok(all)
-}
-
-/// A copy of a node, with all beneath it, in which another stands at a place of the order of rows. `met` counts the nodes
-/// met before.
-#[cycle(replaced)]
-pub(crate) fn replaced(
-    alloc: Global,
-    node: &Node,
-    met: &mut usize,
-    place: usize,
-    other: &Node,
-) -> Result<Node, AllocError> {
-    let is_here = *met == place;
-    *met = met.saturating_add(1);
-    if is_here {
-        return copied(alloc, other);
-    }
-    match node {
-        Node::Misses => Ok(Node::Misses),
-        Node::Reaches => Ok(Node::Reaches),
-        Node::Branch { reach, edges, kids } => {
-            let beneath = all_replaced(alloc, kids.as_slice(), met, place, other)?;
-            Ok(branch(*reach, copied_edges(alloc, edges.as_slice())?, beneath))
-        }
-    }
-}
-
-/// The same of nodes, one after another.
-#[cycle(replaced)]
-fn all_replaced(
-    alloc: Global,
-    kids: &[Node],
-    met: &mut usize,
-    place: usize,
-    other: &Node,
-) -> Result<Vec<Node>, AllocError> {
-    let mut copies = Vec::new(alloc);
-    'kids: for kid in kids {
-        copies.push(replaced(alloc, kid, met, place, other)?)?;
-    }
-    Ok(copies)
-}
-
-/// Puts the set, and the set with each fault more.
-fn put_wider(
-    answers: &mut Vec<Option<FaultSet>>,
-    set: FaultSet,
-    faults: &[Fault],
-) -> Result<(), AllocError> {
-    answers.push(Some(set))?;
-    for fault in faults {
+/// What both say of the tree with a set as its answer, and with the set and each fault more.
+fn with_wider(case: &Case<'_>, tree: &mut Tree, set: FaultSet) -> u32 {
+    let mut met = with_answer(case, tree, Some(set));
+    for fault in case.faults {
         if let Some(wider) = set.insert(*fault) {
-            answers.push(Some(wider))?;
+            met |= with_answer(case, tree, Some(wider));
         }
     }
-    Ok(())
+    met
 }
 
 /// The set without one of its faults.
@@ -251,25 +62,128 @@ fn without(set: &FaultSet, fault: &Fault) -> FaultSet {
     smaller
 }
 
-/// Answers in the place of a tree's: none, the empty set, each set of one fault, the sets with a fault more or fewer, and the sets of leaves
-/// that miss.
-pub(crate) fn other_answers(
-    alloc: Global,
-    answer: &Option<FaultSet>,
-    faults: &[Fault],
-    missing: &[FaultSet],
-) -> Result<Vec<Option<FaultSet>>, AllocError> {
-    let mut answers = Vec::new(alloc);
-    answers.push(None)?;
-    put_wider(&mut answers, FaultSet::empty(), faults)?;
-    if let Some(set) = answer {
-        put_wider(&mut answers, *set, faults)?;
+/// What both say of the tree with other answers: none, the empty set, each set of one fault, the sets with a fault more or
+/// fewer, and the sets of leaves that miss.
+pub(crate) fn with_answers(case: &Case<'_>, tree: &mut Tree) -> u32 {
+    let mut met = with_answer(case, tree, None) | with_wider(case, tree, FaultSet::empty());
+    if let Some(set) = tree.answer {
+        met |= with_wider(case, tree, set);
         for fault in set.items() {
-            answers.push(Some(without(set, fault)))?;
+            met |= with_answer(case, tree, Some(without(&set, fault)));
         }
     }
-    for set in missing {
-        answers.push(Some(*set))?;
+    for set in looked(case, tree).missing {
+        met |= with_answer(case, tree, Some(set));
     }
-    Ok(answers)
+    met
+}
+
+/// What both say of the tree with another node at a place of the order of rows, with its answer and with none.
+fn with_node(case: &Case<'_>, tree: &mut Tree, place: u64, node: Result<Node, AllocError>) -> u32 {
+    let Ok(mut other) = node else {
+        return DIFFER;
+    };
+    exchange(&mut tree.root, &mut 0, place, &mut other);
+    judged(case, tree) | with_answer(case, tree, None)
+}
+
+/// What both say of the tree with a branch of this reach at the place. No bit where there is no such reach.
+fn with_reach(
+    case: &Case<'_>,
+    tree: &mut Tree,
+    place: u64,
+    reach: Option<Reach>,
+    edges: &[Fault],
+    kids: &[Node],
+) -> u32 {
+    let Some(reach) = reach else {
+        return 0;
+    };
+    let parts = BranchParts { reach, edges, kids };
+    let node = branch(case.alloc, &parts, (Edit::Kept, Edit::Kept), 0);
+    with_node(case, tree, place, node)
+}
+
+/// The reach of so many nodes with another step for one of them. None where that is none.
+fn other_reach(reach: &Reach, count: usize, node: u32, step: u32) -> Option<Reach> {
+    let mut steps = [0; 9];
+    for (i, place) in (0..9).zip(steps.iter_mut()) {
+        *place = if i == node { step } else { reach.at(i) };
+    }
+    Reach::new(steps.get(..count)?)
+}
+
+/// What both say of the tree with each change of the reach of the branch at the place: a number less or more, and each step one
+/// higher and one lower.
+fn with_reaches(case: &Case<'_>, tree: &mut Tree, place: u64, parts: &BranchParts<'_>) -> u32 {
+    let (reach, edges, kids) = (parts.reach, parts.edges, parts.kids);
+    let count = reach.len();
+    let nodes = count as u32;
+    let shorter = other_reach(&reach, count.saturating_sub(1), nodes, 0);
+    let longer = other_reach(&reach, count.saturating_add(1), nodes, reach.at(0));
+    let mut met = with_reach(case, tree, place, shorter, edges, kids)
+        | with_reach(case, tree, place, longer, edges, kids);
+    for node in 0..nodes {
+        let step = reach.at(node);
+        let higher = other_reach(&reach, count, node, step + 1);
+        let lower = other_reach(&reach, count, node, step.saturating_sub(1));
+        met |= with_reach(case, tree, place, higher, edges, kids)
+            | with_reach(case, tree, place, lower, edges, kids);
+    }
+    met
+}
+
+/// What both say of the tree with these edits of the edges and the kids of the branch at the place.
+fn with_edits(
+    case: &Case<'_>,
+    tree: &mut Tree,
+    place: u64,
+    parts: &BranchParts<'_>,
+    edits: (Edit, Edit),
+    at: usize,
+) -> u32 {
+    let node = branch(case.alloc, parts, edits, at);
+    with_node(case, tree, place, node)
+}
+
+/// What both say of the tree with each change of the branch at the place: of its reach, of one of its edges, of one of its
+/// kids, and of both.
+fn with_branches(case: &Case<'_>, tree: &mut Tree, place: u64, parts: &BranchParts<'_>) -> u32 {
+    let mut met = with_reaches(case, tree, place, parts);
+    for at in 0..parts.edges.len() {
+        met |= with_edits(case, tree, place, parts, (Edit::Exchanged, Edit::Kept), at);
+        for edit in [Edit::Dropped, Edit::Doubled, Edit::Swapped, Edit::Moved] {
+            met |= with_edits(case, tree, place, parts, (edit, Edit::Kept), at)
+                | with_edits(case, tree, place, parts, (Edit::Kept, edit), at)
+                | with_edits(case, tree, place, parts, (edit, edit), at);
+        }
+    }
+    met
+}
+
+/// The reach of a scenario's nodes that goes up to the last step.
+fn whole(spec: &FaultSpec) -> Option<Reach> {
+    let steps = [spec.horizon(); 8];
+    Reach::new(steps.get(..spec.nodes() as usize)?)
+}
+
+/// What both say of the tree with each change at a place of the order of rows: a leaf of either kind, a branch without
+/// edges, and each change of a branch. The tree is the same afterwards.
+pub(crate) fn with_changes(case: &Case<'_>, tree: &mut Tree, place: u64) -> u32 {
+    let mut node = Node::Misses;
+    exchange(&mut tree.root, &mut 0, place, &mut node);
+    let bare = whole(&case.scenario.setting().spec);
+    let mut met = with_node(case, tree, place, Ok(Node::Misses))
+        | with_node(case, tree, place, Ok(Node::Reaches))
+        | with_reach(case, tree, place, bare, &[], &[]);
+    if let Node::Branch { reach, edges, kids } = &node {
+        let parts = BranchParts {
+            reach: *reach,
+            edges: edges.as_slice(),
+            kids: kids.as_slice(),
+        };
+        met |= with_branches(case, tree, place, &parts);
+    }
+    exchange(&mut tree.root, &mut 0, place, &mut node);
+    met
 }

@@ -14,12 +14,8 @@ mod grown_trees;
 #[cfg(test)]
 mod lists;
 #[cfg(test)]
-mod one_tree;
-#[cfg(test)]
 mod plain;
 #[cfg(test)]
 mod required;
 #[cfg(test)]
 mod texts;
-#[cfg(test)]
-mod threads;

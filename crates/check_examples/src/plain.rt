@@ -1,27 +1,38 @@
 //! A plain checker: what is wrong first with a tree, read off the order of reasons, one place after another.
 
-use crate::required::{every_fault, is_closed, required};
+use crate::required::{is_closed, wrong_edges};
 use lf_faults::{Fault, FaultSet, admits};
 use lf_outcome::{Reach, holds, holds_within};
 use lf_scenario::Scenario;
 use lf_sim::run;
 use lf_tree::{Node, Tree};
-use std::alloc::{AllocError, Global};
+use std::alloc::Global;
 
-/// What a tree is judged for, where the look at it stands, and what it has met.
+/// A number that is of no reason. It stands where memory has run out.
+pub(crate) const NO_REASON: u32 = 12;
+
+/// A scenario whose trees are judged.
 #[derive(Drop)]
-struct Look<'a> {
-    scenario: &'a Scenario,
+pub(crate) struct Case<'a> {
+    pub(crate) alloc: Global,
+    pub(crate) scenario: &'a Scenario,
     /// All faults of the scenario's nodes and steps.
-    faults: Vec<Fault>,
-    /// How many branches are to stand above each leaf.
-    last: usize,
-    /// The way from the root.
-    path: Vec<usize>,
+    pub(crate) faults: &'a [Fault],
+}
+
+/// A look at a tree: where it stands, and what it has met.
+#[derive(Drop)]
+pub(crate) struct Look {
+    /// The number of the reason for which the tree isn't accepted, or 0 where it is.
+    pub(crate) reason: u32,
+    /// The way from the root, to what is wrong first where the look has ended.
+    pub(crate) path: Vec<usize>,
+    /// The sets of the leaves met that say, rightly, that they miss.
+    pub(crate) missing: Vec<FaultSet>,
     /// What is excluded here.
     excluded: Vec<Fault>,
-    /// The sets of the leaves met that say, rightly, that they miss.
-    missing: Vec<FaultSet>,
+    /// How many branches are to stand above each leaf.
+    last: usize,
 }
 
 /// How many branches are to stand above each leaf of the tree.
@@ -32,103 +43,84 @@ fn last_depth(scenario: &Scenario, tree: &Tree) -> usize {
     }
 }
 
-/// The number of the reason for which a leaf isn't right, if it isn't.
-fn wrong_leaf(
-    alloc: Global,
-    look: &mut Look<'_>,
-    set: FaultSet,
-    misses: bool,
-) -> Result<Option<u32>, AllocError> {
+/// The number of the reason for which a leaf isn't right, or 0.
+fn wrong_leaf(case: &Case<'_>, look: &mut Look, set: FaultSet, misses: bool) -> u32 {
     if look.path.len() != look.last {
-        return Ok(Some(9));
+        return 9;
     }
-    let setting = look.scenario.setting();
-    let played = run(alloc, setting, &set)?;
-    let reaches = holds(setting, look.scenario.formula(), &played);
+    let setting = case.scenario.setting();
+    let reaches = match run(case.alloc, setting, &set) {
+        Ok(played) => holds(setting, case.scenario.formula(), &played),
+        Err(_) => return NO_REASON,
+    };
     if !misses && !reaches {
-        return Ok(Some(2));
+        return 2;
     }
     if misses && reaches {
-        return Ok(Some(3));
+        return 3;
     }
-    if misses {
-        look.missing.push(set)?;
+    if misses && look.missing.push(set).is_err() {
+        return NO_REASON;
     }
-    Ok(None)
+    0
 }
 
 /// Whether the reach has a number for each node, none past the last step.
 fn has_form(scenario: &Scenario, reach: &Reach) -> bool {
     let spec = scenario.setting().spec;
+    for node in 0..8 {
+        if spec.horizon() < reach.at(node) {
+            return false;
+        }
+    }
     reach.len() == spec.nodes() as usize
-        && reach
-            .items()
-            .iter()
-            .all(|step| u32::from(*step) <= spec.horizon())
 }
 
-/// The number of the reason for which a branch isn't right, if it isn't, whatever stands beneath it.
+/// The number of the reason for which a branch isn't right, whatever stands beneath it, or 0.
 fn wrong_branch(
-    alloc: Global,
-    look: &Look<'_>,
+    case: &Case<'_>,
+    look: &Look,
     set: FaultSet,
     reach: &Reach,
     edges: &[Fault],
     kids: usize,
-) -> Result<Option<u32>, AllocError> {
+) -> u32 {
     if look.path.len() >= look.last {
-        return Ok(Some(9));
+        return 9;
     }
-    let setting = look.scenario.setting();
-    let formula = look.scenario.formula();
-    let played = run(alloc, setting, &set)?;
+    let setting = case.scenario.setting();
+    let formula = case.scenario.formula();
+    let Ok(played) = run(case.alloc, setting, &set) else {
+        return NO_REASON;
+    };
+    let excluded = look.excluded.as_slice();
     if !holds(setting, formula, &played) {
-        return Ok(Some(11));
+        11
+    } else if !has_form(case.scenario, reach) || !holds_within(setting, formula, &played, reach) {
+        4
+    } else if !is_closed(setting, &played, reach, case.faults) {
+        5
+    } else {
+        match wrong_edges(setting, &played, reach, excluded, case.faults, edges) {
+            0 if kids != edges.len() => 8,
+            reason => reason,
+        }
     }
-    if !has_form(look.scenario, reach) || !holds_within(setting, formula, &played, reach) {
-        return Ok(Some(4));
-    }
-    if !is_closed(setting, &played, reach, look.faults.as_slice()) {
-        return Ok(Some(5));
-    }
-    let wanted = required(
-        alloc,
-        setting,
-        &played,
-        reach,
-        look.excluded.as_slice(),
-        look.faults.as_slice(),
-    )?;
-    if !wanted.as_slice().iter().all(|fault| edges.contains(fault)) {
-        return Ok(Some(6));
-    }
-    if wanted.as_slice() != edges {
-        return Ok(Some(7));
-    }
-    if kids != edges.len() {
-        return Ok(Some(8));
-    }
-    Ok(None)
 }
 
-/// The number of the reason for which a node of a set isn't right, or else the first place beneath it that isn't. Then the
-/// look stands there.
+/// The number of the reason for which a node of a set isn't right, or of the first place beneath it that isn't, or 0. Where it isn't 0
+/// the look stands there.
 #[cycle(wrong)]
-fn wrong_from(
-    alloc: Global,
-    look: &mut Look<'_>,
-    node: &Node,
-    set: FaultSet,
-) -> Result<Option<u32>, AllocError> {
+fn wrong_from(case: &Case<'_>, look: &mut Look, node: &Node, set: FaultSet) -> u32 {
     match node {
-        Node::Misses => wrong_leaf(alloc, look, set, true),
-        Node::Reaches => wrong_leaf(alloc, look, set, false),
+        Node::Misses => wrong_leaf(case, look, set, true),
+        Node::Reaches => wrong_leaf(case, look, set, false),
         Node::Branch { reach, edges, kids } => {
-            let wrong = wrong_branch(alloc, look, set, reach, edges.as_slice(), kids.len())?;
-            if wrong.is_some() {
-                return Ok(wrong);
+            let (edges, kids) = (edges.as_slice(), kids.as_slice());
+            match wrong_branch(case, look, set, reach, edges, kids.len()) {
+                0 => wrong_beneath(case, look, edges, kids, set),
+                reason => reason,
             }
-            wrong_beneath(alloc, look, edges.as_slice(), kids.as_slice(), set)
         }
     }
 }
@@ -136,28 +128,31 @@ fn wrong_from(
 /// The same of the kids of a branch of a set, one after another.
 #[cycle(wrong)]
 fn wrong_beneath(
-    alloc: Global,
-    look: &mut Look<'_>,
+    case: &Case<'_>,
+    look: &mut Look,
     edges: &[Fault],
     kids: &[Node],
     set: FaultSet,
-) -> Result<Option<u32>, AllocError> {
+) -> u32 {
     let before = look.excluded.len();
     'kids: for (i, kid) in kids.iter().enumerate() {
         let Some(edge) = edges.get(i).copied() else {
-            return Ok(Some(8));
+            return 8;
         };
-        look.path.push(i)?;
-        let larger = set.insert(edge).unwrap_or(set);
-        let wrong = wrong_from(alloc, look, kid, larger)?;
-        if wrong.is_some() {
-            return Ok(wrong);
+        if look.path.push(i).is_err() {
+            return NO_REASON;
+        }
+        let reason = wrong_from(case, look, kid, set.insert(edge).unwrap_or(set));
+        if reason != 0 {
+            return reason;
         }
         let _place = look.path.pop();
-        look.excluded.push(edge)?;
+        if look.excluded.push(edge).is_err() {
+            return NO_REASON;
+        }
     }
     look.excluded.truncate(before);
-    Ok(None)
+    0
 }
 
 /// The first of the sets, in the order of sets.
@@ -172,43 +167,23 @@ fn first_of(sets: &[FaultSet]) -> Option<FaultSet> {
     first
 }
 
-/// What is to be said of a tree.
-#[derive(Drop)]
-pub(crate) struct Judged {
-    /// The number of the reason for which it isn't accepted, or 0 where it is.
-    pub(crate) reason: u32,
-    /// The way from the root to what is wrong first.
-    pub(crate) path: Vec<usize>,
-    /// The sets of leaves that miss, as far as the look went.
-    pub(crate) missing: Vec<FaultSet>,
-}
-
-/// What is to be said of a tree: of its answer first, of its places next, and of its answer again.
-pub(crate) fn expected(
-    alloc: Global,
-    scenario: &Scenario,
-    tree: &Tree,
-) -> Result<Judged, AllocError> {
-    let spec = &scenario.setting().spec;
+/// A look at a tree: at its answer first, at its places next, and at its answer again.
+pub(crate) fn looked(case: &Case<'_>, tree: &Tree) -> Look {
     let mut look = Look {
-        scenario,
-        faults: every_fault(alloc, spec)?,
-        last: last_depth(scenario, tree),
-        path: Vec::new(alloc),
-        excluded: Vec::new(alloc),
-        missing: Vec::new(alloc),
+        reason: 1,
+        path: Vec::new(case.alloc),
+        missing: Vec::new(case.alloc),
+        excluded: Vec::new(case.alloc),
+        last: last_depth(case.scenario, tree),
     };
-    let reason = match &tree.answer {
-        Some(answer) if !admits(spec, answer) => 1,
-        _ => match wrong_from(alloc, &mut look, &tree.root, FaultSet::empty())? {
-            Some(reason) => reason,
-            None if first_of(look.missing.as_slice()) != tree.answer => 10,
-            None => 0,
-        },
-    };
-    Ok(Judged {
-        reason,
-        path: look.path,
-        missing: look.missing,
-    })
+    if let Some(answer) = &tree.answer
+        && !admits(&case.scenario.setting().spec, answer)
+    {
+        return look;
+    }
+    look.reason = wrong_from(case, &mut look, &tree.root, FaultSet::empty());
+    if look.reason == 0 && first_of(look.missing.as_slice()) != tree.answer {
+        look.reason = 10;
+    }
+    look
 }

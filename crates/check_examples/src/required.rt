@@ -7,34 +7,28 @@ use lf_protocols::Protocol;
 use lf_sim::{Run, Setting};
 use std::alloc::{AllocError, Global};
 
-/// The fault, if there is one, behind the others.
-fn put(faults: &mut Vec<Fault>, fault: Option<Fault>) -> Result<(), AllocError> {
-    if let Some(fault) = fault {
-        faults.push(fault)?;
+/// The fault of a row and a column at a step: a row for each sender, one of crashes, and one of pauses.
+fn fault_at(nodes: u32, row: u32, column: u32, step: u32) -> Option<Fault> {
+    if row < nodes {
+        Fault::omit(row, column, step)
+    } else if row == nodes {
+        Fault::crash(column, step)
+    } else {
+        Fault::pause(column, step)
     }
-    Ok(())
-}
-
-/// The omissions of a step, in order.
-fn put_omissions(faults: &mut Vec<Fault>, nodes: u32, step: u32) -> Result<(), AllocError> {
-    for from in 0..nodes {
-        for to in 0..nodes {
-            put(faults, Fault::omit(from, to, step))?;
-        }
-    }
-    Ok(())
 }
 
 /// All faults of a scenario's nodes and steps, ascending, allowed or not.
 pub(crate) fn every_fault(alloc: Global, spec: &FaultSpec) -> Result<Vec<Fault>, AllocError> {
+    let nodes = spec.nodes();
     let mut faults = Vec::new(alloc);
     for step in 1..spec.horizon() + 1 {
-        put_omissions(&mut faults, spec.nodes(), step)?;
-        for node in 0..spec.nodes() {
-            put(&mut faults, Fault::crash(node, step))?;
-        }
-        for node in 0..spec.nodes() {
-            put(&mut faults, Fault::pause(node, step))?;
+        for row in 0..nodes + 2 {
+            for column in 0..nodes {
+                if let Some(fault) = fault_at(nodes, row, column, step) {
+                    faults.push(fault)?;
+                }
+            }
         }
     }
     Ok(faults)
@@ -122,23 +116,32 @@ fn supports(
     }
 }
 
-/// The faults, in order, that could change what is within the reach, can be added to the run's set and aren't excluded.
-pub(crate) fn required(
-    alloc: Global,
+/// The number of the reason for which the edges aren't the required faults, in order, or 0. Required are those of the faults that
+/// could change what is within the reach, can be added to the run's set and aren't excluded.
+pub(crate) fn wrong_edges(
     setting: &Setting<Protocol>,
     run: &Run<Protocol>,
     reach: &Reach,
     excluded: &[Fault],
     faults: &[Fault],
-) -> Result<Vec<Fault>, AllocError> {
-    let mut found = Vec::new(alloc);
+    edges: &[Fault],
+) -> u32 {
+    let (mut count, mut misses, mut differs) = (0_usize, false, false);
     for fault in faults {
         if supports(setting, run, reach, fault)
             && can_add(&setting.spec, &run.set(), *fault)
             && !excluded.contains(fault)
         {
-            found.push(*fault)?;
+            misses |= !edges.contains(fault);
+            differs |= edges.get(count) != Some(fault);
+            count = count.saturating_add(1);
         }
     }
-    Ok(found)
+    if misses {
+        6
+    } else if differs || count != edges.len() {
+        7
+    } else {
+        0
+    }
 }
