@@ -5,8 +5,6 @@
 #![tactic(auto)]
 
 #[cfg(test)]
-mod edges;
-#[cfg(test)]
 mod law;
 #[cfg(test)]
 mod plain;

@@ -28,8 +28,12 @@ fn is_heard(
 
 /// Whether a reach goes no further than the last step.
 fn ends_in_time(setting: &Setting<Protocol>, reach: &Reach) -> bool {
-    let last = setting.spec.horizon();
-    (0..8).all(|node| reach.at(node) <= last)
+    for node in 0..8 {
+        if reach.at(node) > setting.spec.horizon() {
+            return false;
+        }
+    }
+    true
 }
 
 /// Whether a reach is closed, by each slot.
@@ -58,7 +62,12 @@ pub(crate) fn keeps(setting: &Setting<Protocol>, reach: &Reach) -> bool {
 
 /// Whether a node is up at a step within the reach, of those from one on, before another.
 fn lives(run: &Run<Protocol>, reach: &Reach, node: u32, first: u32, end: u32) -> bool {
-    (first..end).any(|step| run.up(node, step) && step <= reach.at(node))
+    for step in first..end {
+        if run.up(node, step) && step <= reach.at(node) {
+            return true;
+        }
+    }
+    false
 }
 
 /// Whether a fault could change something within the reach, by its definition.

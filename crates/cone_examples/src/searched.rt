@@ -1,25 +1,16 @@
 //! Reaches and edges beside a plain search over all reaches and all faults, for two and three nodes and up to three steps.
 
-ghost use Rattle.std.specs.Prelude.{◌≤◌};
 ghost use Rattle.lf_sim.specs.Settings.{IsRun, world_of};
 
 use crate::plain;
-use crate::reaches::reaches_of;
+use crate::reaches::{has_edges, reaches_of};
 use crate::texts::{agrees, set, setting};
-use lf_cone::{edges, is_closed};
+use lf_cone::is_closed;
 use lf_outcome::Reach;
 use lf_protocols::Protocol;
 use lf_sim::{Run, Setting, run};
-use std::alloc::{AllocError, Global};
+use std::alloc::Global;
 use std::process::Abort;
-use std::test::Fail;
-
-/// How many reaches there are of two or three nodes, with steps up to 4.
-fn count(nodes: u32) -> u32
-    ensures { result ≤ 125 }
-{
-    if nodes == 2 { 25 } else { 125 }
-}
 
 /// The reach of this number.
 fn numbered(nodes: u32, number: u32) -> Option<Reach> {
@@ -33,7 +24,12 @@ fn numbered(nodes: u32, number: u32) -> Option<Reach> {
 
 /// Whether one reach is at most another.
 fn is_at_most(one: &Reach, other: &Reach) -> bool {
-    (0..3).all(|node| one.at(node) <= other.at(node))
+    for node in 0..3 {
+        if one.at(node) > other.at(node) {
+            return false;
+        }
+    }
+    true
 }
 
 /// Whether the reach is closed, and has the edges, as the plain search finds, and no edge where these are excluded.
@@ -42,16 +38,18 @@ fn reach_is_plain(
     setting: &Setting<Protocol>,
     run: &Run<Protocol>,
     reach: &Reach,
-) -> Result<bool, AllocError>
+) -> bool
     requires { IsRun (world_of setting.now) run.now }
 {
-    if is_closed(setting, run, reach) != plain::is_closed(setting, run, reach) {
-        return Ok(false);
+    let is_same = is_closed(setting, run, reach) == plain::is_closed(setting, run, reach);
+    match plain::edges(alloc, setting, run, reach) {
+        Ok(by_hand) => {
+            is_same
+                && has_edges(alloc, setting, run, reach, &[], by_hand.as_slice())
+                && has_edges(alloc, setting, run, reach, by_hand.as_slice(), &[])
+        }
+        Err(_) => false,
     }
-    let by_hand = plain::edges(alloc, setting, run, reach)?;
-    let found = edges(alloc, setting, run, reach, &[])?;
-    let fewer = edges(alloc, setting, run, reach, by_hand.as_slice())?;
-    Ok(fewer.is_empty() && found.as_slice() == by_hand.as_slice())
 }
 
 /// Whether a reach that covers the point has the cone in it, if it keeps to the least delays, and the sharp reach, if it is
@@ -78,7 +76,8 @@ fn point_is_plain(setting: &Setting<Protocol>, run: &Run<Protocol>, node: u32, s
         return false;
     }
     let nodes = setting.spec.nodes();
-    for number in 0..count(nodes) {
+    let count = if nodes == 2 { 25 } else { 125 };
+    for number in 0..count {
         if let Some(reach) = numbered(nodes, number)
             && step <= reach.at(node)
             && !is_above(setting, run, &wide, &narrow, &reach)
@@ -104,35 +103,29 @@ fn points_are_plain(setting: &Setting<Protocol>, run: &Run<Protocol>) -> bool
 }
 
 /// Whether all reaches of a run are as the plain search finds.
-fn reaches_are_plain(
-    alloc: Global,
-    setting: &Setting<Protocol>,
-    run: &Run<Protocol>,
-) -> Result<bool, AllocError>
+fn reaches_are_plain(alloc: Global, setting: &Setting<Protocol>, run: &Run<Protocol>) -> bool
     requires { IsRun (world_of setting.now) run.now }
 {
     let nodes = setting.spec.nodes();
-    for number in 0..count(nodes) {
-        let Some(reach) = numbered(nodes, number) else {
-            return Ok(false);
-        };
-        if !reach_is_plain(alloc, setting, run, &reach)? {
-            return Ok(false);
+    let count = if nodes == 2 { 25 } else { 125 };
+    for number in 0..count {
+        match numbered(nodes, number) {
+            Some(reach) if reach_is_plain(alloc, setting, run, &reach) => {}
+            _ => return false,
         }
     }
-    Ok(true)
+    true
 }
 
-/// The run of the row's set is as the plain search finds.
-fn is_plain(
-    rt: &impl Abort,
-    alloc: Global,
-    setting: &Setting<Protocol>,
-    row: &str,
-) -> Result<(), Fail> {
-    let run = run(alloc, setting, &set(row).ok_or("a set")?)?;
-    let same = points_are_plain(setting, &run) && reaches_are_plain(alloc, setting, &run)?;
-    agrees(rt, same, true, row)
+/// Whether the run of the row's set is as the plain search finds.
+fn is_plain(alloc: Global, setting: &Setting<Protocol>, row: &str) -> bool {
+    let Some(faults) = set(row) else {
+        return false;
+    };
+    match run(alloc, setting, &faults) {
+        Ok(run) => { points_are_plain(setting, &run) && reaches_are_plain(alloc, setting, &run) }
+        Err(_) => false,
+    }
 }
 
 /// Sets, of which the last has a crash too many.
@@ -147,33 +140,36 @@ const NUMBERS: &str = concat!(
     "3 2 1 4 1 1 1 1 7\n",
 );
 
-/// The runs of a setting are as the plain search finds.
-fn are_plain(rt: &impl Abort, alloc: Global, protocol: &str, numbers: &str) -> Result<(), Fail> {
-    let setting = setting(alloc, protocol, numbers)?;
+/// Whether the runs of a setting are as the plain search finds.
+fn are_plain(alloc: Global, protocol: &str, numbers: &str) -> bool {
+    let Some(setting) = setting(protocol, numbers) else {
+        return false;
+    };
     for row in SETS.lines() {
-        is_plain(rt, alloc, &setting, row)?;
+        if !is_plain(alloc, &setting, row) {
+            return false;
+        }
     }
-    Ok(())
+    true
 }
 
 /// The runs of each protocol with all numbers are as the plain search finds.
-fn protocols_are_plain(rt: &impl Abort, alloc: Global, protocols: &str) -> Result<(), Fail> {
+fn protocols_are_plain(rt: &impl Abort, alloc: Global, protocols: &str) {
     for protocol in protocols.lines() {
         for numbers in NUMBERS.lines() {
-            are_plain(rt, alloc, protocol, numbers)?;
+            agrees(rt, are_plain(alloc, protocol, numbers), protocol);
         }
     }
-    Ok(())
 }
 
 #[test]
-fn reaches_and_edges_of_two_nodes_are_the_plain_ones(rt: HostRuntime) -> Result<(), Fail> {
+fn reaches_and_edges_of_two_nodes_are_the_plain_ones(rt: HostRuntime) {
     let protocols = "retry 2 2\nredundant 2 2\ntwo_phase 2 2\nthree_phase 2 2";
-    protocols_are_plain(&rt, rt.alloc(), protocols)
+    protocols_are_plain(&rt, rt.alloc(), protocols);
 }
 
 #[test]
-fn reaches_and_edges_of_three_nodes_are_the_plain_ones(rt: HostRuntime) -> Result<(), Fail> {
+fn reaches_and_edges_of_three_nodes_are_the_plain_ones(rt: HostRuntime) {
     let protocols = "retry 3 2\nredundant 3 2\ntwo_phase 3 2\nthree_phase 3 2\nprimary_backup 3 2";
-    protocols_are_plain(&rt, rt.alloc(), protocols)
+    protocols_are_plain(&rt, rt.alloc(), protocols);
 }

@@ -1,23 +1,15 @@
 //! What the texts of examples stand for.
 
-use lf_faults::{Fault, FaultSet, FaultSpec, fault_text, read_fault};
+use lf_faults::{Fault, FaultSet, FaultSpec, read_fault};
 use lf_latency::{Links, Network};
 use lf_outcome::Reach;
 use lf_protocols::Protocol;
 use lf_sim::{Machine, Setting};
-use std::alloc::{AllocError, Global};
 use std::process::Abort;
-use std::test::Fail;
 
-/// What is found is what is expected, in the row of this name. Each comparison is this one: an assertion is dear to prove.
-pub(crate) fn agrees<T: Copy + Eq>(
-    rt: &impl Abort,
-    found: T,
-    expected: T,
-    name: &str,
-) -> Result<(), Fail> {
-    assert!(rt; found == expected, "at {name}");
-    Ok(())
+/// What is found at the row is what it says. Each comparison ends here: an assertion is dear to prove.
+pub(crate) fn agrees(rt: &impl Abort, truth: bool, row: &str) {
+    assert!(rt; truth, "at {row}");
 }
 
 /// The columns before and behind the first `|`.
@@ -35,20 +27,21 @@ pub(crate) fn number(word: &str) -> Option<u32> {
     word.parse::<u32>().ok()
 }
 
-/// The numbers that the words of a text write.
-fn numbers(alloc: Global, text: &str) -> Result<Vec<u32>, Fail> {
-    let mut numbers = Vec::new(alloc);
+/// Puts the numbers that the words of a text write, at most nine, in place of the first of a list, and tells how many they are.
+fn numbers(text: &str, list: &mut [u32; 9]) -> Option<usize> {
+    let mut count = 0_usize;
     for word in text.split(' ') {
-        numbers.push(number(word).ok_or("a number")?)?;
+        *list.get_mut(count)? = number(word)?;
+        count = count.saturating_add(1);
     }
-    Ok(numbers)
+    Some(count)
 }
 
 /// The reach of these last steps.
-pub(crate) fn reach(alloc: Global, text: &str) -> Result<Reach, Fail> {
-    let steps = numbers(alloc, text)?;
-    let reach = Reach::new(steps.as_slice()).ok_or("a reach")?;
-    Ok(reach)
+pub(crate) fn reach(text: &str) -> Option<Reach> {
+    let mut list = [0; 9];
+    let count = numbers(text, &mut list)?;
+    Reach::new(list.get(..count)?)
 }
 
 /// The set of a list of faults.
@@ -63,14 +56,17 @@ pub(crate) fn set(text: &str) -> Option<FaultSet> {
     Some(set)
 }
 
-/// The texts of faults, each with a comma behind it.
-pub(crate) fn listed(alloc: Global, faults: &[Fault]) -> Result<String, AllocError> {
-    let mut text = String::new(alloc);
+/// Whether the text names these faults, each with a comma behind it.
+pub(crate) fn are_named(faults: &[Fault], text: &str) -> bool {
+    let mut rest = text;
     for fault in faults {
-        let word = fault_text(alloc, fault)?;
-        write!(text, "{word},")?;
+        let (item, behind) = rest.split_once(',').unwrap_or((rest, ""));
+        if read_fault(item) != Some(*fault) {
+            return false;
+        }
+        rest = behind;
     }
-    Ok(text)
+    rest.is_empty()
 }
 
 /// The protocol of a name, a number of nodes, and tries or a patience. All votes are a yes.
@@ -92,15 +88,12 @@ fn protocol(text: &str) -> Option<Protocol> {
 /// The setting of a protocol and nine numbers: the last step, the last step of an omission, the greatest numbers of crashes
 /// and of faults, the greatest number of pauses and their length, and of the network the fewest steps that a note takes, how
 /// many more it may take, and the byte of the seed.
-pub(crate) fn setting(alloc: Global, text: &str, bounds: &str) -> Result<Setting<Protocol>, Fail> {
-    let numbers = numbers(alloc, bounds)?;
-    let protocol = protocol(text).ok_or("a protocol")?;
-    let setting = setting_of(protocol, numbers.as_slice()).ok_or("a setting")?;
-    Ok(setting)
-}
-
-/// The same of a protocol and these numbers.
-fn setting_of(protocol: Protocol, numbers: &[u32]) -> Option<Setting<Protocol>> {
+pub(crate) fn setting(text: &str, bounds: &str) -> Option<Setting<Protocol>> {
+    let protocol = protocol(text)?;
+    let mut list = [0; 9];
+    if numbers(bounds, &mut list)? != 9 {
+        return None;
+    }
     let [
         horizon,
         last_omission,
@@ -111,10 +104,7 @@ fn setting_of(protocol: Protocol, numbers: &[u32]) -> Option<Setting<Protocol>> 
         least,
         spread,
         seed,
-    ] = *numbers
-    else {
-        return None;
-    };
+    ] = list;
     let nodes = protocol.nodes();
     let bounds = FaultSpec::new(nodes, horizon, last_omission, crashes, budget)?;
     let bounds = bounds.with_pauses(pauses, pause_length)?;

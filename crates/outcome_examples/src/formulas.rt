@@ -4,8 +4,7 @@ use crate::texts::{number, words};
 use lf_list::Listed;
 use lf_outcome::{Formula, Formulas};
 use lf_protocols::Fact;
-use std::alloc::{AllocError, Global};
-use std::test::Fail;
+use std::alloc::Global;
 
 /// The fact of a word.
 fn fact(word: &str) -> Option<Fact> {
@@ -22,18 +21,26 @@ fn fact(word: &str) -> Option<Fact> {
     }
 }
 
-/// An atom: `down` with a node and a step, or `shows` with these and a fact.
-fn atom(text: &str) -> Option<Formula<Fact>> {
-    let (name, rest) = words(text);
-    let (node, rest) = words(rest);
+/// The formula of these words: `down` with a node and a step, `shows` with these and a fact, or `all` or `any` with how many of
+/// the last formulas are its parts, which are taken out.
+fn item(
+    alloc: Global,
+    formulas: &mut Vec<Formula<Fact>>,
+    name: &str,
+    first: u32,
+    rest: &str,
+) -> Option<Formula<Fact>> {
     let (step, word) = words(rest);
-    let node = number(node)?;
-    let step = number(step)?;
     match name {
-        "down" => Some(Formula::Down { node, step }),
+        "all" => Some(Formula::All(last(alloc, formulas, first)?)),
+        "any" => Some(Formula::Any(last(alloc, formulas, first)?)),
+        "down" => Some(Formula::Down {
+            node: first,
+            step: number(step)?,
+        }),
         "shows" => Some(Formula::Shows {
-            node,
-            step,
+            node: first,
+            step: number(step)?,
             fact: fact(word)?,
         }),
         _ => None,
@@ -41,51 +48,33 @@ fn atom(text: &str) -> Option<Formula<Fact>> {
 }
 
 /// The last so many formulas, which are taken out. Fewer where there are no more.
-fn last(
-    alloc: Global,
-    formulas: &mut Vec<Formula<Fact>>,
-    count: u32,
-) -> Result<Formulas<Fact>, AllocError> {
+fn last(alloc: Global, formulas: &mut Vec<Formula<Fact>>, count: u32) -> Option<Formulas<Fact>> {
     let mut parts = Vec::new(alloc);
     for _ in 0..count {
-        if let Some(part) = formulas.pop() {
-            parts.push(part)?;
+        if let Some(part) = formulas.pop()
+            && parts.push(part).is_err()
+        {
+            return None;
         }
     }
     parts.reverse();
-    Ok(Listed::from_vec(parts))
-}
-
-/// The formula of an item, whose parts are the last of the formulas.
-fn item_formula(
-    alloc: Global,
-    formulas: &mut Vec<Formula<Fact>>,
-    item: &str,
-) -> Result<Formula<Fact>, Fail> {
-    let (name, rest) = words(item);
-    if name != "all" && name != "any" {
-        let atom = atom(item).ok_or("an atom")?;
-        return Ok(atom);
-    }
-    let count = number(rest).ok_or("a number")?;
-    let parts = last(alloc, formulas, count)?;
-    Ok(if name == "all" {
-        Formula::All(parts)
-    } else {
-        Formula::Any(parts)
-    })
+    Some(Listed::from_vec(parts))
 }
 
 /// The formula of a list, in which the parts of each `all` and `any` stand before it.
-pub(crate) fn formula(alloc: Global, text: &str) -> Result<Formula<Fact>, Fail> {
+pub(crate) fn formula(alloc: Global, text: &str) -> Option<Formula<Fact>> {
     let mut formulas = Vec::new(alloc);
-    for item in text.split(',') {
-        let found = item_formula(alloc, &mut formulas, item)?;
-        formulas.push(found)?;
+    for words_of_item in text.split(',') {
+        let (name, rest) = words(words_of_item);
+        let (first, rest) = words(rest);
+        let found = item(alloc, &mut formulas, name, number(first)?, rest)?;
+        if formulas.push(found).is_err() {
+            return None;
+        }
     }
-    let is_one = formulas.len() == 1;
-    match formulas.pop() {
-        Some(whole) if is_one => Ok(whole),
-        _ => Err("one formula")?,
+    if formulas.len() == 1 {
+        formulas.pop()
+    } else {
+        None
     }
 }

@@ -1,5 +1,5 @@
-//! Worked examples of outcomes: runs told line by line, and formulas with their truth, size and evidence. Besides, traces of runs, and
-//! names of sets.
+//! Worked examples of outcomes: runs told line by line, and formulas with their truth, size and evidence. Besides, lists of faults,
+//! and names of outcomes.
 //!
 //! A table of examples is one text, a line for each, in which `|` parts the columns, `,` the items of a list, and blanks the
 //! words. A formula stands behind its parts: `all 2` is of the two formulas before it.
@@ -12,6 +12,8 @@ mod fewest;
 #[cfg(test)]
 mod formulas;
 #[cfg(test)]
+mod listed;
+#[cfg(test)]
 mod reaches;
 #[cfg(test)]
 mod runs;
@@ -19,9 +21,5 @@ mod runs;
 mod sizes;
 #[cfg(test)]
 mod texts;
-#[cfg(test)]
-mod traces;
-#[cfg(test)]
-mod tracing;
 #[cfg(test)]
 mod words;

@@ -1,167 +1,176 @@
-//! Runs, against traces that were made independently, and whether they reach the outcome.
+//! Runs by hand: what is told of each, and whether it reaches the outcome, which is told last.
 
-ghost use Rattle.lf_sim.specs.Settings.{IsRun, world_of};
+use crate::texts::{agrees, columns, outcome, setting};
+use lf_outcome::named;
+use lf_sim::run;
+use lf_trace::{read_faults, trace};
+use std::alloc::Global;
 
-use crate::texts::{agrees, columns, first_of, outcome, set, setting};
-use crate::traces::told;
-use lf_outcome::{Outcome, holds, named};
-use lf_protocols::Protocol;
-use lf_sim::{Run, Setting, run};
-use std::alloc::{AllocError, Global};
-use std::process::Abort;
-use std::test::Fail;
-
-/// Whether a run reaches an outcome.
-fn reaches(
-    alloc: Global,
-    setting: &Setting<Protocol>,
-    run: &Run<Protocol>,
-    outcome: Outcome,
-) -> Result<bool, AllocError>
-    requires { IsRun (world_of setting.now) run.now }
-{
-    let formula = named(alloc, outcome, run.nodes(), run.horizon())?;
-    Ok(holds(setting, &formula, run))
-}
-
-/// The run of a row is told and judged as it says.
-fn is_run(rt: &impl Abort, alloc: Global, row: &str) -> Result<(), Fail> {
-    let (protocol, rest) = columns(row);
+/// What is told of the run of a protocol, the numbers of its setting, an outcome and a list of faults.
+fn told(alloc: Global, head: &str) -> Option<String> {
+    let (protocol, rest) = columns(head);
     let (numbers, rest) = columns(rest);
-    let (word, rest) = columns(rest);
-    let (faults, rest) = columns(rest);
-    let (truth, lines) = columns(rest);
-    let truth = first_of(truth, "reaches", "misses");
-    let outcome = outcome(word).ok_or("an outcome")?;
-    let faults = set(faults).ok_or("a set")?;
-    let setting = setting(alloc, protocol, numbers)?;
-    let run = run(alloc, &setting, &faults)?;
-    let reaches = reaches(alloc, &setting, &run, outcome)?;
-    let found = told(alloc, &setting, &run)?;
-    let same = truth == Some(reaches) && found.as_str() == lines;
-    agrees(rt, same, Some(true), row)
-}
-
-/// For each line of the table a protocol and the numbers of its setting, an outcome, a set of faults, whether its run reaches
-/// the outcome, and the lines of the run.
-fn are_runs(rt: &impl Abort, alloc: Global, table: &str) -> Result<(), Fail> {
-    for row in table.lines() {
-        is_run(rt, alloc, row)?;
+    let (word, faults) = columns(rest);
+    let outcome = outcome(word)?;
+    let faults = read_faults(faults)?;
+    let setting = setting(protocol, numbers)?;
+    let (nodes, horizon) = (setting.network.nodes(), setting.network.horizon());
+    let formula = named(alloc, outcome, nodes, horizon).ok()?;
+    match run(alloc, &setting, &faults) {
+        Ok(run) => trace(alloc, &setting, &formula, &run).ok(),
+        Err(_) => None,
     }
-    Ok(())
 }
 
-/// Runs of retry.
-const RETRY: &str = concat!(
+/// Whether of the run of the first line the others are told.
+fn is_told(alloc: Global, block: &str) -> bool {
+    let (head, lines) = block.split_once('\n').unwrap_or((block, ""));
+    match told(alloc, head) {
+        Some(found) => found.as_str() == lines,
+        None => false,
+    }
+}
+
+/// Runs, in blocks with `#` between any two. A block's first line is a protocol, the numbers of its setting, an outcome and a list of
+/// faults, and the others are what is told of the run: of each step what the nodes show and which notes are sent, and last whether the
+/// run reaches the outcome. They were made independently.
+const RUNS: &str = concat!(
+    // Runs of retry.
     // Every node has the data.
-    "retry 2 1|3 1 0 2 1 1 0 0|delivered||reaches|",
-    "step 1;0 has;1 lacks;0>1 data 2;step 2;0 has;1 has;step 3;0 has;1 has;\n",
+    "retry 2 1|3 1 0 2 1 1 0 0|delivered|\n",
+    "step 1\n0 has\n1 lacks\n0>1 data 2\nstep 2\n0 has\n1 has\nstep 3\n0 has\n1 has\nreaches\n",
     // Some nodes have it.
-    "retry 2 1|3 1 0 2 1 1 0 0|delivered|pause 0 @1|misses|",
-    "step 1;0 down;1 lacks;step 2;0 has;1 lacks;step 3;0 has;1 lacks;\n",
-    "retry 2 1|3 1 0 2 1 1 0 0|delivered|omit 0>1 @1|misses|",
-    "step 1;0 has;1 lacks;0>1 data omitted;step 2;0 has;1 lacks;step 3;0 has;1 lacks;\n",
+    "#retry 2 1|3 1 0 2 1 1 0 0|delivered|pause 0 @1\n",
+    "step 1\n0 down\n1 lacks\nstep 2\n0 has\n1 lacks\nstep 3\n0 has\n1 lacks\nmisses\n",
+    "#retry 2 1|3 1 0 2 1 1 0 0|delivered|omit 0>1 @1\n",
+    "step 1\n0 has\n1 lacks\n0>1 data omitted\nstep 2\n0 has\n1 lacks\nstep 3\n0 has\n1 lacks\nmisses\n",
     // A receiver that wakes in time.
-    "retry 2 1|3 1 0 2 1 1 0 0|delivered|pause 1 @1|reaches|",
-    "step 1;0 has;1 down;0>1 data 2;step 2;0 has;1 has;step 3;0 has;1 has;\n",
+    "#retry 2 1|3 1 0 2 1 1 0 0|delivered|pause 1 @1\n",
+    "step 1\n0 has\n1 down\n0>1 data 2\nstep 2\n0 has\n1 has\nstep 3\n0 has\n1 has\nreaches\n",
     // A node is down at the last step, and the other has it.
-    "retry 2 1|3 1 1 2 1 2 0 0|delivered|pause 1 @1,crash 1 @2|reaches|",
-    "step 1;0 has;1 down;0>1 data lost;step 2;0 has;1 down;step 3;0 has;1 down;\n",
-    "retry 2 1|3 1 1 2 1 2 0 0|delivered|pause 1 @3,crash 1 @2|reaches|",
-    "step 1;0 has;1 lacks;0>1 data lost;step 2;0 has;1 down;step 3;0 has;1 down;\n",
+    "#retry 2 1|3 1 1 2 1 2 0 0|delivered|pause 1 @1,crash 1 @2\n",
+    "step 1\n0 has\n1 down\n0>1 data lost\nstep 2\n0 has\n1 down\nstep 3\n0 has\n1 down\nreaches\n",
+    "#retry 2 1|3 1 1 2 1 2 0 0|delivered|pause 1 @3,crash 1 @2\n",
+    "step 1\n0 has\n1 lacks\n0>1 data lost\nstep 2\n0 has\n1 down\nstep 3\n0 has\n1 down\nreaches\n",
     // No node that is up at the last step has it.
-    "retry 2 1|3 1 1 2 1 1 0 0|delivered|crash 0 @1|reaches|",
-    "step 1;0 down;1 lacks;step 2;0 down;1 lacks;step 3;0 down;1 lacks;\n",
+    "#retry 2 1|3 1 1 2 1 1 0 0|delivered|crash 0 @1\n",
+    "step 1\n0 down\n1 lacks\nstep 2\n0 down\n1 lacks\nstep 3\n0 down\n1 lacks\nreaches\n",
     // No node is up at the last step.
-    "retry 2 1|3 1 2 2 1 1 0 0|delivered|crash 0 @3,crash 1 @2|reaches|",
-    "step 1;0 has;1 lacks;0>1 data lost;step 2;0 has;1 down;step 3;0 down;1 down;\n",
-);
-
-#[test]
-fn retry_by_hand(rt: HostRuntime) -> Result<(), Fail> {
-    are_runs(&rt, rt.alloc(), RETRY)
-}
-
-/// Runs of redundant.
-const REDUNDANT: &str = concat!(
-    "redundant 2 1|3 1 0 2 1 1 0 0|delivered||reaches|",
-    "step 1;0 has;1 lacks;0>1 data 2;step 2;0 has;1 has;1>0 data 3;step 3;0 has;1 has;\n",
+    "#retry 2 1|3 1 2 2 1 1 0 0|delivered|crash 0 @3,crash 1 @2\n",
+    "step 1\n0 has\n1 lacks\n0>1 data lost\nstep 2\n0 has\n1 down\nstep 3\n0 down\n1 down\nreaches\n",
+    // Runs of redundant.
+    "#redundant 2 1|3 1 0 2 1 1 0 0|delivered|\n",
+    "step 1\n0 has\n1 lacks\n0>1 data 2\nstep 2\n0 has\n1 has\n1>0 data 3\nstep 3\n0 has\n1 has\nreaches\n",
     // A sender that is paused sends later.
-    "redundant 2 1|3 1 0 2 1 1 0 0|delivered|pause 0 @1|reaches|",
-    "step 1;0 down;1 lacks;step 2;0 has;1 lacks;0>1 data 3;step 3;0 has;1 has;1>0 data lost;\n",
-);
-
-#[test]
-fn redundant_by_hand(rt: HostRuntime) -> Result<(), Fail> {
-    are_runs(&rt, rt.alloc(), REDUNDANT)
-}
-
-/// Runs of the commits.
-const COMMITS: &str = concat!(
+    "#redundant 2 1|3 1 0 2 1 1 0 0|delivered|pause 0 @1\n",
+    "step 1\n0 down\n1 lacks\nstep 2\n0 has\n1 lacks\n0>1 data 3\nstep 3\n0 has\n1 has\n1>0 data lost\nreaches\n",
+    // Runs of commits.
     // Three_phase, all yes at the step of the time-out.
-    "three_phase 2 2|6 0 0 0 0 1 0 0|agreement||reaches|",
-    "step 1;0 voting;1 idle;0>1 prepare 2;step 2;0 voting;1 prepared;1>0 yes 3;step 3;0 precommitting;1 prepared;0>1 precommit 4;",
-    "step 4;0 precommitting;1 precommitted;1>0 ack 5;step 5;0 committed;1 precommitted;0>1 commit 6;step 6;0 committed;1 committed;\n",
+    "#three_phase 2 2|6 0 0 0 0 1 0 0|agreement|\n",
+    "step 1\n0 voting\n1 idle\n0>1 prepare 2\nstep 2\n0 voting\n1 prepared\n1>0 yes 3\nstep 3\n0 precommitting\n1 prepared\n0>1 precommit 4\n",
+    "step 4\n0 precommitting\n1 precommitted\n1>0 ack 5\nstep 5\n0 committed\n1 precommitted\n0>1 commit 6\n",
+    "step 6\n0 committed\n1 committed\nreaches\n",
     // Two_phase, all yes at the step of the time-out.
-    "two_phase 2 2|4 0 0 0 0 1 0 0|agreement||reaches|",
-    "step 1;0 voting;1 idle;0>1 prepare 2;step 2;0 voting;1 prepared;1>0 yes 3;step 3;0 committed;1 prepared;0>1 commit 4;",
-    "step 4;0 committed;1 committed;\n",
+    "#two_phase 2 2|4 0 0 0 0 1 0 0|agreement|\n",
+    "step 1\n0 voting\n1 idle\n0>1 prepare 2\nstep 2\n0 voting\n1 prepared\n1>0 yes 3\nstep 3\n0 committed\n1 prepared\n0>1 commit 4\n",
+    "step 4\n0 committed\n1 committed\nreaches\n",
     // PREPARE and ABORT in one inbox.
-    "two_phase 2 1|5 0 0 0 0 1 1 5|agreement||reaches|",
-    "step 1;0 voting;1 idle;0>1 prepare 3;step 2;0 aborted;1 idle;0>1 abort 3;step 3;0 aborted;1 aborted;1>0 yes 4;",
-    "step 4;0 aborted;1 aborted;step 5;0 aborted;1 aborted;\n",
+    "#two_phase 2 1|5 0 0 0 0 1 1 5|agreement|\n",
+    "step 1\n0 voting\n1 idle\n0>1 prepare 3\nstep 2\n0 aborted\n1 idle\n0>1 abort 3\nstep 3\n0 aborted\n1 aborted\n1>0 yes 4\n",
+    "step 4\n0 aborted\n1 aborted\nstep 5\n0 aborted\n1 aborted\nreaches\n",
     // A decision, a crash before it, and a no.
-    "two_phase 2 3|4 0 1 1 0 1 0 0|unblocked||reaches|",
-    "step 1;0 voting;1 idle;0>1 prepare 2;step 2;0 voting;1 prepared;1>0 yes 3;step 3;0 committed;1 prepared;0>1 commit 4;",
-    "step 4;0 committed;1 committed;\n",
-    "two_phase 2 3|4 0 1 1 0 1 0 0|unblocked|crash 0 @3|misses|",
-    "step 1;0 voting;1 idle;0>1 prepare 2;step 2;0 voting;1 prepared;1>0 yes lost;step 3;0 down;1 prepared;step 4;0 down;1 prepared;\n",
-    "two_phase 2 3 yn|4 0 1 1 0 1 0 0|unblocked||reaches|",
-    "step 1;0 voting;1 idle;0>1 prepare 2;step 2;0 voting;1 aborted;1>0 no 3;step 3;0 aborted;1 aborted;0>1 abort 4;",
-    "step 4;0 aborted;1 aborted;\n",
+    "#two_phase 2 3|4 0 1 1 0 1 0 0|unblocked|\n",
+    "step 1\n0 voting\n1 idle\n0>1 prepare 2\nstep 2\n0 voting\n1 prepared\n1>0 yes 3\nstep 3\n0 committed\n1 prepared\n0>1 commit 4\n",
+    "step 4\n0 committed\n1 committed\nreaches\n",
+    "#two_phase 2 3|4 0 1 1 0 1 0 0|unblocked|crash 0 @3\n",
+    "step 1\n0 voting\n1 idle\n0>1 prepare 2\nstep 2\n0 voting\n1 prepared\n1>0 yes lost\nstep 3\n0 down\n1 prepared\n",
+    "step 4\n0 down\n1 prepared\nmisses\n",
+    "#two_phase 2 3 yn|4 0 1 1 0 1 0 0|unblocked|\n",
+    "step 1\n0 voting\n1 idle\n0>1 prepare 2\nstep 2\n0 voting\n1 aborted\n1>0 no 3\nstep 3\n0 aborted\n1 aborted\n0>1 abort 4\n",
+    "step 4\n0 aborted\n1 aborted\nreaches\n",
     // A time-out that a pause starts anew.
-    "two_phase 2 3|4 0 1 1 1 1 0 0|unblocked|pause 0 @3|misses|",
-    "step 1;0 voting;1 idle;0>1 prepare 2;step 2;0 voting;1 prepared;1>0 yes lost;step 3;0 down;1 prepared;step 4;0 voting;1 prepared;\n",
-    "three_phase 2 2|6 0 0 2 1 2 0 0|unblocked|pause 1 @3|reaches|",
-    "step 1;0 voting;1 idle;0>1 prepare 2;step 2;0 voting;1 prepared;1>0 yes 3;step 3;0 precommitting;1 down;0>1 precommit lost;",
-    "step 4;0 precommitting;1 down;step 5;0 committed;1 prepared;0>1 commit 6;step 6;0 committed;1 committed;\n",
+    "#two_phase 2 3|4 0 1 1 1 1 0 0|unblocked|pause 0 @3\n",
+    "step 1\n0 voting\n1 idle\n0>1 prepare 2\nstep 2\n0 voting\n1 prepared\n1>0 yes lost\nstep 3\n0 down\n1 prepared\n",
+    "step 4\n0 voting\n1 prepared\nmisses\n",
+    "#three_phase 2 2|6 0 0 2 1 2 0 0|unblocked|pause 1 @3\n",
+    "step 1\n0 voting\n1 idle\n0>1 prepare 2\nstep 2\n0 voting\n1 prepared\n1>0 yes 3\nstep 3\n0 precommitting\n1 down\n0>1 precommit lost\n",
+    "step 4\n0 precommitting\n1 down\nstep 5\n0 committed\n1 prepared\n0>1 commit 6\nstep 6\n0 committed\n1 committed\nreaches\n",
+    // Runs of a primary and a backup.
+    // A client that is paused at step 1 never writes.
+    "#primary_backup 3 2|3 0 0 1 1 1 0 0|one_primary|pause 2 @1\n",
+    "step 1\n0 empty not_done primary unclaimed\n1 empty not_done backup unclaimed\n2 down\n0>1 beat 2\n",
+    "step 2\n0 empty not_done primary unclaimed\n1 empty not_done backup unclaimed\n2 empty not_done backup unclaimed\n0>1 beat 3\n",
+    "step 3\n0 empty not_done primary unclaimed\n1 empty not_done backup unclaimed\n2 empty not_done backup unclaimed\n0>1 beat lost\nreaches\n",
+    // A write, its copy and its answer.
+    "#primary_backup 3 3|6 2 0 2 0 1 0 0|one_primary|\n",
+    "step 1\n0 empty not_done primary unclaimed\n1 empty not_done backup unclaimed\n2 empty not_done backup unclaimed\n0>1 beat 2\n2>0 write 2\n",
+    "step 2\n0 holds not_done primary unclaimed\n1 empty not_done backup unclaimed\n2 empty not_done backup unclaimed\n0>1 repl 3\n",
+    "step 3\n0 holds not_done primary unclaimed\n1 holds not_done backup unclaimed\n2 empty not_done backup unclaimed\n0>1 beat 4\n1>0 ack 4\n",
+    "step 4\n0 holds not_done primary unclaimed\n1 holds not_done backup unclaimed\n2 empty not_done backup unclaimed\n0>1 beat 5\n0>2 done 5\n",
+    "step 5\n0 holds not_done primary unclaimed\n1 holds not_done backup unclaimed\n2 empty done backup unclaimed\n0>1 beat 6\n",
+    "step 6\n0 holds not_done primary unclaimed\n1 holds not_done backup unclaimed\n2 empty done backup unclaimed\n0>1 beat lost\nreaches\n",
+    // Two primaries.
+    "#primary_backup 3 3|6 2 0 2 0 1 0 0|one_primary|omit 0>1 @1,omit 0>1 @2\n",
+    "step 1\n0 empty not_done primary unclaimed\n1 empty not_done backup unclaimed\n2 empty not_done backup unclaimed\n0>1 beat omitted\n2>0 write 2\n",
+    "step 2\n0 holds not_done primary unclaimed\n1 empty not_done backup unclaimed\n2 empty not_done backup unclaimed\n0>1 repl omitted\n",
+    "step 3\n0 holds not_done primary unclaimed\n1 empty not_done primary unclaimed\n2 empty not_done backup unclaimed\n0>1 beat 4\n1>2 claim 4\n",
+    "step 4\n0 holds not_done primary unclaimed\n1 empty not_done primary unclaimed\n2 empty not_done backup claimed\n0>1 beat 5\n",
+    "step 5\n0 holds not_done primary unclaimed\n1 empty not_done primary unclaimed\n2 empty not_done backup claimed\n0>1 beat 6\n",
+    "step 6\n0 holds not_done primary unclaimed\n1 empty not_done primary unclaimed\n2 empty not_done backup claimed\n0>1 beat lost\nmisses\n",
+    // A write whose copy comes after the end.
+    "#primary_backup 3 3|2 0 0 0 0 1 0 0|one_primary|\n",
+    "step 1\n0 empty not_done primary unclaimed\n1 empty not_done backup unclaimed\n2 empty not_done backup unclaimed\n0>1 beat 2\n2>0 write 2\n",
+    "step 2\n0 holds not_done primary unclaimed\n1 empty not_done backup unclaimed\n2 empty not_done backup unclaimed\n0>1 repl lost\nreaches\n",
+    // A note arrives, or is omitted.
+    "#retry 2 1|3 2 1 6 1 1 0 0|delivered|\n",
+    "step 1\n0 has\n1 lacks\n0>1 data 2\nstep 2\n0 has\n1 has\nstep 3\n0 has\n1 has\nreaches\n",
+    "#retry 2 1|3 2 1 6 1 1 0 0|delivered|omit 0>1 @1\n",
+    "step 1\n0 has\n1 lacks\n0>1 data omitted\nstep 2\n0 has\n1 lacks\nstep 3\n0 has\n1 lacks\nmisses\n",
+    // A note is lost past the end, and where its receiver is down: the notes of steps 1 and 2 arrive at 4 and 3.
+    "#retry 2 2|3 2 1 6 1 1 3 0|delivered|\n",
+    "step 1\n0 has\n1 lacks\n0>1 data lost\nstep 2\n0 has\n1 lacks\n0>1 data 3\nstep 3\n0 has\n1 has\nreaches\n",
+    // An omission is told before that nobody would have received the note.
+    "#retry 2 2|3 2 1 6 1 1 3 0|delivered|omit 0>1 @1,crash 1 @3\n",
+    "step 1\n0 has\n1 lacks\n0>1 data omitted\nstep 2\n0 has\n1 lacks\n0>1 data lost\nstep 3\n0 has\n1 down\nreaches\n",
+    // A receiver that is paused and then crashes.
+    "#retry 2 1|3 2 1 6 1 2 0 0|delivered|pause 1 @1,crash 1 @2\n",
+    "step 1\n0 has\n1 down\n0>1 data lost\nstep 2\n0 has\n1 down\nstep 3\n0 has\n1 down\nreaches\n",
+    // Notes stand after the nodes, by sender and then receiver.
+    "#redundant 3 2|2 1 1 6 1 1 0 0|delivered|\n",
+    "step 1\n0 has\n1 lacks\n2 lacks\n0>1 data 2\n0>2 data 2\n",
+    "step 2\n0 has\n1 has\n2 has\n0>1 data lost\n0>2 data lost\n1>0 data lost\n1>2 data lost\n2>0 data lost\n2>1 data lost\nreaches\n",
 );
 
 #[test]
-fn commits_by_hand(rt: HostRuntime) -> Result<(), Fail> {
-    are_runs(&rt, rt.alloc(), COMMITS)
+fn runs_by_hand_are_told_line_by_line(rt: HostRuntime) {
+    for block in RUNS.split('#') {
+        agrees(&rt, is_told(rt.alloc(), block), block);
+    }
 }
 
-/// Runs of a primary and a backup.
-const REPLICAS: &str = concat!(
-    // A client that is paused at step 1 never writes.
-    "primary_backup 3 2|3 0 0 1 1 1 0 0|one_primary|pause 2 @1|reaches|",
-    "step 1;0 empty not_done primary unclaimed;1 empty not_done backup unclaimed;2 down;0>1 beat 2;",
-    "step 2;0 empty not_done primary unclaimed;1 empty not_done backup unclaimed;2 empty not_done backup unclaimed;0>1 beat 3;",
-    "step 3;0 empty not_done primary unclaimed;1 empty not_done backup unclaimed;2 empty not_done backup unclaimed;0>1 beat lost;\n",
-    // A write, its copy and its answer.
-    "primary_backup 3 3|6 2 0 2 0 1 0 0|one_primary||reaches|",
-    "step 1;0 empty not_done primary unclaimed;1 empty not_done backup unclaimed;2 empty not_done backup unclaimed;0>1 beat 2;2>0 write 2;",
-    "step 2;0 holds not_done primary unclaimed;1 empty not_done backup unclaimed;2 empty not_done backup unclaimed;0>1 repl 3;",
-    "step 3;0 holds not_done primary unclaimed;1 holds not_done backup unclaimed;2 empty not_done backup unclaimed;0>1 beat 4;1>0 ack 4;",
-    "step 4;0 holds not_done primary unclaimed;1 holds not_done backup unclaimed;2 empty not_done backup unclaimed;0>1 beat 5;0>2 done 5;",
-    "step 5;0 holds not_done primary unclaimed;1 holds not_done backup unclaimed;2 empty done backup unclaimed;0>1 beat 6;",
-    "step 6;0 holds not_done primary unclaimed;1 holds not_done backup unclaimed;2 empty done backup unclaimed;0>1 beat lost;\n",
-    // Two primaries.
-    "primary_backup 3 3|6 2 0 2 0 1 0 0|one_primary|omit 0>1 @1,omit 0>1 @2|misses|",
-    "step 1;0 empty not_done primary unclaimed;1 empty not_done backup unclaimed;2 empty not_done backup unclaimed;0>1 beat omitted;2>0 write 2;",
-    "step 2;0 holds not_done primary unclaimed;1 empty not_done backup unclaimed;2 empty not_done backup unclaimed;0>1 repl omitted;",
-    "step 3;0 holds not_done primary unclaimed;1 empty not_done primary unclaimed;2 empty not_done backup unclaimed;0>1 beat 4;1>2 claim 4;",
-    "step 4;0 holds not_done primary unclaimed;1 empty not_done primary unclaimed;2 empty not_done backup claimed;0>1 beat 5;",
-    "step 5;0 holds not_done primary unclaimed;1 empty not_done primary unclaimed;2 empty not_done backup claimed;0>1 beat 6;",
-    "step 6;0 holds not_done primary unclaimed;1 empty not_done primary unclaimed;2 empty not_done backup claimed;0>1 beat lost;\n",
-    // A write whose copy comes after the end.
-    "primary_backup 3 3|2 0 0 0 0 1 0 0|one_primary||reaches|",
-    "step 1;0 empty not_done primary unclaimed;1 empty not_done backup unclaimed;2 empty not_done backup unclaimed;0>1 beat 2;2>0 write 2;",
-    "step 2;0 holds not_done primary unclaimed;1 empty not_done backup unclaimed;2 empty not_done backup unclaimed;0>1 repl lost;\n",
-);
+/// The longest run that sends the most notes.
+const LONGEST: &str = "redundant 8 48|48 47 1 6 1 1 0 0|delivered|";
+
+/// How many lines the bytes are.
+fn count_lines(bytes: &[u8]) -> u32 {
+    let mut lines: u32 = 0;
+    for byte in bytes {
+        if *byte == b'\n' {
+            lines = lines.saturating_add(1);
+        }
+    }
+    lines
+}
 
 #[test]
-fn replicas_by_hand(rt: HostRuntime) -> Result<(), Fail> {
-    are_runs(&rt, rt.alloc(), REPLICAS)
+fn every_step_of_the_longest_run_has_its_lines(rt: HostRuntime) {
+    // 48 steps with 8 nodes each; 7 notes at step 1, 56 at each of the 47 others; and the end.
+    let is_told = match told(rt.alloc(), LONGEST) {
+        Some(found) => {
+            count_lines(found.as_bytes()) == 48 * 9 + 7 + 47 * 56 + 1
+                && found.as_str().ends_with("7>6 data lost\nreaches\n")
+        }
+        None => false,
+    };
+    agrees(&rt, is_told, LONGEST);
 }

@@ -2,37 +2,9 @@
 
 use crate::texts::{agrees, columns, outcome, protocol, words};
 use lf_outcome::outcome_named;
-use lf_protocols::Protocol;
-use std::process::Abort;
-use std::test::Fail;
 
 /// All outcomes.
 const ALL: &str = "delivered agreement unblocked one_primary durable";
-
-#[test]
-fn each_outcome_has_its_word(rt: HostRuntime) -> Result<(), Fail> {
-    for word in ALL.split(' ') {
-        let outcome = outcome(word).ok_or("an outcome")?;
-        agrees(&rt, outcome.word(), Some(word), word)?;
-    }
-    Ok(())
-}
-
-/// Of all outcomes the protocol finds these two alone by their words.
-fn finds(rt: &impl Abort, protocol: &Protocol, own: &str) -> Result<(), Fail> {
-    let (first, second) = words(own);
-    for word in ALL.split(' ') {
-        let expected = if word == first || word == second {
-            outcome(word)
-        } else {
-            None
-        };
-        agrees(rt, outcome_named(protocol, word), Some(expected), own)?;
-    }
-    let others = outcome_named(protocol, "").is_some()
-        || outcome_named(protocol, "Delivered").is_some();
-    agrees(rt, others, Some(false), own)
-}
 
 /// Protocols with their outcomes, of which there are at most two.
 const OWN: &str = concat!(
@@ -43,11 +15,29 @@ const OWN: &str = concat!(
     "primary_backup 3 1|one_primary durable\n",
 );
 
-#[test]
-fn each_protocol_finds_its_own_outcomes_by_their_words(rt: HostRuntime) -> Result<(), Fail> {
-    for row in OWN.lines() {
-        let (text, own) = columns(row);
-        finds(&rt, &protocol(text).ok_or("a protocol")?, own)?;
+/// Whether each outcome has its word, and of all of them the protocol finds its own alone by their words.
+fn finds_its_own(row: &str) -> bool {
+    let (text, own) = columns(row);
+    let (first, second) = words(own);
+    let Some(protocol) = protocol(text) else {
+        return false;
+    };
+    for word in ALL.split(' ') {
+        let Some(outcome) = outcome(word) else {
+            return false;
+        };
+        let is_own = word == first || word == second;
+        let wanted = if is_own { Some(outcome) } else { None };
+        if outcome.word() != word || outcome_named(&protocol, word) != wanted {
+            return false;
+        }
     }
-    Ok(())
+    outcome_named(&protocol, "").is_none() && outcome_named(&protocol, "Delivered").is_none()
+}
+
+#[test]
+fn each_outcome_has_its_word_and_each_protocol_finds_its_own(rt: HostRuntime) {
+    for row in OWN.lines() {
+        agrees(&rt, finds_its_own(row), row);
+    }
 }

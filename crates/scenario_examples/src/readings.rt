@@ -1,109 +1,135 @@
 //! Texts that are read, and what is read of them.
 
-use crate::texts::{SCENARIO, are_told, changed};
-use std::alloc::{AllocError, Global};
-use std::test::Fail;
+use crate::texts::{agrees, push_changed, row_is_told};
+use crate::told::is_told;
+use lf_scenario::scenarios_are_one;
+use std::alloc::AllocError;
 
-/// What is read of the scenario. A note takes one step where nothing is said.
-const PLAIN: &str = concat!(
-    "numbers|Retry { nodes: 3, tries: 1 }; Bounds { nodes: 3, horizon: 4, last_omission: 3, crashes: 0, ",
+/// Scenarios, and what is read of them.
+const READ: &str = concat!(
+    // A note takes one step where nothing is said.
+    "more||numbers|Retry { nodes: 3, tries: 1 }; Bounds { nodes: 3, horizon: 4, last_omission: 3, crashes: 0, ",
     "budget: 2, pauses: 0, pause_length: 1 }; 100000\n",
-    "delays|0>1 1+0;0>2 1+0;1>0 1+0;1>2 1+0;2>0 1+0;2>1 1+0;\n",
-    "arrivals 2|2;3;4;5;\n",
-    "delivered 3 4|promised\n",
-);
-
-#[test]
-fn a_scenario_is_read(rt: HostRuntime) -> Result<(), Fail> {
-    are_told(&rt, rt.alloc(), SCENARIO, PLAIN)
-}
-
-/// Optional keys.
-const OPTIONAL: &str = concat!(
-    "protocol = \"redundant\";pauses = 2;pause_length = 8;max_sets = 1_0;least = 0x2;spread = +3;",
-    "seed = \"000102030405060708090a0b0c0d0e0f101112131415161718191a1b1c1d1E1F\";",
-    "links = [{from = 0, to = 2, least = 4}, {to = 0, from = 2, spread = 0}]",
-);
-
-/// What is read of the scenario with optional keys. Links have their own delays or the usual ones.
-const WITH_OPTIONAL: &str = concat!(
-    "numbers|Redundant { nodes: 3, tries: 1 }; Bounds { nodes: 3, horizon: 4, last_omission: 3, crashes: 0, ",
+    "more||delays|0>1 1+0;0>2 1+0;1>0 1+0;1>2 1+0;2>0 1+0;2>1 1+0;\n",
+    "more||arrivals 2|2;3;4;5;\n",
+    "more||delivered 3 4|promised\n",
+    // Optional keys. Links have their own delays or the usual ones.
+    "optional||numbers|Redundant { nodes: 3, tries: 1 }; Bounds { nodes: 3, horizon: 4, last_omission: 3, crashes: 0, ",
     "budget: 2, pauses: 2, pause_length: 8 }; 10\n",
-    "delays|0>1 2+3;0>2 4+3;1>0 2+3;1>2 2+3;2>0 2+0;2>1 2+3;\n",
-    "seed|0;1;2;3;4;5;6;7;8;9;10;11;12;13;14;15;16;17;18;19;20;21;22;23;24;25;26;27;28;29;30;31;\n",
+    "optional||delays|0>1 2+3;0>2 4+3;1>0 2+3;1>2 2+3;2>0 2+0;2>1 2+3;\n",
+    "optional||seed|0;1;2;3;4;5;6;7;8;9;10;11;12;13;14;15;16;17;18;19;20;21;22;23;24;25;26;27;28;29;30;31;\n",
+    // A table of a link at the end.
+    "more|[[links]];from = 0;to = 2;least = 4;|delays|0>1 1+0;0>2 4+0;1>0 1+0;1>2 1+0;2>0 1+0;2>1 1+0;\n",
+    "more|[[links]];from = 0;to = 2;least = 4;|arrivals 2|5;6;7;8;\n",
+    // Numbers are those of TOML.
+    "numbers||numbers|Retry { nodes: 2, tries: 10 }; Bounds { nodes: 2, horizon: 3, last_omission: 1, crashes: 0, ",
+    "budget: 1, pauses: 0, pause_length: 1 }; 100000\n",
+    // Late notes of a seed of zeros.
+    "late||arrivals 1|4;3;4;\n",
+    "late||delivered 2 3|promised\n",
+    "late||seed|0;0;0;0;0;0;0;0;0;0;0;0;0;0;0;0;0;0;0;0;0;0;0;0;0;0;0;0;0;0;0;0;\n",
 );
 
 #[test]
-fn optional_keys_are_read(rt: HostRuntime) -> Result<(), Fail> {
-    let text = changed(rt.alloc(), "protocol", OPTIONAL)?;
-    are_told(&rt, rt.alloc(), text.as_str(), WITH_OPTIONAL)
+fn scenarios_are_read(rt: HostRuntime) {
+    for row in READ.lines() {
+        agrees(&rt, row_is_told(rt.alloc(), row), row);
+    }
 }
 
-/// What is read of the scenario with a link at its end.
-const WITH_LINK: &str =
-    "delays|0>1 1+0;0>2 4+0;1>0 1+0;1>2 1+0;2>0 1+0;2>1 1+0;\narrivals 2|5;6;7;8;";
+/// Lines of scenarios whose protocols wait: the protocol and the outcome that are read of them, or how they are refused.
+const PATIENT: &str = concat!(
+    "patient|nodes = 3;protocol = \"two_phase\";outcome = \"agreement\";patience = 5;votes = [true, false]|protocol|TwoPhase { nodes: 3, ",
+    "patience: 5, votes: [true, true, false, true, true, true, true, true] }\n",
+    "patient|nodes = 3;protocol = \"two_phase\";outcome = \"agreement\";patience = 5;votes = [true, false]|agreement 3 4|promised\n",
+    "patient|nodes = 8;protocol = \"two_phase\";outcome = \"unblocked\";patience = 48|protocol|TwoPhase { nodes: 8, patience: 48, votes: [true, ",
+    "true, true, true, true, true, true, true] }\n",
+    "patient|nodes = 8;protocol = \"two_phase\";outcome = \"unblocked\";patience = 48|unblocked 8 4|promised\n",
+    "patient|nodes = 3;protocol = \"three_phase\";outcome = \"unblocked\";votes = [true, false];patience = 1|protocol|ThreePhase { nodes: 3, ",
+    "patience: 1, votes: [true, true, false, true, true, true, true, true] }\n",
+    "patient|nodes = 3;protocol = \"three_phase\";outcome = \"unblocked\";votes = [true, false];patience = 1|unblocked 3 4|promised\n",
+    "patient|nodes = 2;protocol = \"three_phase\";outcome = \"agreement\";patience = 1;votes = [false]|protocol|ThreePhase { nodes: 2, ",
+    "patience: 1, votes: [true, false, true, true, true, true, true, true] }\n",
+    "patient|nodes = 2;protocol = \"three_phase\";outcome = \"agreement\";patience = 1;votes = [false]|agreement 2 4|promised\n",
+    "patient|nodes = 3;protocol = \"primary_backup\";outcome = \"one_primary\";patience = 2|protocol|PrimaryBackup { nodes: 3, patience: 2 }\n",
+    "patient|nodes = 3;protocol = \"primary_backup\";outcome = \"one_primary\";patience = 2|one_primary 3 4|promised\n",
+    "patient|nodes = 4;protocol = \"primary_backup\";outcome = \"durable\";patience = 2|protocol|PrimaryBackup { nodes: 4, patience: 2 }\n",
+    "patient|nodes = 4;protocol = \"primary_backup\";outcome = \"durable\";patience = 2|durable 4 4|promised\n",
+    // Refused.
+    "patient|nodes = 3;protocol = \"two_phase\";outcome = \"agreement\";||3 patience\n",
+    "patient|nodes = 3;protocol = \"two_phase\";outcome = \"agreement\";tries = 1||4 tries\n",
+    "patient|nodes = 3;protocol = \"two_phase\";outcome = \"agreement\";patience = 0||6 patience\n",
+    "patient|nodes = 3;protocol = \"three_phase\";outcome = \"agreement\";patience = 49||6 patience\n",
+    "patient|nodes = 3;protocol = \"two_phase\";outcome = \"agreement\";patience = true||5 patience\n",
+    "patient|nodes = 3;protocol = \"two_phase\";outcome = \"agreement\";patience = 1;votes = [true]||6 votes\n",
+    "patient|nodes = 3;protocol = \"two_phase\";outcome = \"agreement\";patience = 1;votes = [true, true, true]||6 votes\n",
+    "patient|nodes = 3;protocol = \"two_phase\";outcome = \"agreement\";patience = 1;votes = []||6 votes\n",
+    "patient|nodes = 3;protocol = \"two_phase\";outcome = \"agreement\";patience = 1;votes = [true, 1]||5 votes\n",
+    "patient|nodes = 3;protocol = \"two_phase\";outcome = \"agreement\";patience = 1;votes = [1]||5 votes\n",
+    "patient|nodes = 3;protocol = \"three_phase\";outcome = \"agreement\";patience = 1;votes = true||5 votes\n",
+    "patient|nodes = 3;protocol = \"primary_backup\";outcome = \"durable\";patience = 1;votes = [true, true]||4 votes\n",
+    "patient|nodes = 3;protocol = \"primary_backup\";outcome = \"durable\";tries = 1||4 tries\n",
+    "patient|nodes = 3;protocol = \"primary_backup\";outcome = \"durable\";||3 patience\n",
+    "patient|nodes = 2;protocol = \"primary_backup\";outcome = \"durable\";patience = 1||9 protocol\n",
+    "patient|nodes = 3;protocol = \"primary_backup\";outcome = \"agreement\";patience = 1||10 outcome\n",
+    "patient|nodes = 3;protocol = \"two_phase\";outcome = \"durable\";patience = 1||10 outcome\n",
+    "patient|nodes = 3;protocol = \"three_phase\";outcome = \"delivered\";patience = 1||10 outcome\n",
+);
 
 #[test]
-fn a_table_of_a_link_may_stand_at_the_end(rt: HostRuntime) -> Result<(), Fail> {
-    let text = changed(rt.alloc(), "more", "[[links]];from = 0;to = 2;least = 4;")?;
-    are_told(&rt, rt.alloc(), text.as_str(), WITH_LINK)
+fn votes_and_patience_are_read_or_refused(rt: HostRuntime) {
+    for row in PATIENT.lines() {
+        agrees(&rt, row_is_told(rt.alloc(), row), row);
+    }
 }
 
-/// A scenario whose numbers are written in other ways.
-const OTHER_NUMBERS: &str = concat!(
-    "nodes = +2\nhorizon = 3\nlast_omission = 1\ncrashes = -0\nbudget = 0x1\n",
-    "protocol = \"retry\"\ntries = 1_0\noutcome = \"delivered\"\n",
-);
-
-/// What is read of it.
-const WITH_OTHER_NUMBERS: &str = concat!(
-    "numbers|Retry { nodes: 2, tries: 10 }; Bounds { nodes: 2, horizon: 3, last_omission: 1, crashes: 0, ",
-    "budget: 1, pauses: 0, pause_length: 1 }; 100000",
+/// Another text of the scenario, and changes of it that make it another one.
+const SAME: &str = concat!(
+    "budget|budget = 0b10 # two;spread = 0;max_sets = 100000|same|\n",
+    "nodes|nodes = 4|another|\n",
+    "horizon|horizon = 5|another|\n",
+    "last_omission|last_omission = 2|another|\n",
+    "crashes|crashes = 1|another|\n",
+    "budget|budget = 1|another|\n",
+    "protocol|protocol = \"redundant\"|another|\n",
+    "tries|tries = 2|another|\n",
+    "more|max_sets = 99999|another|\n",
+    "more|pauses = 1|another|\n",
+    "more|pause_length = 2|another|\n",
+    "more|least = 2|another|\n",
+    "more|spread = 1|another|\n",
+    "more|links = [{from = 2, to = 1, spread = 1}]|another|\n",
+    "more|seed = \"0000000000000000000000000000000000000000000000000000000000000001\"|another|\n",
 );
 
 #[test]
-fn numbers_are_those_of_toml(rt: HostRuntime) -> Result<(), Fail> {
-    are_told(&rt, rt.alloc(), OTHER_NUMBERS, WITH_OTHER_NUMBERS)
+fn scenarios_are_the_same_whatever_their_texts_and_each_value_makes_another(rt: HostRuntime) {
+    scenarios_are_one();
+    for row in SAME.lines() {
+        agrees(&rt, row_is_told(rt.alloc(), row), row);
+    }
 }
 
-/// A scenario whose delays are those of the seed of zeros.
-const LATE_NOTES: &str = concat!(
-    "nodes = 2\nhorizon = 3\nlast_omission = 2\ncrashes = 0\nbudget = 1\nspread = 3\n",
-    "seed = \"0000000000000000000000000000000000000000000000000000000000000000\"\n",
-    "protocol = \"retry\"\ntries = 2\noutcome = \"delivered\"\n",
-);
-
-/// What is read of it.
-const WITH_LATE_NOTES: &str = concat!(
-    "arrivals 1|4;3;4;\n",
-    "delivered 2 3|promised\n",
-    "seed|0;0;0;0;0;0;0;0;0;0;0;0;0;0;0;0;0;0;0;0;0;0;0;0;0;0;0;0;0;0;0;0;\n",
-);
-
-#[test]
-fn late_notes_of_a_seed_of_zeros(rt: HostRuntime) -> Result<(), Fail> {
-    are_told(&rt, rt.alloc(), LATE_NOTES, WITH_LATE_NOTES)
-}
-
-/// The scenario among eight nodes, with a table for each link.
-fn with_all_links(alloc: Global) -> Result<String, AllocError> {
-    let mut text = changed(alloc, "nodes", "nodes = 8")?;
-    for link in 0..64_u32 {
-        let (from, to) = (link / 8, link % 8);
-        if from != to {
-            let least = from + to;
-            write!(
-                text,
-                "[[links]]\nfrom = {from}\nto = {to}\nleast = {least}\n"
-            )?;
+/// Adds the scenario among eight nodes, with a table for each link.
+fn push_all_links(text: &mut String) -> Result<(), AllocError> {
+    push_changed(text, "nodes", "nodes = 8")?;
+    for from in 0..8_u32 {
+        for to in 0..8_u32 {
+            if from != to {
+                let least = from + to;
+                write!(
+                    text,
+                    "[[links]]\nfrom = {from}\nto = {to}\nleast = {least}\n"
+                )?;
+            }
         }
     }
-    Ok(text)
+    Ok(())
 }
 
-/// What is read of it.
-const WITH_ALL_LINKS: &str = concat!(
-    "delays|0>1 1+0;0>2 2+0;0>3 3+0;0>4 4+0;0>5 5+0;0>6 6+0;0>7 7+0;",
+/// The delays of its links.
+const ALL_DELAYS: &str = concat!(
+    "0>1 1+0;0>2 2+0;0>3 3+0;0>4 4+0;0>5 5+0;0>6 6+0;0>7 7+0;",
     "1>0 1+0;1>2 3+0;1>3 4+0;1>4 5+0;1>5 6+0;1>6 7+0;1>7 8+0;",
     "2>0 2+0;2>1 3+0;2>3 5+0;2>4 6+0;2>5 7+0;2>6 8+0;2>7 9+0;",
     "3>0 3+0;3>1 4+0;3>2 5+0;3>4 7+0;3>5 8+0;3>6 9+0;3>7 10+0;",
@@ -114,14 +140,11 @@ const WITH_ALL_LINKS: &str = concat!(
 );
 
 #[test]
-fn all_links_are_read_at_once(rt: HostRuntime) -> Result<(), Fail> {
-    let text = with_all_links(rt.alloc())?;
-    are_told(&rt, rt.alloc(), text.as_str(), WITH_ALL_LINKS)
-}
-
-#[test]
-fn a_link_behind_all_links_is_refused(rt: HostRuntime) -> Result<(), Fail> {
-    let mut text = with_all_links(rt.alloc())?;
-    text.push_str("[[links]]\nfrom = 7\nto = 6\n")?;
-    are_told(&rt, rt.alloc(), text.as_str(), "|8 links")
+fn all_links_are_read_at_once_and_a_link_behind_them_is_refused(rt: HostRuntime) {
+    let mut text = String::new(rt.alloc());
+    let are_told = push_all_links(&mut text).is_ok()
+        && is_told(rt.alloc(), text.as_bytes(), "delays", ALL_DELAYS)
+        && text.push_str("[[links]]\nfrom = 7\nto = 6\n").is_ok()
+        && is_told(rt.alloc(), text.as_bytes(), "", "8 links");
+    agrees(&rt, are_told, "all links");
 }

@@ -1,9 +1,8 @@
 //! The texts of examples, and how they are compared.
 
-use crate::told::told;
+use crate::told::is_told;
 use std::alloc::{AllocError, Global};
 use std::process::Abort;
-use std::test::Fail;
 
 /// A scenario, in the order of its keys.
 pub(crate) const SCENARIO: &str = concat!(
@@ -11,15 +10,34 @@ pub(crate) const SCENARIO: &str = concat!(
     "protocol = \"retry\"\ntries = 1\noutcome = \"delivered\"\n",
 );
 
-/// What is found is what is expected, in the row of this name. Each comparison is this one: an assertion is dear to prove.
-pub(crate) fn agrees<T: Copy + Eq>(
-    rt: &impl Abort,
-    found: T,
-    expected: T,
-    name: &str,
-) -> Result<(), Fail> {
-    assert!(rt; found == expected, "at {name}");
-    Ok(())
+/// The lines of a scenario with no faults.
+const PATIENT: &str = "horizon = 4\nlast_omission = 0\ncrashes = 0\nbudget = 0\n";
+
+/// A scenario with optional keys.
+const OPTIONAL: &str = concat!(
+    "nodes = 3\nhorizon = 4\nlast_omission = 3\ncrashes = 0\nbudget = 2\n",
+    "protocol = \"redundant\"\npauses = 2\npause_length = 8\nmax_sets = 1_0\nleast = 0x2\nspread = +3\n",
+    "seed = \"000102030405060708090a0b0c0d0e0f101112131415161718191a1b1c1d1E1F\"\n",
+    "links = [{from = 0, to = 2, least = 4}, {to = 0, from = 2, spread = 0}]\n",
+    "tries = 1\noutcome = \"delivered\"\n",
+);
+
+/// A scenario whose numbers are written in other ways.
+const NUMBERS: &str = concat!(
+    "nodes = +2\nhorizon = 3\nlast_omission = 1\ncrashes = -0\nbudget = 0x1\n",
+    "protocol = \"retry\"\ntries = 1_0\noutcome = \"delivered\"\n",
+);
+
+/// A scenario whose delays are those of the seed of zeros.
+const LATE: &str = concat!(
+    "nodes = 2\nhorizon = 3\nlast_omission = 2\ncrashes = 0\nbudget = 1\nspread = 3\n",
+    "seed = \"0000000000000000000000000000000000000000000000000000000000000000\"\n",
+    "protocol = \"retry\"\ntries = 2\noutcome = \"delivered\"\n",
+);
+
+/// What is found at the row is what it says. Each comparison ends here: an assertion is dear to prove.
+pub(crate) fn agrees(rt: &impl Abort, truth: bool, row: &str) {
+    assert!(rt; truth, "at {row}");
 }
 
 /// The columns before and behind the first `|`.
@@ -28,20 +46,27 @@ pub(crate) fn columns(line: &str) -> (&str, &str) {
 }
 
 /// Adds lines, of which all but the last end with `;`.
-pub(crate) fn push_lines(text: &mut String, lines: &str) -> Result<(), AllocError> {
+fn push_lines(text: &mut String, lines: &str) -> Result<(), AllocError> {
     for c in lines.chars() {
         text.push(if c == ';' { '\n' } else { c })?;
     }
     Ok(())
 }
 
-/// The scenario with these lines in place of the one of the key, or at its end where it has no line of that key.
-pub(crate) fn changed(alloc: Global, key: &str, lines: &str) -> Result<String, AllocError> {
-    let mut text = String::new(alloc);
+/// Adds the scenario with these lines in place of the one of the key, or at its end where it has no line of that key. Some keys, of
+/// no line, name other scenarios.
+pub(crate) fn push_changed(text: &mut String, key: &str, lines: &str) -> Result<(), AllocError> {
+    let scenario = match key {
+        "patient" => PATIENT,
+        "optional" => OPTIONAL,
+        "numbers" => NUMBERS,
+        "late" => LATE,
+        _ => SCENARIO,
+    };
     let mut is_more = true;
-    for line in SCENARIO.lines() {
+    for line in scenario.lines() {
         if line.starts_with(key) {
-            push_lines(&mut text, lines)?;
+            push_lines(text, lines)?;
             is_more = false;
         } else {
             text.push_str(line)?;
@@ -49,67 +74,16 @@ pub(crate) fn changed(alloc: Global, key: &str, lines: &str) -> Result<String, A
         text.push('\n')?;
     }
     if is_more {
-        push_lines(&mut text, lines)?;
-    }
-    Ok(text)
-}
-
-/// A text, then another so many times, and then a third.
-pub(crate) fn repeated(
-    alloc: Global,
-    before: &str,
-    part: &str,
-    times: usize,
-    after: &str,
-) -> Result<String, AllocError> {
-    let mut text = String::new(alloc);
-    text.push_str(before)?;
-    for _ in 0..times {
-        text.push_str(part)?;
-    }
-    text.push_str(after)?;
-    Ok(text)
-}
-
-/// Of the scenario of the text this is told, or it is refused like this.
-pub(crate) fn is_told(
-    rt: &impl Abort,
-    alloc: Global,
-    text: &[u8],
-    what: &str,
-    expected: &str,
-    name: &str,
-) -> Result<(), Fail> {
-    let found = told(alloc, text, what)?;
-    agrees(rt, found.as_str(), expected, name)
-}
-
-/// For each line of the table what is told of the scenario of the text, and how.
-pub(crate) fn are_told(
-    rt: &impl Abort,
-    alloc: Global,
-    text: &str,
-    table: &str,
-) -> Result<(), Fail> {
-    for row in table.lines() {
-        let (what, expected) = columns(row);
-        is_told(rt, alloc, text.as_bytes(), what, expected, row)?;
+        push_lines(text, lines)?;
     }
     Ok(())
 }
 
-/// The scenario with the row's lines in place of those of its key is read or refused as it says.
-fn is_read_as(rt: &impl Abort, alloc: Global, row: &str) -> Result<(), Fail> {
+/// Whether the scenario with the lines of a row is read or refused as it says.
+pub(crate) fn row_is_told(alloc: Global, row: &str) -> bool {
     let (key, rest) = columns(row);
-    let (lines, expected) = columns(rest);
-    let text = changed(alloc, key, lines)?;
-    is_told(rt, alloc, text.as_bytes(), "", expected, row)
-}
-
-/// For each line of the table, a key, lines and a reading: the scenario with these lines is read or refused like this.
-pub(crate) fn are_read_as(rt: &impl Abort, alloc: Global, table: &str) -> Result<(), Fail> {
-    for row in table.lines() {
-        is_read_as(rt, alloc, row)?;
-    }
-    Ok(())
+    let (lines, rest) = columns(rest);
+    let (what, expected) = columns(rest);
+    let mut text = String::new(alloc);
+    push_changed(&mut text, key, lines).is_ok() && is_told(alloc, text.as_bytes(), what, expected)
 }
