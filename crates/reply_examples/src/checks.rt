@@ -1,24 +1,60 @@
 //! Checks of certificates.
+//!
+//! A line of a table that begins with `#` tells a scenario. Each line behind it has a tree's text, the status and the reply to the check of
+//! that text for the scenario, in one thread and in several.
 
-use crate::texts::{ONCE, check_replies, checks, scenario};
-use std::alloc::{AllocError, Global};
-use std::test::Fail;
+use crate::texts::{agrees, check_replies, columns, is_reply, text_of};
+use leastfault::check_bytes_rows;
+use lf_streams::{FromRead, ToWrite};
+use std::alloc::Global;
+use std::process::Abort;
+use std::thread::Threads;
 
-/// Two nodes and one try, of which the note may be lost.
-pub(crate) fn lost(alloc: Global) -> Result<String, AllocError> {
-    scenario(
-        alloc,
-        "2 3 1 0 1",
-        "protocol = \"retry\";tries = 1;outcome = \"delivered\"",
-    )
+/// Whether the check of a tree's text for a scenario's has this reply, in several threads.
+fn check_rows_replies(
+    rt: &(impl Threads + Sync),
+    alloc: Global,
+    text: &[u8],
+    tree: &[u8],
+    wanted: &str,
+) -> bool {
+    let mut out = Vec::new(alloc);
+    let mut source = FromRead::new(text);
+    let mut tree_source = FromRead::new(tree);
+    let mut sink = ToWrite::new(&mut out);
+    match check_bytes_rows(rt, alloc, &mut source, &mut tree_source, &mut sink) {
+        Ok(status) => is_reply(out.as_slice(), status, wanted),
+        Err(_) => false,
+    }
 }
 
-/// The certificate of the lost note.
-pub(crate) const LOST: &str =
-    r#"{"answer":["omit 0>1 @1"],"format":1,"root":{"edges":["omit 0>1 @1"],"kids":[{"misses":true}],"reach":[3,3]}}"#;
+/// Whether the check of a row's tree for the scenario of another replies as it says.
+fn row_is_checked(rt: &(impl Threads + Sync), alloc: Global, scenario: &str, row: &str) -> bool {
+    let (tree, wanted) = columns(row);
+    match text_of(alloc, scenario) {
+        Ok(text) => {
+            let (text, tree) = (text.as_bytes(), tree.as_bytes());
+            check_replies(alloc, text, tree, wanted)
+                && check_rows_replies(rt, alloc, text, tree, wanted)
+        }
+        Err(_) => false,
+    }
+}
 
-/// That certificate, and others that differ from it in one thing, with the status and the reply.
-const LOST_AND_CHANGED: &str = concat!(
+/// Each check of the table replies as its row says.
+fn all_are_checked(rt: &(impl Abort + Threads + Sync), alloc: Global, table: &str) {
+    for part in table.split('#') {
+        let (scenario, rows) = part.split_once('\n').unwrap_or((part, ""));
+        for row in rows.lines() {
+            agrees(rt, row_is_checked(rt, alloc, scenario, row), row);
+        }
+    }
+}
+
+/// Trees that are right, and others that differ from them in one thing.
+const TREES: &str = concat!(
+    // of two nodes and one try, of which the note may be lost
+    "#2 3 1 0 1|protocol = \"retry\";tries = 1;outcome = \"delivered\"\n",
     r#"{"answer":["omit 0>1 @1"],"format":1,"root":{"edges":["omit 0>1 @1"],"kids":[{"misses":true}],"reach":[3,3]}}|0|yes"#,
     "\n",
     r#"{"answer":["omit 0>1 @1"],"format":1,"root":{"edges":["omit 0>1 @1"],"kids":[{"misses":true}],"reach":[3,1]}}|1|no 4 -"#,
@@ -41,32 +77,8 @@ const LOST_AND_CHANGED: &str = concat!(
     "\n",
     r#"{"answer":[],"format":1,"root":{"misses":true}}|1|no 3 -"#,
     "\n",
-);
-
-#[test]
-fn the_tree_of_a_lost_note_and_changes_of_it(rt: HostRuntime) -> Result<(), Fail> {
-    let text = lost(rt.alloc())?;
-    checks(&rt, rt.alloc(), text.as_str(), LOST_AND_CHANGED)
-}
-
-/// Texts that differ from that certificate in one byte or in a number that is out of range, with the status and the reply.
-const NO_TREES: &str = concat!(
-    r#"{"answer":["omit 0>1 @1"],"format":1,"root":{"edges":["omit 0>1 @1"],"kids":[{"misses":true}],"reach":[3,3]}|2|refused tree 2"#,
-    "\n",
-    r#"{"answer": ["omit 0>1 @1"],"format":1,"root":{"edges":["omit 0>1 @1"],"kids":[{"misses":true}],"reach":[3,3]}}|2|refused tree 3"#,
-    "\n",
-    r#"{"answer":["omit 0>1 @1"],"format":1,"root":{"edges":["omit 0>1 @1"],"kids":[{"misses":true}],"reach":[3,49]}}|2|refused tree 4"#,
-    "\n",
-);
-
-#[test]
-fn texts_that_are_no_trees(rt: HostRuntime) -> Result<(), Fail> {
-    let text = lost(rt.alloc())?;
-    checks(&rt, rt.alloc(), text.as_str(), NO_TREES)
-}
-
-/// Two beats are lost in a certificate of three levels; and the same with a root whose reach leaves out what it should hold.
-const TWO_LEVELS: &str = concat!(
+    // two beats are lost in a certificate of three levels; and the same with a root whose reach leaves out what it should hold
+    "#3 6 2 0 2|protocol = \"primary_backup\";patience = 3;outcome = [\"shows\", 2, 6, \"unclaimed\"]\n",
     r#"{"answer":["omit 0>1 @1","omit 0>1 @2"],"format":1,"root":{"edges":["omit 0>1 @1","omit 2>0 @1","omit 0>1 @2"],"#,
     r#""kids":[{"edges":["omit 2>0 @1","omit 0>1 @2"],"kids":[{"misses":false},{"misses":true}],"reach":[5,5,6]}"#,
     r#",{"edges":["omit 0>1 @2"],"kids":[{"misses":false}],"reach":[5,5,6]},{"edges":[],"kids":[],"reach":[5,5,6]}],"reach":[5,5,6]}}|0|yes"#,
@@ -78,38 +90,34 @@ const TWO_LEVELS: &str = concat!(
 );
 
 #[test]
-fn the_tree_of_two_lost_beats(rt: HostRuntime) -> Result<(), Fail> {
-    let text = scenario(
-        rt.alloc(),
-        "3 6 2 0 2",
-        "protocol = \"primary_backup\";patience = 3;outcome = [\"shows\", 2, 6, \"unclaimed\"]",
-    )?;
-    checks(&rt, rt.alloc(), text.as_str(), TWO_LEVELS)
+fn trees_are_right_or_wrong_for_a_reason_at_a_place(rt: HostRuntime) {
+    all_are_checked(&rt, rt.alloc(), TREES);
 }
 
-#[test]
-fn the_scenario_is_refused_before_the_tree(rt: HostRuntime) -> Result<(), Fail> {
-    for tree in [LOST, "{", ""] {
-        check_replies(
-            &rt,
-            rt.alloc(),
-            b"nodes = 3",
-            tree.as_bytes(),
-            "2|refused 3 horizon",
-            tree,
-        )?;
-    }
-    check_replies(&rt, rt.alloc(), b"nodes =", b"{", "2|refused 2", "neither")
-}
+/// Texts that are no trees, and texts that are no scenarios.
+const REFUSED: &str = concat!(
+    // texts that differ from the tree of the lost note in one byte or in a number that is out of range
+    "#2 3 1 0 1|protocol = \"retry\";tries = 1;outcome = \"delivered\"\n",
+    r#"{"answer":["omit 0>1 @1"],"format":1,"root":{"edges":["omit 0>1 @1"],"kids":[{"misses":true}],"reach":[3,3]}|2|refused tree 2"#,
+    "\n",
+    r#"{"answer": ["omit 0>1 @1"],"format":1,"root":{"edges":["omit 0>1 @1"],"kids":[{"misses":true}],"reach":[3,3]}}|2|refused tree 3"#,
+    "\n",
+    r#"{"answer":["omit 0>1 @1"],"format":1,"root":{"edges":["omit 0>1 @1"],"kids":[{"misses":true}],"reach":[3,49]}}|2|refused tree 4"#,
+    "\n",
+    // the scenario is refused before the tree
+    "#text|nodes = 3\n",
+    r#"{"answer":["omit 0>1 @1"],"format":1,"root":{"edges":["omit 0>1 @1"],"kids":[{"misses":true}],"reach":[3,3]}}|2|refused 3 horizon"#,
+    "\n",
+    "{|2|refused 3 horizon\n",
+    "|2|refused 3 horizon\n",
+    "#text|nodes =\n",
+    "{|2|refused 2\n",
+    // no tree at all
+    "#3 4 3 0 2|protocol = \"retry\";tries = 1;outcome = \"delivered\"\n",
+    "|2|refused tree 2\n",
+);
 
 #[test]
-fn no_tree_at_all(rt: HostRuntime) -> Result<(), Fail> {
-    check_replies(
-        &rt,
-        rt.alloc(),
-        ONCE.as_bytes(),
-        b"",
-        "2|refused tree 2",
-        "no bytes",
-    )
+fn scenarios_are_refused_before_trees(rt: HostRuntime) {
+    all_are_checked(&rt, rt.alloc(), REFUSED);
 }

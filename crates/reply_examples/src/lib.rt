@@ -4,22 +4,16 @@
 #![tactic(auto)]
 
 #[cfg(test)]
-mod all_sets;
-#[cfg(test)]
-mod check_devices;
-#[cfg(test)]
 mod checks;
 #[cfg(test)]
 mod devices;
-#[cfg(test)]
-mod formulas;
-#[cfg(test)]
-mod protocols;
 #[cfg(test)]
 mod runs;
 #[cfg(test)]
 mod searches;
 #[cfg(test)]
 mod texts;
+#[cfg(test)]
+mod watches;
 #[cfg(test)]
 mod workers;

@@ -1,302 +1,195 @@
-//! The texts of examples, and how the replies to them are compared.
+//! How a row of a table is taken apart, and how replies are compared with what it says.
 
 use leastfault::{
-    all_bytes, all_report, answer_bytes, check_bytes, check_bytes_rows, plain_all, plain_answer,
-    run_bytes, search_bytes,
+    Searched, all_bytes, all_report, answer_bytes, check_bytes, merged_answer, plain_all,
+    plain_answer, report, search_bytes,
 };
-use lf_scenario::read;
+use lf_scenario::{Scenario, read};
 use lf_streams::{FromRead, ToWrite};
-use lf_tree::{Tree, to_text};
+use lf_tree::to_text;
 use std::alloc::{AllocError, Global};
 use std::process::Abort;
-use std::test::Fail;
-use std::thread::Threads;
 
 /// Three nodes, of which node 0 sends the value once.
 pub(crate) const ONCE: &str =
     "nodes = 3\nhorizon = 4\nlast_omission = 3\ncrashes = 0\nbudget = 2\nprotocol = \"retry\"\ntries = 1\noutcome = \"delivered\"\n";
 
-/// The keys that each scenario of a table has first.
-const BOUNDS: &str = "nodes horizon last_omission crashes budget";
+/// What is found at the row is what it says. Each comparison ends here: an assertion is dear to prove.
+pub(crate) fn agrees(rt: &impl Abort, truth: bool, row: &str) {
+    assert!(rt; truth, "at {row}");
+}
 
 /// The columns before and behind the first `|`.
 pub(crate) fn columns(line: &str) -> (&str, &str) {
     line.split_once('|').unwrap_or((line, ""))
 }
 
-/// Adds lines, of which all but the last end with `;`.
-pub(crate) fn push_lines(text: &mut String, lines: &str) -> Result<(), AllocError> {
-    for c in lines.chars() {
-        text.push(if c == ';' { '\n' } else { c })?;
-    }
-    Ok(())
+/// What stands behind the two columns that tell a scenario.
+pub(crate) fn behind(row: &str) -> &str {
+    columns(columns(row).1).1
 }
 
-/// Adds lines that each have an end, with `;` between any two.
-fn push_row(row: &mut String, lines: &str) -> Result<(), AllocError> {
-    for (i, line) in lines.lines().enumerate() {
-        if i > 0 {
-            row.push(';')?;
-        }
-        row.push_str(line)?;
-    }
-    Ok(())
+/// The word at a place of words with blanks between any two.
+fn word(words: &str, place: usize) -> &str {
+    words.split(' ').nth(place).unwrap_or("")
 }
 
-/// The scenario's text, of the numbers of its bounds and further lines.
-pub(crate) fn scenario(alloc: Global, numbers: &str, lines: &str) -> Result<String, AllocError> {
-    let mut text = String::new(alloc);
-    for (key, number) in BOUNDS.split(' ').zip(numbers.split(' ')) {
-        text.push_str(format!(in alloc; "{key} = {number}\n")?.as_str())?;
+/// The scenario of the numbers of its bounds and further lines.
+fn bounded(alloc: Global, numbers: &str, lines: &str) -> Result<String, AllocError> {
+    format!(in alloc;
+        "nodes = {}\nhorizon = {}\nlast_omission = {}\ncrashes = {}\nbudget = {}\n{lines}\n",
+        word(numbers, 0),
+        word(numbers, 1),
+        word(numbers, 2),
+        word(numbers, 3),
+        word(numbers, 4)
+    )
+}
+
+/// The first scenario, with a comment behind it that makes it so many bytes long.
+fn long(alloc: Global, length: usize) -> Result<String, AllocError> {
+    let mut text = String::from_str(alloc, ONCE)?;
+    for _ in ONCE.len()..length {
+        text.push('#')?;
     }
-    push_lines(&mut text, lines)?;
-    text.push('\n')?;
     Ok(text)
 }
 
-/// What was written is this reply, and the status is this one. Both stand in one row, the status first.
-fn is_reply(
-    rt: &impl Abort,
-    alloc: Global,
-    out: &[u8],
-    status: u8,
-    row: &str,
-    name: &str,
-) -> Result<(), Fail> {
-    let (expected, lines) = columns(row);
-    let mut reply = String::new(alloc);
-    push_lines(&mut reply, lines)?;
-    reply.push('\n')?;
-    assert_eq!(rt; out, reply.as_bytes(), "to {name}");
-    let status = format!(in alloc; "{status}")?;
-    assert_eq!(rt; status.as_str(), expected, "to {name}");
-    Ok(())
+/// The text that the first two columns of a row tell, in which `;` stands for the end of a line: that of the bounds of a scenario, and
+/// its further lines; lines of the first scenario, and what stands in their place; or `long` and its length, or `text` and the text itself.
+pub(crate) fn text_of(alloc: Global, row: &str) -> Result<String, AllocError> {
+    let row = row.replace(alloc, ';', "\n")?;
+    let (what, rest) = columns(row.as_str());
+    let (lines, _) = columns(rest);
+    match what {
+        "text" => String::from_str(alloc, lines),
+        "long" => long(alloc, lines.parse::<usize>().unwrap_or(0)),
+        kept if kept.ends_with('\n') => ONCE.replace(alloc, kept, lines),
+        numbers => bounded(alloc, numbers, lines),
+    }
 }
 
-/// The tree of a search certifies its answer: a check of the tree's text says yes, and the plain search answers the same. There is a
-/// tree exactly where the status is 0 or 1.
-fn is_certified(
-    rt: &impl Abort,
-    alloc: Global,
-    text: &[u8],
-    status: u8,
-    tree: &Option<Tree>,
-    name: &str,
-) -> Result<(), Fail> {
-    assert!(rt; tree.is_some() == (status < 2), "a tree of {name}");
-    let Some(tree) = tree else {
-        return Ok(());
-    };
-    let certificate = to_text(alloc, tree)?;
+/// Whether what was written and its status are those of a row: the status, and lines with `;` between any two.
+pub(crate) fn is_reply(out: &[u8], status: u8, wanted: &str) -> bool {
+    let (digit, lines) = columns(wanted);
+    let mut rest = out;
+    for line in lines.split(';') {
+        match rest.strip_prefix(line.as_bytes()) {
+            Some([b'\n', more @ ..]) => rest = more,
+            _ => return false,
+        }
+    }
+    rest.is_empty() && digit.parse::<u8>() == Ok(status)
+}
+
+/// Whether the check of a tree's text for a scenario's has this reply, in one thread.
+pub(crate) fn check_replies(alloc: Global, text: &[u8], tree: &[u8], wanted: &str) -> bool {
     let mut out = Vec::new(alloc);
     let mut source = FromRead::new(text);
-    let mut tree_source = FromRead::new(certificate.as_slice());
+    let mut tree_source = FromRead::new(tree);
     let mut sink = ToWrite::new(&mut out);
-    let _status = check_bytes(alloc, &mut source, &mut tree_source, &mut sink)?;
-    let answer = plain_answer(alloc, &read(alloc, text)?)?;
-    assert!(rt;
-        out.as_slice() == b"yes\n".as_slice() && answer == tree.answer,
-        "the tree of {name}"
-    );
-    Ok(())
+    match check_bytes(alloc, &mut source, &mut tree_source, &mut sink) {
+        Ok(status) => is_reply(out.as_slice(), status, wanted),
+        Err(_) => false,
+    }
 }
 
-/// The search of the text that reports all least sets has this status and this reply, and a certificate where there is an answer.
-pub(crate) fn all_replies(
-    rt: &impl Abort,
-    alloc: Global,
-    text: &[u8],
-    row: &str,
-    name: &str,
-) -> Result<(), Fail> {
+/// Whether the plain search and the merged one find this answer, whose report is the reply.
+fn plain_replies(alloc: Global, asked: &Scenario, wanted: &str) -> bool {
+    let Ok(answer) = plain_answer(alloc, asked) else {
+        return false;
+    };
+    let is_merged = merged_answer(alloc, asked) == Ok(answer);
+    match report(alloc, asked.setting().spec.budget(), &answer) {
+        Ok(text) => is_merged && is_reply(text.as_bytes(), u8::from(answer.is_some()), wanted),
+        Err(_) => false,
+    }
+}
+
+/// Whether the tree of a search certifies its answer: a check of the tree's text says yes, and the plain search answers the same. There
+/// is a tree exactly where the status is 0 or 1.
+fn is_certified(alloc: Global, text: &[u8], found: &Searched) -> bool {
+    let Some(tree) = &found.tree else {
+        return found.status >= 2;
+    };
+    let is_answer = match read(alloc, text) {
+        Ok(asked) => plain_answer(alloc, &asked) == Ok(tree.answer),
+        Err(_) => false,
+    };
+    match to_text(alloc, tree) {
+        Ok(certificate) => {
+            let is_right = check_replies(alloc, text, certificate.as_slice(), "0|yes");
+            is_answer && is_right && found.status < 2
+        }
+        Err(_) => false,
+    }
+}
+
+/// Whether the search of a text, or the one that reports all least sets, has this reply, and a certificate where there is an answer.
+pub(crate) fn search_replies(alloc: Global, text: &[u8], all: bool, wanted: &str) -> bool {
     let mut out = Vec::new(alloc);
     let mut source = FromRead::new(text);
-    let searched = all_bytes(alloc, &mut source, &mut ToWrite::new(&mut out))?;
-    is_certified(rt, alloc, text, searched.status, &searched.tree, name)?;
-    is_reply(rt, alloc, out.as_slice(), searched.status, row, name)
-}
-
-/// What the plain search reports of all least sets of the text's scenario, as a row in which a `;` ends each line but the last.
-fn plain_row(alloc: Global, status: &str, text: &[u8]) -> Result<String, Fail> {
-    let scenario = read(alloc, text)?;
-    let sets = plain_all(alloc, &scenario)?;
-    let report = all_report(alloc, scenario.setting().spec.budget(), sets.as_slice())?;
-    let mut row = format!(in alloc; "{status}|")?;
-    push_row(&mut row, report.as_str())?;
-    Ok(row)
-}
-
-/// What tells the answer alone has this status and this reply, but where a level of the search is too full.
-fn answer_replies(
-    rt: &impl Abort,
-    alloc: Global,
-    text: &[u8],
-    row: &str,
-    name: &str,
-) -> Result<(), Fail> {
-    if row.starts_with("2|full ") {
-        return Ok(());
+    let mut sink = ToWrite::new(&mut out);
+    let searched = if all {
+        all_bytes(alloc, &mut source, &mut sink)
+    } else {
+        search_bytes(alloc, &mut source, &mut sink)
+    };
+    match searched {
+        Ok(found) => {
+            is_reply(out.as_slice(), found.status, wanted) && is_certified(alloc, text, &found)
+        }
+        Err(_) => false,
     }
+}
+
+/// Whether what tells the answer alone has this reply, but where a level of the search is too full.
+fn answer_replies(alloc: Global, text: &[u8], wanted: &str) -> bool {
     let mut out = Vec::new(alloc);
     let mut source = FromRead::new(text);
-    let status = answer_bytes(alloc, &mut source, &mut ToWrite::new(&mut out))?;
-    is_reply(rt, alloc, out.as_slice(), status, row, name)
-}
-
-/// The search of the text has this status and this reply, and a certificate where there is an answer. What tells the answer alone replies the
-/// same. One that reports all least sets
-/// replies the same without an answer, and else with what the plain search finds.
-pub(crate) fn search_replies(
-    rt: &impl Abort,
-    alloc: Global,
-    text: &[u8],
-    row: &str,
-    name: &str,
-) -> Result<(), Fail> {
-    let mut out = Vec::new(alloc);
-    let mut source = FromRead::new(text);
-    let searched = search_bytes(alloc, &mut source, &mut ToWrite::new(&mut out))?;
-    is_certified(rt, alloc, text, searched.status, &searched.tree, name)?;
-    is_reply(rt, alloc, out.as_slice(), searched.status, row, name)?;
-    answer_replies(rt, alloc, text, row, name)?;
-    let (status, _reply) = columns(row);
-    if status == "2" {
-        return all_replies(rt, alloc, text, row, name);
+    let mut sink = ToWrite::new(&mut out);
+    match answer_bytes(alloc, &mut source, &mut sink) {
+        Ok(status) => wanted.starts_with("2|full ") || is_reply(out.as_slice(), status, wanted),
+        Err(_) => false,
     }
-    let all = plain_row(alloc, status, text)?;
-    all_replies(rt, alloc, text, all.as_str(), name)
 }
 
-/// The tree that the search of the text hands out has this text.
-pub(crate) fn is_tree_text(
-    rt: &impl Abort,
-    alloc: Global,
-    text: &[u8],
-    expected: &str,
-) -> Result<(), Fail> {
-    let mut out = Vec::new(alloc);
-    let mut source = FromRead::new(text);
-    let searched = search_bytes(alloc, &mut source, &mut ToWrite::new(&mut out))?;
-    let mut found = Vec::new(alloc);
-    if let Some(tree) = searched.tree {
-        found = to_text(alloc, &tree)?;
+/// What the plain search reports of all least sets, as a reply with its status.
+fn plain_row(alloc: Global, asked: &Scenario, status: &str) -> Result<String, AllocError> {
+    let sets = plain_all(alloc, asked)?;
+    let report = all_report(alloc, asked.setting().spec.budget(), sets.as_slice())?;
+    format!(in alloc; "{status}|{}", report.as_str().trim_end())
+}
+
+/// Whether the plain searches reply so to the text that has an answer, and the search for all least sets as they do.
+fn all_replies(alloc: Global, text: &[u8], wanted: &str) -> bool {
+    let (status, _) = columns(wanted);
+    let Ok(asked) = read(alloc, text) else {
+        return false;
+    };
+    match plain_row(alloc, &asked, status) {
+        Ok(row) => {
+            plain_replies(alloc, &asked, wanted) && search_replies(alloc, text, true, row.as_str())
+        }
+        Err(_) => false,
     }
-    assert!(rt; found.as_slice() == expected.as_bytes(), "{expected}");
-    Ok(())
 }
 
-/// The run of the text under the faults has this status and this reply.
-pub(crate) fn run_replies(
-    rt: &impl Abort,
-    alloc: Global,
-    text: &[u8],
-    faults: &str,
-    row: &str,
-    name: &str,
-) -> Result<(), Fail> {
-    let mut out = Vec::new(alloc);
-    let mut source = FromRead::new(text);
-    let status = run_bytes(alloc, &mut source, faults, &mut ToWrite::new(&mut out))?;
-    is_reply(rt, alloc, out.as_slice(), status, row, name)
+/// Whether the search of a text has this reply, and a certificate where there is an answer. What tells the answer alone replies the same.
+/// The search for all least sets replies the same without an answer, and else with what the plain search finds.
+pub(crate) fn is_searched(alloc: Global, text: &[u8], wanted: &str) -> bool {
+    let all = if wanted.starts_with('2') {
+        search_replies(alloc, text, true, wanted)
+    } else {
+        all_replies(alloc, text, wanted)
+    };
+    all && search_replies(alloc, text, false, wanted) && answer_replies(alloc, text, wanted)
 }
 
-/// The check of the tree's text for the scenario's has this status and this reply, in one thread and in several.
-pub(crate) fn check_replies(
-    rt: &(impl Abort + Threads + Sync),
-    alloc: Global,
-    text: &[u8],
-    tree: &[u8],
-    row: &str,
-    name: &str,
-) -> Result<(), Fail> {
-    let mut out = Vec::new(alloc);
-    let mut source = FromRead::new(text);
-    let mut tree_source = FromRead::new(tree);
-    let status = check_bytes(
-        alloc,
-        &mut source,
-        &mut tree_source,
-        &mut ToWrite::new(&mut out),
-    )?;
-    is_reply(rt, alloc, out.as_slice(), status, row, name)?;
-    check_rows_replies(rt, alloc, text, tree, row, name)
-}
-
-/// The same, in several threads alone.
-fn check_rows_replies(
-    rt: &(impl Abort + Threads + Sync),
-    alloc: Global,
-    text: &[u8],
-    tree: &[u8],
-    row: &str,
-    name: &str,
-) -> Result<(), Fail> {
-    let mut out = Vec::new(alloc);
-    let mut source = FromRead::new(text);
-    let mut tree_source = FromRead::new(tree);
-    let status = check_bytes_rows(
-        rt,
-        alloc,
-        &mut source,
-        &mut tree_source,
-        &mut ToWrite::new(&mut out),
-    )?;
-    is_reply(rt, alloc, out.as_slice(), status, row, name)
-}
-
-/// For each line of the table, a tree's text, a status and a reply: the check of that text for the scenario has this reply.
-pub(crate) fn checks(
-    rt: &(impl Abort + Threads + Sync),
-    alloc: Global,
-    scenario: &str,
-    table: &str,
-) -> Result<(), Fail> {
-    for row in table.lines() {
-        let (tree, expected) = columns(row);
-        check_replies(
-            rt,
-            alloc,
-            scenario.as_bytes(),
-            tree.as_bytes(),
-            expected,
-            row,
-        )?;
+/// The same of the text that a row tells.
+pub(crate) fn row_is_searched(alloc: Global, row: &str) -> bool {
+    match text_of(alloc, row) {
+        Ok(text) => is_searched(alloc, text.as_bytes(), behind(row)),
+        Err(_) => false,
     }
-    Ok(())
-}
-
-/// For each line of the table, bounds, further lines, a status and a reply: the search of that scenario that reports all least sets has
-/// this reply.
-pub(crate) fn searches_for_all(rt: &impl Abort, alloc: Global, table: &str) -> Result<(), Fail> {
-    for row in table.lines() {
-        let (numbers, rest) = columns(row);
-        let (lines, expected) = columns(rest);
-        let text = scenario(alloc, numbers, lines)?;
-        all_replies(rt, alloc, text.as_bytes(), expected, row)?;
-    }
-    Ok(())
-}
-
-/// For each line of the table, bounds, further lines, a status and a reply: the search of that scenario has this reply.
-pub(crate) fn searches(rt: &impl Abort, alloc: Global, table: &str) -> Result<(), Fail> {
-    for row in table.lines() {
-        let (numbers, rest) = columns(row);
-        let (lines, expected) = columns(rest);
-        let text = scenario(alloc, numbers, lines)?;
-        search_replies(rt, alloc, text.as_bytes(), expected, row)?;
-    }
-    Ok(())
-}
-
-/// For each line of the table, bounds, further lines, faults, a status and a reply: the run of that scenario under these
-/// faults has this reply.
-pub(crate) fn runs(rt: &impl Abort, alloc: Global, table: &str) -> Result<(), Fail> {
-    for row in table.lines() {
-        let (numbers, rest) = columns(row);
-        let (lines, rest) = columns(rest);
-        let (faults, expected) = columns(rest);
-        let text = scenario(alloc, numbers, lines)?;
-        run_replies(rt, alloc, text.as_bytes(), faults, expected, row)?;
-    }
-    Ok(())
 }

@@ -1,78 +1,71 @@
 //! Searches by several workers: they reply as one thread does.
 
-use crate::texts::{columns, scenario};
+use crate::texts::{agrees, behind, columns, text_of};
 use leastfault::{BytesFault, Searched, all_bytes, all_shared, search_bytes, search_shared};
 use lf_streams::{FromRead, ToWrite};
 use lf_tree::to_text;
 use std::alloc::Global;
-use std::process::Abort;
 use std::rt::Clock;
 use std::sync::Wait;
-use std::test::Fail;
 use std::thread::Threads;
 
-/// Adds the status of a search and the text of its tree to its reply.
-fn add_rest(alloc: Global, out: &mut Vec<u8>, searched: &Searched) -> Result<(), Fail> {
-    out.push(searched.status)?;
-    if let Some(tree) = &searched.tree {
-        out.extend_from_slice(to_text(alloc, tree)?.as_slice())?;
-    }
-    Ok(())
-}
+/// A number that stands for no cause of the workers.
+const OTHER: u32 = 1000;
 
-/// The reply of a search in one thread, with its status and its tree.
-fn by_one(alloc: Global, text: &[u8], all: bool) -> Result<Vec<u8>, Fail> {
-    let mut out = Vec::new(alloc);
-    let mut source = FromRead::new(text);
-    let searched = if all {
-        all_bytes(alloc, &mut source, &mut ToWrite::new(&mut out))?
-    } else {
-        search_bytes(alloc, &mut source, &mut ToWrite::new(&mut out))?
+/// Adds the status of a search to its reply, and the text of its tree. It answers 0, or the number of the cause why workers gave no answer,
+/// or `OTHER`.
+fn add_rest(alloc: Global, out: &mut Vec<u8>, searched: Result<Searched, BytesFault>) -> u32 {
+    let found = match searched {
+        Ok(found) => found,
+        Err(BytesFault::Pool(number)) => return number,
+        Err(_) => return OTHER,
     };
-    add_rest(alloc, &mut out, &searched)?;
-    Ok(out)
+    let mut is_added = out.push(found.status).is_ok();
+    if let Some(tree) = &found.tree {
+        is_added &= match to_text(alloc, tree) {
+            Ok(text) => out.extend_from_slice(text.as_slice()).is_ok(),
+            Err(_) => false,
+        };
+    }
+    if is_added { 0 } else { OTHER }
 }
 
-/// The reply of a search by so many workers, with its status and its tree. Nothing where they give no answer, with the number of that.
-fn by_workers(
+/// The reply of a search for the answer, or for all least sets, with its status and its tree, and what `add_rest` answers. It is made by so
+/// many workers, or in one thread where no number is given.
+fn replied(
     rt: &(impl Threads + Wait + Clock + Sync),
     alloc: Global,
     text: &[u8],
     all: bool,
-    workers: u32,
-) -> Result<(Vec<u8>, u32), Fail> {
+    workers: Option<u32>,
+) -> (Vec<u8>, u32) {
     let mut out = Vec::new(alloc);
     let mut source = FromRead::new(text);
-    let searched = if all {
-        all_shared(rt, alloc, &mut source, &mut ToWrite::new(&mut out), workers)
-    } else {
-        search_shared(rt, alloc, &mut source, &mut ToWrite::new(&mut out), workers)
+    let mut sink = ToWrite::new(&mut out);
+    let searched = match workers {
+        None if all => all_bytes(alloc, &mut source, &mut sink),
+        None => search_bytes(alloc, &mut source, &mut sink),
+        Some(count) if all => all_shared(rt, alloc, &mut source, &mut sink, count),
+        Some(count) => search_shared(rt, alloc, &mut source, &mut sink, count),
     };
-    match searched {
-        Ok(searched) => {
-            add_rest(alloc, &mut out, &searched)?;
-            Ok((out, 0))
-        }
-        Err(BytesFault::Pool(number)) => Ok((out, number)),
-        Err(fault) => Err(fault)?,
-    }
+    let number = add_rest(alloc, &mut out, searched);
+    (out, number)
 }
 
-/// Each number of workers replies to a text as one thread does, and no other number replies.
-fn reply_is_one(
-    rt: &(impl Abort + Threads + Wait + Clock + Sync),
+/// Whether so many workers reply to the text of a row as one thread does.
+fn workers_reply(
+    rt: &(impl Threads + Wait + Clock + Sync),
     alloc: Global,
-    text: &[u8],
     row: &str,
-) -> Result<(), Fail> {
-    for all in [false, true] {
-        let alone = by_one(alloc, text, all)?;
-        for workers in [1, 2, 3, 32] {
-            let (out, number) = by_workers(rt, alloc, text, all, workers)?;
-            assert!(rt; out == alone && number == 0, "{workers} of {row}");
-        }
-    }
-    Ok(())
+    all: bool,
+    workers: u32,
+) -> bool {
+    let Ok(text) = text_of(alloc, row) else {
+        return false;
+    };
+    let (alone, of_one) = replied(rt, alloc, text.as_bytes(), all, None);
+    let (out, of_several) = replied(rt, alloc, text.as_bytes(), all, Some(workers));
+    out == alone && of_one == 0 && of_several == 0
 }
 
 /// Scenarios with an answer, with none, with a level that is too full, and one that is refused.
@@ -91,13 +84,14 @@ const SEARCHED: &str = concat!(
 );
 
 #[test]
-fn workers_reply_as_one_thread_does(rt: HostRuntime) -> Result<(), Fail> {
+fn workers_reply_as_one_thread_does(rt: HostRuntime) {
     for row in SEARCHED.lines() {
-        let (numbers, lines) = columns(row);
-        let text = scenario(rt.alloc(), numbers, lines)?;
-        reply_is_one(&rt, rt.alloc(), text.as_bytes(), row)?;
+        for workers in [1, 2, 3, 32] {
+            let is_answer = workers_reply(&rt, rt.alloc(), row, false, workers);
+            let are_all = workers_reply(&rt, rt.alloc(), row, true, workers);
+            agrees(&rt, is_answer && are_all, row);
+        }
     }
-    Ok(())
 }
 
 /// A scenario, so many workers, how long their reply is with its status, and why they give none.
@@ -107,18 +101,23 @@ const REFUSED: &str = concat!(
     "3 4 3 0 2|protocol = \"retry\";tries = 1;outcome = \"agreement\"|33|20 0\n",
 );
 
-#[test]
-fn a_scenario_is_refused_before_the_number_of_workers(rt: HostRuntime) -> Result<(), Fail> {
-    let alloc = rt.alloc();
-    for row in REFUSED.lines() {
-        let (numbers, rest) = columns(row);
-        let (lines, rest) = columns(rest);
-        let (workers, wanted) = columns(rest);
-        let text = scenario(alloc, numbers, lines)?;
-        let workers = workers.parse::<u32>()?;
-        let (out, number) = by_workers(&rt, alloc, text.as_bytes(), false, workers)?;
-        let found = format!(in alloc; "{} {number}", out.len())?;
-        assert_eq!(rt; found.as_str(), wanted, "of {row}");
+/// Whether the workers of a row reply as it says.
+fn row_is_refused(rt: &(impl Threads + Wait + Clock + Sync), alloc: Global, row: &str) -> bool {
+    let (workers, wanted) = columns(behind(row));
+    let Ok(text) = text_of(alloc, row) else {
+        return false;
+    };
+    let count = workers.parse::<u32>().ok();
+    let (out, number) = replied(rt, alloc, text.as_bytes(), false, count);
+    match format!(in alloc; "{} {number}", out.len()) {
+        Ok(found) => found.as_str() == wanted,
+        Err(_) => false,
     }
-    Ok(())
+}
+
+#[test]
+fn a_scenario_is_refused_before_the_number_of_workers(rt: HostRuntime) {
+    for row in REFUSED.lines() {
+        agrees(&rt, row_is_refused(&rt, rt.alloc(), row), row);
+    }
 }
