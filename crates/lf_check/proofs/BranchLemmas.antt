@@ -1,6 +1,6 @@
 -- The form of a reach, and the edges of a branch.
-use Rattle.std.proofs.Common.{◌≡◌, ◌==◌, ℕ, ◌<◌, ◌≤◌, Bool, true, List, [], ◌∷◌, ◌++◌, length, get_or, refl, sym, ap, ◌∙◌, subst, inl, inr, arith}
-use Rattle.std.specs.Prelude.{◌⊎◌, ◌↔◌, IsTrue}
+use Rattle.std.proofs.Common.{◌≡◌, ◌==◌, ℕ, ◌<◌, ◌≤◌, Bool, true, false, List, [], ◌∷◌, ◌++◌, length, get_or, refl, sym, ap, ◌∙◌, subst, inl, inr, arith}
+use Rattle.std.specs.Prelude.{◌⊎◌, ◌↔◌, Option, None, Some, MatchOption, IsTrue}
 use Rattle.std.specs.List.{All, Contains}
 use Rattle.std.proofs.lemmas.Bool.{cases_lt}
 use Rattle.std.proofs.lemmas.Bool.Decides.{Decides-eqb}
@@ -17,9 +17,11 @@ use Rattle.lf_outcome.specs.Truth.{reaches}
 use Rattle.lf_cone.specs.Cones.{IsReachOf, IsClosed, IsRequired, AreRequired}
 use Rattle.lf_cone.proofs.Laws.{required_one}
 use Rattle.lf_tree.specs.declared.tree.Node.{Node}
+use Rattle.lf_certificate.specs.declared.reason.Reason.{Reason}
 use Rattle.lf_certificate.specs.declared.reason.Reason.TheVariants as reason
+use Rattle.lf_certificate.specs.Accepted.{IsRightBranch}
 use Rattle.lf_certificate.specs.Faults.{Suffices}
-use Rattle.lf_check.specs.Nodes.{FirstOfBranch}
+use Rattle.lf_check.specs.Nodes.{FirstOfBranch, FirstOfEdges, FirstOfReach}
 
 module _ {State Note Fact : Type 0} (w : World State Note Fact) (faults : List Parts) (b : Bounds) (reach : List ℕ) (excluded edges : List Parts) where
   abbrev TriesAll : Type 0
@@ -75,34 +77,131 @@ missing_or_not (x ∷ xs) ys = elim (in_or_not ys x) [
 ]
 
 -- what is wrong with edges that aren't the required ones
-module _ {State Note Fact : Type 0} (w : World State Note Fact) (b : Bounds) (formula : Formula Fact) (last depth : ℕ) (faults excluded : List Parts)
-    (reach : List ℕ) (edges : List Parts) (kids : List Node) (required : List Parts) (above : depth < last) (reaching : reaches w faults formula ≡ true)
-    (suffices : Suffices w b formula faults reach) (closed : IsClosed w faults reach) (are : AreRequired w faults b reach excluded required) where
+module _ {State Note Fact : Type 0} (w : World State Note Fact) (b : Bounds) (faults excluded : List Parts)
+    (reach : List ℕ) (edges required : List Parts) (are : AreRequired w faults b reach excluded required) where
+  pub edges-right : edges ≡ required → AreRequired w faults b reach excluded edges
+  edges-right same = subst (AreRequired w faults b reach excluded) (sym same) are
+
   pub edges-differ : (edges ≡ required → ⊥) → ((f : Parts) → IsRequired w faults b reach excluded f → Contains edges f)
-      → FirstOfBranch w b formula last depth faults excluded reach edges kids reason.EdgesDiffer
-  edges-differ other all = record {
-    fails = λ r. other (required_one w faults b reach excluded edges required r are);
-    above = λ _. above;
-    reaching = λ _. reaching;
-    suffices = λ _. suffices;
-    closed = λ _. closed;
-    tried = λ _. all;
+      → FirstOfEdges w b faults excluded reach edges reason.EdgesDiffer
+  edges-differ other all = inr (refl, all, λ r. other (required_one w faults b reach excluded edges required r are))
+
+  pub edge-missing : (((f : Parts) → IsRequired w faults b reach excluded f → Contains edges f) → ⊥)
+      → FirstOfEdges w b faults excluded reach edges reason.EdgeMissing
+  edge-missing some = elim (missing_or_not required edges) [
+    | inl all ↦ absurd (some (λ f r. all f ((are.each f).1 r)))
+    | inr t ↦ inl (refl, (t.0, (are.each t.0).0 t.1, t.2))
+  ]
+
+-- what is found of a reach, and of edges
+module _ {State Note Fact : Type 0} (w : World State Note Fact) (b : Bounds) (formula : Formula Fact) (faults : List Parts) where
+  abbrev ReachFound : List ℕ → Option Reason → Type 0
+  ReachFound reach found = MatchOption found (Suffices w b formula faults reach × IsClosed w faults reach) (FirstOfReach w b formula faults reach)
+
+  pub right-reach : (reach : List ℕ) (found : Option Reason) → found ≡ None → ReachFound reach found
+      → Suffices w b formula faults reach × IsClosed w faults reach
+  right-reach reach found is h = subst (ReachFound reach) is h
+
+module _ {State Note Fact : Type 0} (w : World State Note Fact) (b : Bounds) (faults excluded : List Parts) (reach : List ℕ) (edges : List Parts) where
+  abbrev EdgesFound : Option Reason → Type 0
+  EdgesFound found = MatchOption found (AreRequired w faults b reach excluded edges) (FirstOfEdges w b faults excluded reach edges)
+
+  pub right-edges : (found : Option Reason) → found ≡ None → EdgesFound found → AreRequired w faults b reach excluded edges
+  right-edges found is h = subst EdgesFound is h
+
+  pub wrong-edges : (found : Option Reason) (why : Reason) → found ≡ Some why → EdgesFound found
+      → FirstOfEdges w b faults excluded reach edges why
+  wrong-edges found why is h = subst EdgesFound is h
+
+-- what is wrong with a branch, in turn
+module _ {State Note Fact : Type 0} (w : World State Note Fact) (b : Bounds) (formula : Formula Fact) (last depth : ℕ) (faults excluded : List Parts)
+    (reach : List ℕ) (edges : List Parts) (kids : List Node) where
+  abbrev First : Reason → Type 0
+  First = FirstOfBranch w b formula last depth faults excluded reach edges kids
+
+  pub branch-deep : last ≤ depth → First reason.WrongDepth
+  branch-deep far = record {
+    fails = far;
+    above = λ later. let never : ⊥ = omega (arith, later) in absurd never;
+    reaching = λ later. let never : ⊥ = omega (arith, later) in absurd never;
+    suffices = λ later. let never : ⊥ = omega (arith, later) in absurd never;
+    closed = λ later. let never : ⊥ = omega (arith, later) in absurd never;
+    tried = λ later. let never : ⊥ = omega (arith, later) in absurd never;
     required = λ later. let never : ⊥ = omega (arith, later) in absurd never;
   }
 
-  pub edge-missing : (((f : Parts) → IsRequired w faults b reach excluded f → Contains edges f) → ⊥)
-      → FirstOfBranch w b formula last depth faults excluded reach edges kids reason.EdgeMissing
-  edge-missing some = record {
-    fails = elim (missing_or_not required edges) [
-      | inl all ↦ absurd (some (λ f r. all f ((are.each f).1 r)))
-      | inr t ↦ (t.0, (are.each t.0).0 t.1, t.2)
-    ];
+  pub branch-misses : depth < last → reaches w faults formula ≡ false → First reason.BranchMisses
+  branch-misses above misses = record {
+    fails = misses;
     above = λ _. above;
-    reaching = λ _. reaching;
-    suffices = λ _. suffices;
-    closed = λ _. closed;
+    reaching = λ later. let never : ⊥ = omega (arith, later) in absurd never;
+    suffices = λ later. let never : ⊥ = omega (arith, later) in absurd never;
+    closed = λ later. let never : ⊥ = omega (arith, later) in absurd never;
     tried = λ later. let never : ⊥ = omega (arith, later) in absurd never;
     required = λ later. let never : ⊥ = omega (arith, later) in absurd never;
+  }
+
+  pub branch-reach : depth < last → reaches w faults formula ≡ true → (why : Reason) → FirstOfReach w b formula faults reach why → First why
+  branch-reach above reaching why (inl t) = subst First (sym t.0) (record {
+    fails = t.1;
+    above = λ _. above;
+    reaching = λ _. reaching;
+    suffices = λ later. let never : ⊥ = omega (arith, later) in absurd never;
+    closed = λ later. let never : ⊥ = omega (arith, later) in absurd never;
+    tried = λ later. let never : ⊥ = omega (arith, later) in absurd never;
+    required = λ later. let never : ⊥ = omega (arith, later) in absurd never;
+  })
+  branch-reach above reaching why (inr t) = subst First (sym t.0) (record {
+    fails = t.2;
+    above = λ _. above;
+    reaching = λ _. reaching;
+    suffices = λ _. t.1;
+    closed = λ later. let never : ⊥ = omega (arith, later) in absurd never;
+    tried = λ later. let never : ⊥ = omega (arith, later) in absurd never;
+    required = λ later. let never : ⊥ = omega (arith, later) in absurd never;
+  })
+
+  pub branch-edges : depth < last → reaches w faults formula ≡ true → Suffices w b formula faults reach × IsClosed w faults reach
+      → (why : Reason) → FirstOfEdges w b faults excluded reach edges why → First why
+  branch-edges above reaching right why (inl t) = subst First (sym t.0) (record {
+    fails = t.1;
+    above = λ _. above;
+    reaching = λ _. reaching;
+    suffices = λ _. right.0;
+    closed = λ _. right.1;
+    tried = λ later. let never : ⊥ = omega (arith, later) in absurd never;
+    required = λ later. let never : ⊥ = omega (arith, later) in absurd never;
+  })
+  branch-edges above reaching right why (inr t) = subst First (sym t.0) (record {
+    fails = t.2;
+    above = λ _. above;
+    reaching = λ _. reaching;
+    suffices = λ _. right.0;
+    closed = λ _. right.1;
+    tried = λ _. t.1;
+    required = λ later. let never : ⊥ = omega (arith, later) in absurd never;
+  })
+
+  pub branch-kids : depth < last → reaches w faults formula ≡ true → Suffices w b formula faults reach × IsClosed w faults reach
+      → AreRequired w faults b reach excluded edges → (length kids ≡ length edges → ⊥) → First reason.KidsDiffer
+  branch-kids above reaching right are other = record {
+    fails = other;
+    above = λ _. above;
+    reaching = λ _. reaching;
+    suffices = λ _. right.0;
+    closed = λ _. right.1;
+    tried = λ _ f r. (are.each f).1 r;
+    required = λ _. are;
+  }
+
+  pub branch-right : depth < last → Suffices w b formula faults reach × IsClosed w faults reach → AreRequired w faults b reach excluded edges
+      → length kids ≡ length edges → IsRightBranch w b formula last depth faults excluded reach edges kids
+  branch-right above right are each = record {
+    above = above;
+    closed = right.1;
+    within = right.0.1;
+    required = are;
+    each = each;
   }
 
 -- no step is past the last

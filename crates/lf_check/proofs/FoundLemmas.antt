@@ -32,9 +32,11 @@ is_other Node-F.Reaches = true
 is_other (Node-F.Branch reach edges kids) = true
 
 -- where a part ends
-pub same_end : (to at near len n : ℕ) → (to ≡ near) ⊎ (to ≡ len) → to ≡ at → len ≡ n → (at ≡ near) ⊎ (at ≡ n)
-same_end to at near len n (inl e) same count = inl (sym same ∙ e)
-same_end to at near len n (inr e) same count = inr (sym same ∙ e ∙ count)
+pub same_end : (to at near len n : ℕ) → (to < near → to ≡ len) → to ≤ near → to ≡ at → len ≡ n → (at ≡ near) ⊎ (at ≡ n)
+same_end to at near len n whole far same count = elim (cases_lt to near) [
+  | inl less ↦ inr (sym same ∙ whole less ∙ count)
+  | inr more ↦ inl (omega arith)
+]
 
 -- The first of some sets
 pub first-same : (P Q : List Parts → Type 0) (o : Option (List Parts)) → ((s : List Parts) → P s → Q s) → ((s : List Parts) → Q s → P s)

@@ -1,5 +1,5 @@
 -- Nodes by their kinds, and what is wrong with them first.
-use Rattle.std.proofs.Common.{◌≡◌, ℕ, false, List, sym, ap, ◌∙◌, subst}
+use Rattle.std.proofs.Common.{◌≡◌, ℕ, Bool, true, false, List, refl, sym, ap, ◌∙◌, subst, arith}
 use Rattle.std.specs.Prelude.{Option, None, Some, MatchOption, Result, Ok, Err, IfOk}
 use Rattle.std.specs.Option.{is_some}
 use Rattle.lf_faults.specs.declared.fault.Parts.{Parts}
@@ -10,11 +10,13 @@ use Rattle.lf_tree.specs.declared.tree.Node.{Node, out-Node, out-roll-Node}
 use Rattle.lf_tree.specs.declared.tree.Node.TheVariants.{rolls-Misses, rolls-Reaches, rolls-Branch}
 use Rattle.lf_tree.specs.declared.tree.Node.TheVariants as kind
 use Rattle.lf_tree.specs.declared.tree.Node.TheOpen.{Node-F}
+use Rattle.lf_outcome.specs.Truth.{reaches}
 use Rattle.lf_certificate.specs.declared.reason.Reason.{Reason}
+use Rattle.lf_certificate.specs.declared.reason.Reason.TheVariants as reason
 use Rattle.lf_certificate.specs.Places.{Place}
-use Rattle.lf_certificate.specs.Accepted.{IsRightBranch, IsRightNode, IsRight}
+use Rattle.lf_certificate.specs.Accepted.{IsRightLeaf, IsRightBranch, IsRightNode, IsRight}
 use Rattle.lf_certificate.proofs.Laws.{branch_first}
-use Rattle.lf_check.specs.Nodes.{place_of, IsFaultAt, FirstOfBranch}
+use Rattle.lf_check.specs.Nodes.{place_of, IsFaultAt, FirstOfLeaf, FirstOfBranch, said_wrongly}
 
 pub opened-Misses : (node : Node) → node ≡ kind.Misses → out-Node node ≡ Node-F.Misses
 opened-Misses node is = ap out-Node (is ∙ sym rolls-Misses) ∙ out-roll-Node Node-F.Misses
@@ -74,3 +76,22 @@ module _ {State Note Fact : Type 0} (w : World State Note Fact) (b : Bounds) (fo
       → IsRight w b formula last depth p → IsRightBranch w b formula last depth p.faults p.excluded reach edges kids
   right-Branch reach edges kids is h =
       subst (IsRightNode w b formula last depth p.faults p.excluded) (opened-Branch p.node reach edges kids is) h
+
+-- a leaf that isn't at the last depth, and what is wrong with one that is
+module _ {State Note Fact : Type 0} (w : World State Note Fact) (b : Bounds) (formula : Formula Fact) (last depth : ℕ) (faults : List Parts) where
+  pub leaf-deep : (says : Bool) → (depth ≡ last → ⊥) → FirstOfLeaf w b formula last depth faults says reason.WrongDepth
+  leaf-deep says other = record { fails = other; here = λ later. let never : ⊥ = omega (arith, later) in absurd never }
+
+  leaf-says : (says reaching : Bool) → depth ≡ last → reaching ≡ reaches w faults formula
+      → MatchOption (said_wrongly says reaching) (IsRightLeaf w b formula last depth faults says) (FirstOfLeaf w b formula last depth faults says)
+  leaf-says true true here is = record { here = here; truth = sym is }
+  leaf-says true false here is = record { fails = (refl, sym is); here = λ _. here }
+  leaf-says false true here is = record { fails = (refl, sym is); here = λ _. here }
+  leaf-says false false here is = record { here = here; truth = sym is }
+
+  pub leaf-found : (says reaching : Bool) (found : Option Reason) → depth ≡ last → reaching ≡ reaches w faults formula
+      → found ≡ said_wrongly says reaching
+      → MatchOption found (IsRightLeaf w b formula last depth faults says) (FirstOfLeaf w b formula last depth faults says)
+  leaf-found says reaching found here is same =
+      subst (λ x. MatchOption x (IsRightLeaf w b formula last depth faults says) (FirstOfLeaf w b formula last depth faults says)) (sym same)
+      (leaf-says says reaching here is)

@@ -1,11 +1,11 @@
 //! Branches.
 
-ghost use Rattle.std.specs.Prelude.{◌≡◌, ◌≤◌, ◌↔◌, All, IsTrue, IfOk, MatchOption};
+ghost use Rattle.std.specs.Prelude.{◌≡◌, ◌≤◌, ◌↔◌, All, length, IsTrue, IfOk, MatchOption};
 ghost use Rattle.std.specs.List.{Contains};
-ghost use Rattle.lf_check.specs.Nodes.{FirstOfBranch};
+ghost use Rattle.lf_check.specs.Nodes.{FirstOfBranch, FirstOfEdges, FirstOfReach};
 ghost use Rattle.lf_certificate.specs.Accepted.{IsRightBranch};
 ghost use Rattle.lf_certificate.specs.Faults.{Suffices};
-ghost use Rattle.lf_cone.specs.Cones.{IsReachOf, IsRequired};
+ghost use Rattle.lf_cone.specs.Cones.{AreRequired, IsClosed, IsReachOf, IsRequired};
 ghost use Rattle.lf_faults.specs.declared.fault.Parts.{Parts};
 ghost use Rattle.lf_sim.specs.Settings.{IsRun, set_of, world_of};
 
@@ -53,25 +53,73 @@ pub(crate) fn branch_fault<M: Machine>(
     if !holds(setting, formula, run) {
         return Ok(Some(Reason::BranchMisses));
     }
-    if !suffices(setting, formula, run, branch.reach) {
-        return Ok(Some(Reason::ReachFallsShort));
-    }
-    if !is_closed(setting, run, branch.reach) {
-        return Ok(Some(Reason::ReachNotClosed));
-    }
-    put_edges(setting, run, branch.reach, excluded, required)?;
-    if !are_same(branch.edges, required.as_slice()) {
-        let reason = if tries_all(setting, run, branch, excluded, required)? {
-            Reason::EdgesDiffer
-        } else {
-            Reason::EdgeMissing
-        };
+    if let Some(reason) = reach_fault(setting, formula, run, branch.reach) {
         return Ok(Some(reason));
     }
-    if branch.kids.len() != branch.edges.len() {
+    if let Some(reason) = edges_fault(setting, run, branch, excluded, required)? {
+        return Ok(Some(reason));
+    }
+    if !has_each_kid(branch) {
         return Ok(Some(Reason::KidsDiffer));
     }
     Ok(None)
+}
+
+/// What is wrong first with the reach of a branch of the run's set. None where it is right.
+fn reach_fault<M: Machine>(
+    setting: &Setting<M>,
+    formula: &Formula<M::Fact>,
+    run: &Run<M>,
+    reach: &Reach,
+) -> Option<Reason>
+    requires { IsRun (world_of setting.now) run.now }
+    ensures { MatchOption result
+        (Suffices (world_of setting.now) setting.now.spec formula.now (set_of run.now) reach.now
+        × IsClosed (world_of setting.now) (set_of run.now) reach.now)
+        (FirstOfReach (world_of setting.now) setting.now.spec formula.now (set_of run.now) reach.now) }
+{
+    if !suffices(setting, formula, run, reach) {
+        return Some(Reason::ReachFallsShort);
+    }
+    if !is_closed(setting, run, reach) {
+        return Some(Reason::ReachNotClosed);
+    }
+    None
+}
+
+/// What is wrong first with the edges of a branch of the run's set. None where they are the required ones, in order.
+///
+/// The list of required edges is used as memory.
+fn edges_fault<M: Machine>(
+    setting: &Setting<M>,
+    run: &Run<M>,
+    branch: Branch<'_>,
+    excluded: &[Fault],
+    required: &mut Vec<Fault>,
+) -> Result<Option<Reason>, AllocError>
+    requires { IsRun (world_of setting.now) run.now }
+    ensures { IfOk result (λ found. MatchOption found
+        (AreRequired (world_of setting.now) (set_of run.now) setting.now.spec branch.entry.reach.now excluded.now
+        branch.entry.edges.now)
+        (FirstOfEdges (world_of setting.now) setting.now.spec (set_of run.now) excluded.now branch.entry.reach.now
+        branch.entry.edges.now)) }
+{
+    put_edges(setting, run, branch.reach, excluded, required)?;
+    if are_same(branch.edges, required.as_slice()) {
+        return Ok(None);
+    }
+    let all = tries_all(setting, run, branch, excluded, required)?;
+    if all {
+        return Ok(Some(Reason::EdgesDiffer));
+    }
+    Ok(Some(Reason::EdgeMissing))
+}
+
+/// Whether a branch has a kid for each of its edges.
+fn has_each_kid(branch: Branch<'_>) -> bool
+    ensures { IsTrue result ↔ (length branch.entry.kids.now ≡ length branch.entry.edges.now) }
+{
+    branch.kids.len() == branch.edges.len()
 }
 
 /// Whether the reach has a number for each node, up to the horizon, and the outcome is true within it.

@@ -58,10 +58,10 @@ pub fn judge<M: Machine>(
 pub(crate) fn is_allowed(spec: &FaultSpec, answer: &Option<FaultSet>) -> bool
     ensures { IsTrue result ↔ MatchOption answer.now (Unit {0}) (IsAllowed spec.now) }
 {
-    match answer {
-        Some(answer) => admits(spec, answer),
-        None => true,
-    }
+    let Some(answer) = answer else {
+        return true;
+    };
+    admits(spec, answer)
 }
 
 /// How many branches stand above the last sets: as many as the answer has faults, or as the bounds allow.

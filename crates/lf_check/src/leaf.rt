@@ -1,7 +1,7 @@
 //! Leaves.
 
 ghost use Rattle.std.specs.Prelude.{◌≡◌, MatchOption};
-ghost use Rattle.lf_check.specs.Nodes.{FirstOfLeaf};
+ghost use Rattle.lf_check.specs.Nodes.{FirstOfLeaf, said_wrongly};
 ghost use Rattle.lf_certificate.specs.Accepted.{IsRightLeaf};
 ghost use Rattle.lf_sim.specs.Settings.{IsRun, set_of, world_of};
 
@@ -27,9 +27,21 @@ pub(crate) fn leaf_fault<M: Machine>(
     if depth != last {
         return Some(Reason::WrongDepth);
     }
-    match (says, holds(setting, formula, run)) {
-        (true, false) => Some(Reason::SaidToReach),
-        (false, true) => Some(Reason::SaidToMiss),
-        (true, true) | (false, false) => None,
+    said_wrongly(says, holds(setting, formula, run))
+}
+
+/// What is wrong with what a leaf says, by whether its set reaches the outcome.
+fn said_wrongly(says: bool, reaches: bool) -> Option<Reason>
+    ensures { result ≡ said_wrongly says reaches }
+{
+    if says {
+        if reaches {
+            return None;
+        }
+        return Some(Reason::SaidToReach);
     }
+    if reaches {
+        return Some(Reason::SaidToMiss);
+    }
+    None
 }

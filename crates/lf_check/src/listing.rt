@@ -76,7 +76,10 @@ fn edges_before(node: &Node, kid: usize) -> &[Fault]
     ensures { result.now ≡ take kid (edges_of node.now) }
 {
     let edges = edges(node);
-    &edges[..kid.min(edges.len())]
+    if edges.len() <= kid {
+        return edges;
+    }
+    &edges[..kid]
 }
 
 /// The edges of a node. A leaf has none.

@@ -1,6 +1,6 @@
 //! The nodes of a part of a tree, judged one after another.
 
-ghost use Rattle.std.specs.Prelude.{◌≡◌, ℕ, ◌+◌, ◌<◌, ◌≤◌, List, length, slice_get, vec_len, IfOk, MatchOption, Some, ◌⊎◌};
+ghost use Rattle.std.specs.Prelude.{◌≡◌, ℕ, ◌+◌, ◌<◌, ◌≤◌, List, length, slice_get, vec_len, IfOk, MatchOption, Some};
 ghost use Rattle.lf_certificate.specs.Places.{Place};
 ghost use Rattle.lf_check.specs.Nodes.{IsFaultAt};
 ghost use Rattle.lf_check.specs.Rows.{ArePlaces, IsFound, StandsAt};
@@ -74,9 +74,12 @@ fn end_of(len: usize, from: usize) -> usize
     ensures start { from ≤ result }
     ensures within { result ≤ len }
     ensures near { result ≤ from + 256 }
-    ensures whole { (result ≡ from + 256) ⊎ (result ≡ len) }
+    ensures whole { result < from + 256 → result ≡ len }
 {
-    if len - from < PART { len } else { from + PART }
+    if len - from < PART {
+        return len;
+    }
+    from + PART
 }
 
 /// What is found in one node.

@@ -97,6 +97,21 @@ fn in_part(found: &[Result<Found, AllocError>], part: usize) -> Result<Found, Al
     found[part]
 }
 
+/// What is found in one part.
+fn found_in_part(
+    alloc: Global,
+    judged: &Judged<'_, Protocol>,
+    places: &Places<'_>,
+    part: usize,
+) -> Result<Found, AllocError>
+    requires places { ArePlaces places.now }
+    requires part { part * 256 ≤ vec_len places.now.rows }
+    ensures { IfOk result (IsFound (world_of judged.now.setting.now) judged.now.setting.now.spec judged.now.formula.now
+        judged.now.last places.now.tree.now places.now.sets.items (part * 256) (part * 256 + 256)) }
+{
+    found_from(alloc, judged, places, part * PART)
+}
+
 /// What is found in each of so many parts, in order.
 fn found_by_part<W: Watch>(
     rt: &(impl Threads + Sync),
@@ -124,7 +139,7 @@ fn found_by_part<W: Watch>(
                     judged.entry.now.formula.now judged.entry.now.last places.entry.now.tree.now places.entry.now.sets.items
                     (part * 256) (part * 256 + 256)) }
             {
-                let found = found_from(alloc, judged, places, part * PART);
+                let found = found_in_part(alloc, judged, places, part);
                 tally.add(PART);
                 found
             },

@@ -1,6 +1,6 @@
 //! The walk over a tree: the root first, and then each kid in order, with all that is beneath it.
 
-ghost use Rattle.std.specs.Prelude.{◌≡◌, ◌<◌, length, IfOk, Some};
+ghost use Rattle.std.specs.Prelude.{◌≡◌, ℕ, ◌<◌, ◌++◌, ◌∷◌, [], length, slice_get, IfOk, OnOk, Some};
 ghost use Rattle.std.specs.List.{Contains};
 ghost use Rattle.lf_check.specs.Nodes.{place_of};
 ghost use Rattle.lf_check.specs.Walks.{IsWalkFrom, IsWalkOver, Lowers, kid_of, stand_of};
@@ -41,7 +41,7 @@ pub(crate) struct Walk<M: Machine> {
 }
 
 impl<M: Machine> Walk<M> {
-    ghost use Rattle.std.specs.Prelude.{[], None};
+    ghost use Rattle.std.specs.Prelude.{None};
 
     /// A walk that stands at the root and has met nothing.
     pub(crate) fn new(alloc: Global) -> Walk<M>
@@ -163,14 +163,32 @@ fn visit_kids<M: Machine>(
     'kids: for (i, kid) in kids.iter().enumerate() {
         let edge = edges[i];
         let larger = with(&judged.setting.spec, &set, edge);
-        walk.path.push(i)?;
+        go_to(&mut walk.path, i)?;
         let found = visit(alloc, judged, walk, kid, larger, depth + 1)?;
         if found.is_some() {
             return Ok(found);
         }
         let _place = walk.path.pop();
-        walk.excluded.push(edge)?;
+        exclude(&mut walk.excluded, edges, i)?;
     }
     walk.excluded.truncate(before);
     Ok(None)
+}
+
+/// Goes on to a kid, by its place.
+fn go_to(path: &mut Vec<usize>, kid: usize) -> Result<(), AllocError>
+    ensures { OnOk result (path.new.items ≡ path.old.items ++ kid ∷ []) }
+{
+    path.push(kid)?;
+    Ok(())
+}
+
+/// Excludes the edge to a kid, for the kids after it.
+fn exclude(excluded: &mut Vec<Fault>, edges: &[Fault], kid: usize) -> Result<(), AllocError>
+    requires { kid < length edges.now }
+    ensures { OnOk result ((edge : Parts) → slice_get edges.now kid ≡ Some edge →
+        excluded.new.items ≡ excluded.old.items ++ edge ∷ []) }
+{
+    excluded.push(edges[kid])?;
+    Ok(())
 }

@@ -51,6 +51,6 @@ returns g c =
     let end : c.end_of-to.result ≡ at = omega (arith, c.loop-at.invariant.1, c.loop-at-test.false) in
     found-part (world_of s) s.spec j.formula.now j.last places.tree.now places.sets.items c.args.from at (c.args.from + 256)
     (length places.rows.items) c.loop-at.first
-    (same_end c.end_of-to.result at (c.args.from + 256) c.len.result (length places.rows.items) c.end_of-to.ensures.whole end
+    (same_end c.end_of-to.result at (c.args.from + 256) c.len.result (length places.rows.items) c.end_of-to.ensures.whole c.end_of-to.ensures.near end
     (omega (arith, c.len.ensures, places.rows.ok.0))) (sym c.requires.places.count)
     (omega (arith, end, c.end_of-to.ensures.near)) c.loop-at.invariant.2

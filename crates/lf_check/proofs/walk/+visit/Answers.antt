@@ -112,12 +112,12 @@ visit_kids-returns-then-is_some g t c =
     let at : slice_get edges i ≡ Some edge = slice_get_read edges (length edges) i edge refl few c.index-edges-i.is in
     let stands : slice_get kids i ≡ Some node = slice_get_read kids (length kids) i node refl there c.index-kids-i.is in
     let here = c.kids.walk in
-    let pushed : Stand = record { excluded = here.excluded.items; path = c.push.new.self.items; first = here.first } in
+    let pushed : Stand = record { excluded = here.excluded.items; path = c.go_to.new.path.items; first = here.first } in
     let met : Stand = stand_of c.visit.new.walk in
     stops-kid (world_of s) s.spec j.formula.now j.last c.args.depth (kid_of edges kids c.args.set start) i
     (place_of node (inserted edge c.args.set) (start ++ take i edges)) (kid_of-some edges kids c.args.set start i edge node at stands) edges
     (length edges) (stand_of c.args.walk.now) (stand_of here) pushed met c.in_ok-found.found (sym c.is_some.ensures ∙ c.if-is_some.true)
-    c.kids.invariant c.in_ok-push.ensures.items
+    c.kids.invariant c.in_ok-go_to.ensures
     (walk-at (world_of s) s.spec j.formula.now j.last (c.args.depth + 1) node c.with-larger.result (inserted edge c.args.set) here.excluded.items
     (start ++ take i edges) pushed met c.in_ok-found.found c.with-larger.ensures c.kids.invariant.excluded c.in_ok-found.ensures)
 
@@ -136,17 +136,17 @@ visit_kids-kids-preserved g t c =
     let at : slice_get edges i ≡ Some edge = slice_get_read edges (length edges) i edge refl few c.index-edges-i.is in
     let stands : slice_get kids i ≡ Some node = slice_get_read kids (length kids) i node refl there c.index-kids-i.is in
     let here = c.kids.walk in
-    let pushed : Stand = record { excluded = here.excluded.items; path = c.push.new.self.items; first = here.first } in
+    let pushed : Stand = record { excluded = here.excluded.items; path = c.go_to.new.path.items; first = here.first } in
     let met : Stand = stand_of c.visit.new.walk in
     let path = c.visit.new.walk.path in
     so_far-more (world_of s) s.spec j.formula.now j.last c.args.depth (kid_of edges kids c.args.set start) i
     (place_of node (inserted edge c.args.set) (start ++ take i edges)) (kid_of-some edges kids c.args.set start i edge node at stands) edges
     edge (stand_of c.args.walk.now) (stand_of here) pushed met
-    (record { excluded = c.push-in-kids.new.self.items; path = c.pop-place.new.self.items; first = c.visit.new.walk.first }) at c.kids.invariant
-    refl c.in_ok-push.ensures.items refl c.in_ok-found.found (sym c.is_some.ensures ∙ c.if-is_some.false)
+    (record { excluded = c.exclude.new.excluded.items; path = c.pop-place.new.self.items; first = c.visit.new.walk.first }) at c.kids.invariant
+    refl c.in_ok-go_to.ensures refl c.in_ok-found.found (sym c.is_some.ensures ∙ c.if-is_some.false)
     (walk-at (world_of s) s.spec j.formula.now j.last (c.args.depth + 1) node c.with-larger.result (inserted edge c.args.set) here.excluded.items
     (start ++ take i edges) pushed met c.in_ok-found.found c.with-larger.ensures c.kids.invariant.excluded c.in_ok-found.ensures)
-    c.in_ok-push-2.ensures.items (c.pop-place.ensures.rest ∙ ap (λ n. take (n - 1) path.items) path.ok.0) refl
+    (c.in_ok-exclude.ensures edge at) (c.pop-place.ensures.rest ∙ ap (λ n. take (n - 1) path.items) path.ok.0) refl
 
 pub visit_kids-returns : goal.visit_kids-returns
 visit_kids-returns g t c =
