@@ -1,7 +1,7 @@
 -- What is found where the nodes of a tree are judged one after another, and what it says of the tree.
 use Rattle.std.proofs.Common.{◌≡◌, ℕ, ◌+◌, ◌<◌, ◌≤◌, Bool, true, false, List, length}
 use Rattle.std.proofs.Common.{refl, sym, ap, ◌∙◌, subst, arith, inl, inr}
-use Rattle.std.specs.Prelude.{◌⊎◌, slice_get, Option, None, Some, MatchOption}
+use Rattle.std.specs.Prelude.{◌⊎◌, slice_get, Option, None, Some, MatchOption, Result, Ok, Err, IfOk}
 use Rattle.std.proofs.lemmas.Bool.{both_ways, cases_lt, false≢true}
 use Rattle.std.proofs.lemmas.Option.{none-some, same_Some, slice_get_within}
 use Rattle.lf_faults.specs.declared.fault.Parts.{Parts}
@@ -30,6 +30,11 @@ abbrev is_other : Node-F Node → Bool
 is_other Node-F.Misses = false
 is_other Node-F.Reaches = true
 is_other (Node-F.Branch reach edges kids) = true
+
+-- what follows from what is found follows of the result
+pub ok_then : {A E : Type 0} (result : Result A E) (P Q : A → Type 0) → IfOk result P → ((x : A) → P x → Q x) → IfOk result Q
+ok_then (Ok x) P Q h more = more x h
+ok_then (Err e) P Q h more = tt
 
 -- where a part ends
 pub same_end : (to at near len n : ℕ) → (to < near → to ≡ len) → to ≤ near → to ≡ at → len ≡ n → (at ≡ near) ⊎ (at ≡ n)

@@ -128,7 +128,7 @@ fn fault_at<M: Machine>(
     memory.excluded.clear();
     put_excluded(places, at, &mut memory.excluded)?;
     let run = run_of(alloc, judged.setting, set, memory.spent.take())?;
-    let fault = node_fault(
+    let found = node_fault(
         judged.setting,
         judged.formula,
         &run,
@@ -137,7 +137,7 @@ fn fault_at<M: Machine>(
         places.rows[at].node,
         memory.excluded.as_slice(),
         &mut memory.required,
-    )?;
+    );
     memory.spent = Some(run);
-    Ok(fault)
+    found
 }

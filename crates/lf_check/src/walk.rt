@@ -106,7 +106,7 @@ pub(crate) fn visit<M: Machine>(
         judged.now.last depth (place_of node.now set walk.old.excluded.items) (stand_of walk.old) (stand_of walk.new)) }
 {
     let run = run_of(alloc, judged.setting, &set, walk.spent.take())?;
-    let fault = node_fault(
+    let found = node_fault(
         judged.setting,
         judged.formula,
         &run,
@@ -115,8 +115,9 @@ pub(crate) fn visit<M: Machine>(
         node,
         walk.excluded.as_slice(),
         &mut walk.required,
-    )?;
+    );
     walk.spent = Some(run);
+    let fault = found?;
     if fault.is_some() {
         return Ok(fault);
     }

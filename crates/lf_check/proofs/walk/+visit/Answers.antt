@@ -8,7 +8,7 @@ use Rattle.lf_certificate.specs.Accepted.{IsRight, IsRightBranch}
 use Rattle.lf_certificate.specs.Places.{Place}
 use Rattle.lf_check.specs.Nodes.{place_of}
 use Rattle.lf_check.specs.Walks.{Stand, kid_of, stand_of}
-use Rattle.lf_check.proofs.NodeLemmas.{found-at, given-Branch, right-none, right-Branch}
+use Rattle.lf_check.proofs.NodeLemmas.{found-at, ok_at, given-Branch, right-none, right-Branch}
 use Rattle.lf_check.proofs.WalkLemmas.{stops-here, passes-Misses, passes-Reaches, goes-Branch, so_far-first, so_far-more, stops-kid, passes-kids}
 use Rattle.lf_check.proofs.WalkLemmas.{kid_of-some, walk-at}
 use Rattle.lf_check.proofs.walk.+visit.Goals as goal
@@ -21,7 +21,7 @@ visit-returns-then-is_some g t c =
     stops-here (world_of s) s.spec j.formula.now j.last c.args.depth (place_of c.args.node.now c.args.set walk.excluded.items) (stand_of walk)
     (stand_of walk) c.in_ok-fault.fault (sym c.is_some.ensures ∙ c.if-is_some.true) refl
     (found-at (world_of s) s.spec j.formula.now j.last c.args.depth c.args.node.now (set_of c.in_ok-run.run') c.args.set c.as_slice.result.now
-    walk.excluded.items c.in_ok-fault.fault c.in_ok-run.ensures.set c.as_slice.ensures.value c.in_ok-fault.ensures)
+    walk.excluded.items c.in_ok-fault.fault c.in_ok-run.ensures.set c.as_slice.ensures.value (ok_at c.node_fault-found.result c.in_ok-fault.fault c.in_ok-fault.was _ c.node_fault-found.ensures))
 
 pub visit-visit_kids-requires : goal.visit-visit_kids-requires
 visit-visit_kids-requires g t c κs within =
@@ -35,7 +35,7 @@ visit-visit_kids-requires g t c κs within =
     let right : IsRight (world_of s) s.spec j.formula.now j.last c.args.depth p =
     right-none (world_of s) s.spec j.formula.now j.last c.args.depth p c.in_ok-fault.fault (sym c.is_some.ensures ∙ c.if-is_some.false)
     (found-at (world_of s) s.spec j.formula.now j.last c.args.depth c.args.node.now (set_of c.in_ok-run.run') c.args.set c.as_slice.result.now
-    excluded c.in_ok-fault.fault c.in_ok-run.ensures.set c.as_slice.ensures.value c.in_ok-fault.ensures) in
+    excluded c.in_ok-fault.fault c.in_ok-run.ensures.set c.as_slice.ensures.value (ok_at c.node_fault-found.result c.in_ok-fault.fault c.in_ok-fault.was _ c.node_fault-found.ensures)) in
     let is : c.args.node.now ≡ kind.Branch branch.reach edges kids =
     given-Branch c.args.node.now branch.reach branch.edges edges branch.kids kids branch.is c.as_slice-in-Branch.ensures c.as_slice-in-Branch-2.ensures in
     let r : IsRightBranch (world_of s) s.spec j.formula.now j.last c.args.depth c.args.set excluded branch.reach edges kids =
@@ -52,7 +52,7 @@ visit-returns-in-Misses g t c =
     (record { excluded = walk.excluded.items; path = walk.path.items; first = c.lowered-walk.result }) c.in-Misses.is
     (right-none (world_of s) s.spec j.formula.now j.last c.args.depth p c.in_ok-fault.fault (sym c.is_some.ensures ∙ c.if-is_some.false)
     (found-at (world_of s) s.spec j.formula.now j.last c.args.depth c.args.node.now (set_of c.in_ok-run.run') c.args.set c.as_slice.result.now
-    walk.excluded.items c.in_ok-fault.fault c.in_ok-run.ensures.set c.as_slice.ensures.value c.in_ok-fault.ensures))
+    walk.excluded.items c.in_ok-fault.fault c.in_ok-run.ensures.set c.as_slice.ensures.value (ok_at c.node_fault-found.result c.in_ok-fault.fault c.in_ok-fault.was _ c.node_fault-found.ensures)))
     refl refl c.lowered-walk.ensures
 
 pub visit-returns-in-Reaches : goal.visit-returns-in-Reaches
@@ -64,7 +64,7 @@ visit-returns-in-Reaches g t c =
     passes-Reaches (world_of s) s.spec j.formula.now j.last c.args.depth p (stand_of walk) (stand_of walk) c.in-Reaches.is
     (right-none (world_of s) s.spec j.formula.now j.last c.args.depth p c.in_ok-fault.fault (sym c.is_some.ensures ∙ c.if-is_some.false)
     (found-at (world_of s) s.spec j.formula.now j.last c.args.depth c.args.node.now (set_of c.in_ok-run.run') c.args.set c.as_slice.result.now
-    walk.excluded.items c.in_ok-fault.fault c.in_ok-run.ensures.set c.as_slice.ensures.value c.in_ok-fault.ensures))
+    walk.excluded.items c.in_ok-fault.fault c.in_ok-run.ensures.set c.as_slice.ensures.value (ok_at c.node_fault-found.result c.in_ok-fault.fault c.in_ok-fault.was _ c.node_fault-found.ensures)))
     refl refl refl
 
 pub visit-returns-in-Branch : goal.visit-returns-in-Branch
@@ -81,7 +81,7 @@ visit-returns-in-Branch g t c =
     c.as_slice-in-Branch-2.ensures)
     (right-none (world_of s) s.spec j.formula.now j.last c.args.depth p c.in_ok-fault.fault (sym c.is_some.ensures ∙ c.if-is_some.false)
     (found-at (world_of s) s.spec j.formula.now j.last c.args.depth c.args.node.now (set_of c.in_ok-run.run') c.args.set c.as_slice.result.now
-    walk.excluded.items c.in_ok-fault.fault c.in_ok-run.ensures.set c.as_slice.ensures.value c.in_ok-fault.ensures))
+    walk.excluded.items c.in_ok-fault.fault c.in_ok-run.ensures.set c.as_slice.ensures.value (ok_at c.node_fault-found.result c.in_ok-fault.fault c.in_ok-fault.was _ c.node_fault-found.ensures)))
     c.visit_kids.result (stand_of walk) (stand_of c.visit_kids.new.walk) c.visit_kids.ensures
 
 pub visit_kids-kids-init : goal.visit_kids-kids-init
