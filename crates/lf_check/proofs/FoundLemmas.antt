@@ -1,9 +1,11 @@
 -- What is found where the nodes of a tree are judged one after another, and what it says of the tree.
-use Rattle.std.proofs.Common.{◌≡◌, ℕ, ◌+◌, ◌<◌, ◌≤◌, Bool, true, false, List, length}
+use Rattle.std.proofs.Common.{◌≡◌, ℕ, ◌+◌, ◌<◌, ◌≤◌, Bool, true, false, List, [], ◌∷◌, ◌++◌, length, get_or}
 use Rattle.std.proofs.Common.{refl, sym, ap, ◌∙◌, subst, arith, inl, inr}
-use Rattle.std.specs.Prelude.{◌⊎◌, slice_get, Option, None, Some, MatchOption, Result, Ok, Err, IfOk}
+use Rattle.std.specs.Prelude.{◌⊎◌, slice_get, Option, None, Some, MatchOption}
 use Rattle.std.proofs.lemmas.Bool.{both_ways, cases_lt, false≢true}
-use Rattle.std.proofs.lemmas.Option.{none-some, same_Some, slice_get_within}
+use Rattle.std.proofs.lemmas.Option.{none-some, same_Some, slice_get_within, slice_get-get_or, get_or_from_slice_get}
+use Rattle.std.proofs.lemmas.List.{get_or_append_left, length-append}
+use Rattle.std.proofs.Math.Seq.{get_or-append_seam}
 use Rattle.lf_faults.specs.declared.fault.Parts.{Parts}
 use Rattle.lf_faults.specs.declared.spec.Bounds.{Bounds}
 use Rattle.lf_faults.specs.Faults.{set_is_before}
@@ -17,6 +19,7 @@ use Rattle.lf_tree.specs.declared.tree.Node.TheOpen.{Node-F}
 use Rattle.lf_certificate.specs.declared.reason.Reason.{Reason}
 use Rattle.lf_certificate.specs.Places.{Place}
 use Rattle.lf_certificate.specs.Accepted.{IsRightNode}
+use Rattle.lf_check.specs.declared.found.Found.{Found}
 use Rattle.lf_check.specs.declared.found.Found.TheVariants as found
 use Rattle.lf_check.specs.Nodes.{IsFaultAt, place_of}
 use Rattle.lf_check.specs.Walks.{IsFirstOf, Lowers}
@@ -31,10 +34,22 @@ is_other Node-F.Misses = false
 is_other Node-F.Reaches = true
 is_other (Node-F.Branch reach edges kids) = true
 
--- what follows from what is found follows of the result
-pub ok_then : {A E : Type 0} (result : Result A E) (P Q : A → Type 0) → IfOk result P → ((x : A) → P x → Q x) → IfOk result Q
-ok_then (Ok x) P Q h more = more x h
-ok_then (Err e) P Q h more = tt
+-- one set more
+pub sets-more : (tree : Tree) (sets news : List (Option (List Parts))) (set : Option (List Parts)) → AreSets tree sets
+    → IsSetAt tree (length sets) set → news ≡ sets ++ set ∷ [] → AreSets tree news
+sets-more tree sets news set are here is at o has =
+    let told : get_or news at None ≡ o = get_or_from_slice_get news at o None has in
+    let same : get_or news at None ≡ get_or (sets ++ set ∷ []) at None = ap (λ xs. get_or xs at None) is in
+    let long : length news ≡ length sets + 1 = ap length is ∙ length-append sets (set ∷ []) in
+    let within : at < length news = slice_get_within news at o has in
+    elim (cases_lt at (length sets)) [
+      | inl less ↦ are at o (slice_get-get_or sets at None less ∙ ap Some (sym (get_or_append_left sets (set ∷ []) None at less) ∙ sym same ∙ told))
+      | inr more ↦
+          let last : length sets ≡ at = omega arith in
+          let own : set ≡ o =
+          sym (get_or-append_seam sets set [] None) ∙ ap (λ k. get_or (sets ++ set ∷ []) k None) last ∙ sym same ∙ told in
+          subst (λ k. IsSetAt tree k o) last (subst (IsSetAt tree (length sets)) own here)
+    ]
 
 -- where a part ends
 pub same_end : (to at near len n : ℕ) → (to < near → to ≡ len) → to ≤ near → to ≡ at → len ≡ n → (at ≡ near) ⊎ (at ≡ n)
@@ -153,6 +168,11 @@ module _ {State Note Fact : Type 0} (w : World State Note Fact) (b : Bounds) (fo
       → rows.IsFound w b formula last tree sets from to (found.Passes a) → rows.IsFound w b formula last tree sets from far (found.Passes a)
   found-part from to far n a (inl same) count more h = subst (λ k. rows.IsFound w b formula last tree sets from k (found.Passes a)) same h
   found-part from to far n a (inr same) count more h = found-far from to far a (omega (arith, same, count)) more h
+
+  pub found-end : (from to far n : ℕ) (f : Found) → (to ≡ far) ⊎ (to ≡ n) → n ≡ length sets → to ≤ far
+      → rows.IsFound w b formula last tree sets from to f → rows.IsFound w b formula last tree sets from far f
+  found-end from to far n (found.Fails at why) ends count more h = let high : at < to = h.1 in (h.0, omega arith, h.2, h.3)
+  found-end from to far n (found.Passes a) ends count more h = found-part from to far n a ends count more h
 
   -- What is found at one node: nothing where it has no set,
   one_node : (at here : ℕ) → at ≤ here → here < at + 1 → at ≡ here

@@ -57,9 +57,10 @@ module _ {State Note Fact : Type 0} (w : World State Note Fact) (b : Bounds) (fo
       fault-Branch reach given nodes found (given-Branch p.node reach edges given kids nodes is same_edges same_kids) h
   branch-found (Err e) reach edges given kids nodes is same_edges same_kids h = tt
 
--- what is said of a result is said of what is in it
-pub ok_at : {A E : Type 0} (result : Result A E) (x : A) → result ≡ Ok x → (P : A → Type 0) → IfOk result P → P x
-ok_at result x is P h = subst (λ r. IfOk r P) is h
+-- what follows from what is found follows of the result
+pub ok_then : {A E : Type 0} (result : Result A E) (P Q : A → Type 0) → IfOk result P → ((x : A) → P x → Q x) → IfOk result Q
+ok_then (Ok x) P Q h more = more x h
+ok_then (Err e) P Q h more = tt
 
 -- what is found at a place, of the run's set and the list that stands for what is excluded
 pub found-at : {State Note Fact : Type 0} (w : World State Note Fact) (b : Bounds) (formula : Formula Fact) (last depth : ℕ) (node : Node)

@@ -57,10 +57,28 @@ pub(crate) fn found_from<M: Machine>(
         required: Vec::new(alloc),
         excluded: Vec::new(alloc),
     };
-    let mut first = None;
     let to = end_of(places.rows.len(), from);
+    found_within(alloc, judged, places, from, to, &mut memory)
+}
+
+/// What is found in the nodes from one place of the list to before another.
+fn found_within<M: Machine>(
+    alloc: Global,
+    judged: &Judged<'_, M>,
+    places: &Places<'_>,
+    from: usize,
+    to: usize,
+    memory: &mut Memory<M>,
+) -> Result<Found, AllocError>
+    requires places { ArePlaces places.now }
+    requires order { from ≤ to }
+    requires within { to ≤ vec_len places.now.rows }
+    ensures { IfOk result (IsFound (world_of judged.now.setting.now) judged.now.setting.now.spec judged.now.formula.now
+        judged.now.last places.now.tree.now places.now.sets.items from to) }
+{
+    let mut first = None;
     for at in from..to {
-        match found_at(alloc, judged, places, at, &mut memory)? {
+        match found_at(alloc, judged, places, at, memory)? {
             Found::Fails { at, reason } => return Ok(Found::Fails { at, reason }),
             Found::Passes { first: other } => first = lower(first, other),
         }

@@ -2,7 +2,7 @@
 
 ghost use Rattle.std.specs.Prelude.{◌≡◌, ℕ, ◌<◌, ◌++◌, ◌∷◌, [], length, slice_get, IfOk, OnOk, Some};
 ghost use Rattle.std.specs.List.{Contains};
-ghost use Rattle.lf_check.specs.Nodes.{place_of};
+ghost use Rattle.lf_check.specs.Nodes.{IsFaultAt, place_of};
 ghost use Rattle.lf_check.specs.Walks.{IsWalkFrom, IsWalkOver, Lowers, kid_of, stand_of};
 ghost use Rattle.lf_faults.specs.Allowed.{CanAdd};
 ghost use Rattle.lf_faults.specs.declared.fault.Parts.{Parts};
@@ -105,19 +105,7 @@ pub(crate) fn visit<M: Machine>(
     ensures { IfOk result (IsWalkFrom (world_of judged.now.setting.now) judged.now.setting.now.spec judged.now.formula.now
         judged.now.last depth (place_of node.now set walk.old.excluded.items) (stand_of walk.old) (stand_of walk.new)) }
 {
-    let run = run_of(alloc, judged.setting, &set, walk.spent.take())?;
-    let found = node_fault(
-        judged.setting,
-        judged.formula,
-        &run,
-        judged.last,
-        depth,
-        node,
-        walk.excluded.as_slice(),
-        &mut walk.required,
-    );
-    walk.spent = Some(run);
-    let fault = found?;
+    let fault = fault_of(alloc, judged, walk, node, &set, depth)?;
     if fault.is_some() {
         return Ok(fault);
     }
@@ -174,6 +162,34 @@ fn visit_kids<M: Machine>(
     }
     walk.excluded.truncate(before);
     Ok(None)
+}
+
+/// What is wrong first with what stands at a node of a set, whatever stands beneath it. The walk stands where it stood.
+fn fault_of<M: Machine>(
+    alloc: Global,
+    judged: &Judged<'_, M>,
+    walk: &mut Walk<M>,
+    node: &Node,
+    set: &FaultSet,
+    depth: u32,
+) -> Result<Option<Reason>, AllocError>
+    ensures fault { IfOk result (IsFaultAt (world_of judged.now.setting.now) judged.now.setting.now.spec
+        judged.now.formula.now judged.now.last depth (place_of node.now set.now walk.old.excluded.items)) }
+    ensures stand { stand_of walk.new ≡ stand_of walk.old }
+{
+    let run = run_of(alloc, judged.setting, set, walk.spent.take())?;
+    let fault = node_fault(
+        judged.setting,
+        judged.formula,
+        &run,
+        judged.last,
+        depth,
+        node,
+        walk.excluded.as_slice(),
+        &mut walk.required,
+    );
+    walk.spent = Some(run);
+    fault
 }
 
 /// Goes on to a kid, by its place.

@@ -3,7 +3,8 @@ use Rattle.std.specs.Prelude.{Some}
 use Rattle.std.proofs.lemmas.Option.{slice_get_read}
 use Rattle.lf_sim.specs.Settings.{set_of, world_of}
 use Rattle.lf_tree.specs.Rows.{seen}
-use Rattle.lf_check.proofs.FoundLemmas.{fault_read, ok_then}
+use Rattle.lf_check.proofs.FoundLemmas.{fault_read}
+use Rattle.lf_check.proofs.NodeLemmas.{ok_then}
 use Rattle.lf_check.proofs.RowLemmas.{node_at, read_row}
 use Rattle.lf_check.proofs.part.fault_at.Goals as goal
 

@@ -3,10 +3,22 @@ use Rattle.std.specs.Prelude.{Some}
 use Rattle.std.proofs.lemmas.Option.{slice_get_read}
 use Rattle.lf_sim.specs.Settings.{world_of}
 use Rattle.lf_tree.specs.Rows.{seen}
-use Rattle.lf_check.proofs.FoundLemmas.{here-fails, here-Misses, here-Reaches, here-Branch}
-use Rattle.lf_check.proofs.RowLemmas.{node_at, read_row}
+use Rattle.lf_check.proofs.FoundLemmas.{found-unset, here-fails, here-Misses, here-Reaches, here-Branch}
+use Rattle.lf_check.proofs.RowLemmas.{node_at, none_is, read_row}
 use Rattle.lf_check.proofs.part.found_at.Goals as goal
 use Rattle.lf_check.proofs.part.found_at.Goals.{in-Misses, in-Reaches, in-Branch}
+
+pub returns-in_default : goal.returns-in_default
+returns-in_default g c =
+    let j = c.args.judged.now in
+    let s = j.setting.now in
+    let places = c.args.places.now in
+    let sets = places.sets.items in
+    let at = c.args.at in
+    let within : at < length sets = omega (arith, c.requires.at, c.requires.places.count) in
+    let is = slice_get_read sets (length sets) at c.index.result.now refl within c.index.ensures
+    ∙ ap Some (none_is c.index.result.now c.in_default.not-Some) in
+    found-unset (world_of s) s.spec j.formula.now j.last places.tree.now sets at is
 
 pub returns-in-Some-2 : goal.returns-in-Some-2
 returns-in-Some-2 g c =

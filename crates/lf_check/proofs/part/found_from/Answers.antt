@@ -1,56 +1,17 @@
-use Rattle.std.proofs.Common.{◌≡◌, ◌+◌, ◌<◌, ◌≤◌, length, subst, sym, arith}
+use Rattle.std.proofs.Common.{◌+◌, length, refl, sym, arith}
 use Rattle.lf_sim.specs.Settings.{world_of}
-use Rattle.lf_check.specs.Rows.{IsFound}
-use Rattle.lf_check.proofs.FoundLemmas.{found-none, found-more, found-stop, found-part, same_end}
+use Rattle.lf_check.proofs.FoundLemmas.{found-end, same_end}
+use Rattle.lf_check.proofs.NodeLemmas.{ok_then}
 use Rattle.lf_check.proofs.part.found_from.Goals as goal
-
-pub loop-at-init : goal.loop-at-init
-loop-at-init g c =
-    let j = c.args.judged.now in
-    let s = j.setting.now in (
-      omega arith,
-      c.end_of-to.ensures.start,
-      found-none (world_of s) s.spec j.formula.now j.last c.args.places.now.tree.now c.args.places.now.sets.items c.args.from,
-    )
-
-pub returns-in-Fails : goal.returns-in-Fails
-returns-in-Fails g c =
-    let j = c.args.judged.now in
-    let s = j.setting.now in
-    let places = c.args.places.now in
-    let at = c.loop-at.at in
-    let low = c.loop-at.invariant.0 in
-    let near : at < c.end_of-to.result = c.loop-at-test.true in
-    let far : at + 1 ≤ c.args.from + 256 = omega (arith, near, c.end_of-to.ensures.near) in
-    found-stop (world_of s) s.spec j.formula.now j.last places.tree.now places.sets.items c.args.from at (at + 1) low (omega arith)
-    (c.args.from + 256) c.in-Fails.at c.loop-at.first c.in-Fails.reason far c.loop-at.invariant.2
-    (subst (IsFound (world_of s) s.spec j.formula.now j.last places.tree.now places.sets.items at (at + 1)) c.in-Fails.is c.in_ok-at.ensures)
-
-pub loop-at-preserved : goal.loop-at-preserved
-loop-at-preserved g c =
-    let j = c.args.judged.now in
-    let s = j.setting.now in
-    let places = c.args.places.now in
-    let at = c.loop-at.at in
-    let low = c.loop-at.invariant.0 in
-    let near : at < c.end_of-to.result = c.loop-at-test.true in (
-      omega (arith, low),
-      omega (arith, near),
-      found-more (world_of s) s.spec j.formula.now j.last places.tree.now places.sets.items c.args.from at (at + 1) low (omega arith)
-          c.loop-at.first c.in-Passes.other c.lower-first.result c.loop-at.invariant.2
-          (subst (IsFound (world_of s) s.spec j.formula.now j.last places.tree.now places.sets.items at (at + 1)) c.in-Passes.is c.in_ok-at.ensures)
-          c.lower-first.ensures,
-    )
 
 pub returns : goal.returns
 returns g c =
     let j = c.args.judged.now in
     let s = j.setting.now in
     let places = c.args.places.now in
-    let at = c.loop-at.at in
-    let end : c.end_of-to.result ≡ at = omega (arith, c.loop-at.invariant.1, c.loop-at-test.false) in
-    found-part (world_of s) s.spec j.formula.now j.last places.tree.now places.sets.items c.args.from at (c.args.from + 256)
-    (length places.rows.items) c.loop-at.first
-    (same_end c.end_of-to.result at (c.args.from + 256) c.len.result (length places.rows.items) c.end_of-to.ensures.whole c.end_of-to.ensures.near end
-    (omega (arith, c.len.ensures, places.rows.ok.0))) (sym c.requires.places.count)
-    (omega (arith, end, c.end_of-to.ensures.near)) c.loop-at.invariant.2
+    let to = c.end_of-to.result in
+    ok_then c.found_within.result _ _ c.found_within.ensures (λ found h.
+    found-end (world_of s) s.spec j.formula.now j.last places.tree.now places.sets.items c.args.from to (c.args.from + 256)
+    (length places.rows.items) found
+    (same_end to to (c.args.from + 256) c.len.result (length places.rows.items) c.end_of-to.ensures.whole c.end_of-to.ensures.near refl
+    (omega (arith, c.len.ensures, places.rows.ok.0))) (sym c.requires.places.count) c.end_of-to.ensures.near h)

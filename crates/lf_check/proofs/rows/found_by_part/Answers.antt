@@ -13,7 +13,8 @@ collect-requires-clause-ready g c κs within =
     let ends = c.into_par_iter.ensures in
     let inside = nat_range-All (λ i. ArePlaces c.args.places.now × (i * 256 ≤ vec_len c.args.places.now.rows)) 0 c.args.parts
     (λ i low high. (c.requires.places, c.requires.parts i high)) in
-    rw (c.map.ensures.base, c.with_min_len.ensures.base, c.map.ensures.f, ends.0, ends.1) (λ k d lt. ((inside k d lt, search (rules, c.type_bounds) parts 8), λ y p. tt))
+    rw (c.map.ensures.base, c.with_min_len.ensures.base, c.map.ensures.f, ends.0, ends.1) (λ k d lt.
+    ((inside k d lt, search (rules, c.type_bounds) parts 8), λ y p. tt))
 
 pub returns : goal.returns
 returns g c =

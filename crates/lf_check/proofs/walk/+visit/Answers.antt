@@ -1,14 +1,14 @@
-use Rattle.std.proofs.Common.{◌≡◌, ◌<◌, ◌+◌, ◌-◌, ◌++◌, length, take, refl, sym, ap, ◌∙◌, arith}
-use Rattle.std.specs.Prelude.{slice_get, Some}
+use Rattle.std.proofs.Common.{◌≡◌, ◌<◌, ◌+◌, ◌-◌, ◌++◌, length, take, refl, sym, ap, ◌∙◌, subst, arith}
+use Rattle.std.specs.Prelude.{slice_get, IfOk, Some}
 use Rattle.std.proofs.lemmas.Option.{slice_get_read}
 use Rattle.lf_faults.specs.Faults.{inserted}
-use Rattle.lf_sim.specs.Settings.{set_of, world_of}
+use Rattle.lf_sim.specs.Settings.{world_of}
 use Rattle.lf_tree.specs.declared.tree.Node.TheVariants as kind
 use Rattle.lf_certificate.specs.Accepted.{IsRight, IsRightBranch}
 use Rattle.lf_certificate.specs.Places.{Place}
 use Rattle.lf_check.specs.Nodes.{place_of}
-use Rattle.lf_check.specs.Walks.{Stand, kid_of, stand_of}
-use Rattle.lf_check.proofs.NodeLemmas.{found-at, ok_at, given-Branch, right-none, right-Branch}
+use Rattle.lf_check.specs.Walks.{IsWalkOver, Lowers, Stand, kid_of, stand_of}
+use Rattle.lf_check.proofs.NodeLemmas.{given-Branch, right-none, right-Branch}
 use Rattle.lf_check.proofs.WalkLemmas.{stops-here, passes-Misses, passes-Reaches, goes-Branch, so_far-first, so_far-more, stops-kid, passes-kids}
 use Rattle.lf_check.proofs.WalkLemmas.{kid_of-some, walk-at}
 use Rattle.lf_check.proofs.walk.+visit.Goals as goal
@@ -19,9 +19,8 @@ visit-returns-then-is_some g t c =
     let s = j.setting.now in
     let walk = c.args.walk.now in
     stops-here (world_of s) s.spec j.formula.now j.last c.args.depth (place_of c.args.node.now c.args.set walk.excluded.items) (stand_of walk)
-    (stand_of walk) c.in_ok-fault.fault (sym c.is_some.ensures ∙ c.if-is_some.true) refl
-    (found-at (world_of s) s.spec j.formula.now j.last c.args.depth c.args.node.now (set_of c.in_ok-run.run') c.args.set c.as_slice.result.now
-    walk.excluded.items c.in_ok-fault.fault c.in_ok-run.ensures.set c.as_slice.ensures.value (ok_at c.node_fault-found.result c.in_ok-fault.fault c.in_ok-fault.was _ c.node_fault-found.ensures))
+    (stand_of c.fault_of.new.walk) c.in_ok-fault.fault (sym c.is_some.ensures ∙ c.if-is_some.true) (ap (λ (x : Stand). x.path) c.in_ok-fault.ensures.stand)
+    c.in_ok-fault.ensures.fault
 
 pub visit-visit_kids-requires : goal.visit-visit_kids-requires
 visit-visit_kids-requires g t c κs within =
@@ -30,14 +29,13 @@ visit-visit_kids-requires g t c κs within =
     let excluded = c.args.walk.now.excluded.items in
     let p : Place = place_of c.args.node.now c.args.set excluded in
     let branch = c.in-Branch in
-    let edges = c.as_slice-in-Branch.result.now in
-    let kids = c.as_slice-in-Branch-2.result.now in
+    let edges = c.as_slice.result.now in
+    let kids = c.as_slice-in-Branch.result.now in
     let right : IsRight (world_of s) s.spec j.formula.now j.last c.args.depth p =
     right-none (world_of s) s.spec j.formula.now j.last c.args.depth p c.in_ok-fault.fault (sym c.is_some.ensures ∙ c.if-is_some.false)
-    (found-at (world_of s) s.spec j.formula.now j.last c.args.depth c.args.node.now (set_of c.in_ok-run.run') c.args.set c.as_slice.result.now
-    excluded c.in_ok-fault.fault c.in_ok-run.ensures.set c.as_slice.ensures.value (ok_at c.node_fault-found.result c.in_ok-fault.fault c.in_ok-fault.was _ c.node_fault-found.ensures)) in
+    c.in_ok-fault.ensures.fault in
     let is : c.args.node.now ≡ kind.Branch branch.reach edges kids =
-    given-Branch c.args.node.now branch.reach branch.edges edges branch.kids kids branch.is c.as_slice-in-Branch.ensures c.as_slice-in-Branch-2.ensures in
+    given-Branch c.args.node.now branch.reach branch.edges edges branch.kids kids branch.is c.as_slice.ensures c.as_slice-in-Branch.ensures in
     let r : IsRightBranch (world_of s) s.spec j.formula.now j.last c.args.depth c.args.set excluded branch.reach edges kids =
     right-Branch (world_of s) s.spec j.formula.now j.last c.args.depth p branch.reach edges kids is right in
     (omega arith, (within.0, (within.1.0, (within.1.1.0, (within.1.1.1, (r.above, ((λ f h. ((r.required.each f).0 h).allowed), r.each)))))))
@@ -48,12 +46,14 @@ visit-returns-in-Misses g t c =
     let s = j.setting.now in
     let walk = c.args.walk.now in
     let p : Place = place_of c.args.node.now c.args.set walk.excluded.items in
+    let met = c.fault_of.new.walk in
+    let stand = c.in_ok-fault.ensures.stand in
     passes-Misses (world_of s) s.spec j.formula.now j.last c.args.depth p (stand_of walk)
-    (record { excluded = walk.excluded.items; path = walk.path.items; first = c.lowered-walk.result }) c.in-Misses.is
+    (record { excluded = met.excluded.items; path = met.path.items; first = c.lowered-walk.result }) c.in-Misses.is
     (right-none (world_of s) s.spec j.formula.now j.last c.args.depth p c.in_ok-fault.fault (sym c.is_some.ensures ∙ c.if-is_some.false)
-    (found-at (world_of s) s.spec j.formula.now j.last c.args.depth c.args.node.now (set_of c.in_ok-run.run') c.args.set c.as_slice.result.now
-    walk.excluded.items c.in_ok-fault.fault c.in_ok-run.ensures.set c.as_slice.ensures.value (ok_at c.node_fault-found.result c.in_ok-fault.fault c.in_ok-fault.was _ c.node_fault-found.ensures)))
-    refl refl c.lowered-walk.ensures
+    c.in_ok-fault.ensures.fault)
+    (ap (λ (x : Stand). x.excluded) stand) (ap (λ (x : Stand). x.path) stand)
+    (subst (λ o. Lowers (λ other. c.args.set ≡ other) o c.lowered-walk.result) (ap (λ (x : Stand). x.first) stand) c.lowered-walk.ensures)
 
 pub visit-returns-in-Reaches : goal.visit-returns-in-Reaches
 visit-returns-in-Reaches g t c =
@@ -61,11 +61,11 @@ visit-returns-in-Reaches g t c =
     let s = j.setting.now in
     let walk = c.args.walk.now in
     let p : Place = place_of c.args.node.now c.args.set walk.excluded.items in
-    passes-Reaches (world_of s) s.spec j.formula.now j.last c.args.depth p (stand_of walk) (stand_of walk) c.in-Reaches.is
+    passes-Reaches (world_of s) s.spec j.formula.now j.last c.args.depth p (stand_of walk) (stand_of c.fault_of.new.walk) c.in-Reaches.is
     (right-none (world_of s) s.spec j.formula.now j.last c.args.depth p c.in_ok-fault.fault (sym c.is_some.ensures ∙ c.if-is_some.false)
-    (found-at (world_of s) s.spec j.formula.now j.last c.args.depth c.args.node.now (set_of c.in_ok-run.run') c.args.set c.as_slice.result.now
-    walk.excluded.items c.in_ok-fault.fault c.in_ok-run.ensures.set c.as_slice.ensures.value (ok_at c.node_fault-found.result c.in_ok-fault.fault c.in_ok-fault.was _ c.node_fault-found.ensures)))
-    refl refl refl
+    c.in_ok-fault.ensures.fault)
+    (ap (λ (x : Stand). x.excluded) c.in_ok-fault.ensures.stand) (ap (λ (x : Stand). x.path) c.in_ok-fault.ensures.stand)
+    (ap (λ (x : Stand). x.first) c.in_ok-fault.ensures.stand)
 
 pub visit-returns-in-Branch : goal.visit-returns-in-Branch
 visit-returns-in-Branch g t c =
@@ -74,15 +74,16 @@ visit-returns-in-Branch g t c =
     let walk = c.args.walk.now in
     let p : Place = place_of c.args.node.now c.args.set walk.excluded.items in
     let branch = c.in-Branch in
-    let edges = c.as_slice-in-Branch.result.now in
-    let kids = c.as_slice-in-Branch-2.result.now in
+    let edges = c.as_slice.result.now in
+    let kids = c.as_slice-in-Branch.result.now in
     goes-Branch (world_of s) s.spec j.formula.now j.last c.args.depth p branch.reach edges kids
-    (given-Branch c.args.node.now branch.reach branch.edges edges branch.kids kids branch.is c.as_slice-in-Branch.ensures
-    c.as_slice-in-Branch-2.ensures)
+    (given-Branch c.args.node.now branch.reach branch.edges edges branch.kids kids branch.is c.as_slice.ensures
+    c.as_slice-in-Branch.ensures)
     (right-none (world_of s) s.spec j.formula.now j.last c.args.depth p c.in_ok-fault.fault (sym c.is_some.ensures ∙ c.if-is_some.false)
-    (found-at (world_of s) s.spec j.formula.now j.last c.args.depth c.args.node.now (set_of c.in_ok-run.run') c.args.set c.as_slice.result.now
-    walk.excluded.items c.in_ok-fault.fault c.in_ok-run.ensures.set c.as_slice.ensures.value (ok_at c.node_fault-found.result c.in_ok-fault.fault c.in_ok-fault.was _ c.node_fault-found.ensures)))
-    c.visit_kids.result (stand_of walk) (stand_of c.visit_kids.new.walk) c.visit_kids.ensures
+    c.in_ok-fault.ensures.fault)
+    c.visit_kids.result (stand_of walk) (stand_of c.visit_kids.new.walk)
+    (subst (λ (x : Stand). IfOk c.visit_kids.result (IsWalkOver (world_of s) s.spec j.formula.now j.last c.args.depth
+    (kid_of edges kids c.args.set x.excluded) (length edges) x (stand_of c.visit_kids.new.walk))) c.in_ok-fault.ensures.stand c.visit_kids.ensures)
 
 pub visit_kids-kids-init : goal.visit_kids-kids-init
 visit_kids-kids-init g t c =

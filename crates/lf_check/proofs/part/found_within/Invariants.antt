@@ -2,7 +2,7 @@ use Rattle.std.proofs.Common.{◌≤◌}
 use Rattle.lf_sim.specs.Settings.{world_of}
 use Rattle.lf_check.specs.declared.found.Found.TheVariants as found
 use Rattle.lf_check.specs.Rows.{IsFound}
-use Rattle.lf_check.proofs.part.found_from.Given as goal
+use Rattle.lf_check.proofs.part.found_within.Given as goal
 
 -- what is found in the nodes so far
 abbrev pub invariant-loop-at : goal.invariant-loop-at
