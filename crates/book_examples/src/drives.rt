@@ -1,66 +1,89 @@
 //! Books driven through lists of events.
 
-use crate::texts::{columns, counts, events, scenario};
-use lf_book::{Book, Event};
+use crate::texts::{agrees, begun, columns, counts_text, driven, events, is_text, scenario};
+use lf_book::{Counts, Event, Reply};
 use lf_scenario::Scenario;
-use lf_tree::to_text;
-use std::alloc::{AllocError, Global};
-use std::process::Abort;
+use lf_tree::{Tree, to_text};
+use std::alloc::Global;
 use std::sync::Arc;
-use std::test::Fail;
 
-/// What a new book replies last to events, and its counts after them.
-fn last_reply(
-    alloc: Global,
-    scenario: &Arc<Scenario>,
-    events: &[Event],
-) -> Result<String, AllocError> {
-    let mut book = Book::begin(alloc, Arc::try_clone(scenario)?)?;
-    let replies = book.drive(events)?;
-    let counts = counts(alloc, &book)?;
-    match replies.as_slice().last() {
-        Some(reply) => format!(in alloc; "{reply:?} {counts}"),
-        None => Ok(counts),
+/// Whether a reply and the counts after it have this text.
+fn is_said(alloc: Global, reply: &Reply, counts: &Counts, wanted: &str) -> bool {
+    match counts_text(alloc, counts) {
+        Ok(counts) => is_text(format!(in alloc; "{reply:?} {counts}"), wanted),
+        Err(_) => false,
     }
 }
 
-/// The level of a new book after events, how many sets it answered, its least sets, and its tree, each if the search has ended.
-fn ended(alloc: Global, scenario: &Arc<Scenario>, events: &[Event]) -> Result<String, Fail> {
-    let mut book = Book::begin(alloc, Arc::try_clone(scenario)?)?;
-    let _replies = book.drive(events)?;
+/// Whether a new book replies this last to events, and has these counts after them.
+fn replies_last(alloc: Global, scenario: &Arc<Scenario>, events: &[Event], wanted: &str) -> bool {
+    let Some(mut book) = begun(alloc, scenario) else {
+        return false;
+    };
+    let Ok(replies) = book.drive(events) else {
+        return false;
+    };
+    match replies.as_slice().last() {
+        Some(reply) => is_said(alloc, reply, &book.counts(), wanted),
+        None => false,
+    }
+}
+
+/// Whether these are the replies to events, one after another, each with the counts after it.
+fn are_replied(alloc: Global, scenario: &Arc<Scenario>, events: &[Event], wanted: &str) -> bool {
+    let mut count = 0_usize;
+    for reply in wanted.split("; ") {
+        count = count.saturating_add(1);
+        if count > events.len() || !replies_last(alloc, scenario, &events[..count], reply) {
+            return false;
+        }
+    }
+    count == events.len()
+}
+
+/// Whether a book has this text at its end: its level, how many sets it answered, and its tree.
+fn is_ended(alloc: Global, level: u32, answered: u64, tree: &Tree, wanted: &str) -> bool {
+    let Ok(text) = to_text(alloc, tree) else {
+        return false;
+    };
+    match str::from_utf8(text.as_slice()) {
+        Ok(tree) => is_text(format!(in alloc; "{level} {answered} {tree}"), wanted),
+        Err(_) => false,
+    }
+}
+
+/// Whether a new book has this end after events: its level, how many sets it answered, and its tree if the search has ended.
+fn ends(alloc: Global, scenario: &Arc<Scenario>, events: &[Event], wanted: &str) -> bool {
+    let Some(book) = driven(alloc, scenario, events) else {
+        return false;
+    };
     let (level, answered) = (book.level(), book.answered());
     match book.into_tree() {
-        Ok(tree) => {
-            let text = to_text(alloc, &tree)?;
-            let text = str::from_utf8(text.as_slice())?;
-            Ok(format!(in alloc; "{level} {answered} {text}")?)
-        }
+        Ok(tree) => is_ended(alloc, level, answered, &tree, wanted),
         Err((unfinished, book)) => {
-            Ok(format!(in alloc; "{} {} {unfinished:?}", book.level(), book.answered())?)
+            let (level, answered) = (book.level(), book.answered());
+            is_text(
+                format!(in alloc; "{level} {answered} {unfinished:?}"),
+                wanted,
+            )
         }
     }
 }
 
-/// The events of a row have these replies with these counts, and this end.
-fn row_is_driven(rt: &impl Abort, alloc: Global, row: &str) -> Result<(), Fail> {
+/// Whether the events of a row have its replies with their counts, and its end.
+fn row_is_driven(alloc: Global, row: &str) -> bool {
     let (numbers, rest) = columns(row);
     let (lines, rest) = columns(rest);
     let (words, rest) = columns(rest);
     let (replies, end) = columns(rest);
-    let scenario = scenario(alloc, numbers, lines)?;
-    let events = events(alloc, words)?;
-    let mut found = String::new(alloc);
-    for count in 1..events.len() + 1 {
-        if count > 1 {
-            found.push_str("; ")?;
-        }
-        let reply = last_reply(alloc, &scenario, &events[..count])?;
-        found.push_str(reply.as_str())?;
-    }
-    assert_eq!(rt; found.as_str(), replies, "to {row}");
-    let found = ended(alloc, &scenario, events.as_slice())?;
-    assert_eq!(rt; found.as_str(), end, "of {row}");
-    Ok(())
+    let Some(scenario) = scenario(alloc, numbers, lines) else {
+        return false;
+    };
+    let Some(events) = events(alloc, words) else {
+        return false;
+    };
+    let events = events.as_slice();
+    are_replied(alloc, &scenario, events, replies) && ends(alloc, &scenario, events, end)
 }
 
 /// For each row the bounds, the further lines, the events, the reply to each with the counts after it, and the end.
@@ -97,9 +120,8 @@ const DRIVES: &str = concat!(
 );
 
 #[test]
-fn events_have_their_replies(rt: HostRuntime) -> Result<(), Fail> {
+fn events_have_their_replies(rt: HostRuntime) {
     for row in DRIVES.lines() {
-        row_is_driven(&rt, rt.alloc(), row)?;
+        agrees(&rt, row_is_driven(rt.alloc(), row), row);
     }
-    Ok(())
 }

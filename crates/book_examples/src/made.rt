@@ -1,16 +1,14 @@
 //! Made lists of events, of which a book and the model make the same.
 
 use crate::model::Model;
-use crate::searches::{End, plain_least, search, tree_text};
-use crate::texts::{columns, scenario};
+use crate::searches::{End, is_accepted, plain_least, search};
+use crate::texts::{agrees, begun, columns, scenario};
 use lf_book::{Book, Deepened, Event, Job, Reply, Taken, work};
-use lf_check::{Verdict, check};
 use lf_scenario::Scenario;
-use lf_tree::read_tree;
-use std::alloc::{AllocError, Global};
+use lf_tree::{read_tree, to_text};
+use std::alloc::Global;
 use std::process::Abort;
 use std::sync::Arc;
-use std::test::Fail;
 
 /// Numbers that look as if drawn, of which each follows from the last.
 #[derive(Drop)]
@@ -41,6 +39,14 @@ impl Numbers {
     }
 }
 
+/// A scenario with a greatest number of sets.
+fn bounded(alloc: Global, numbers: &str, lines: &str, most: &str) -> Option<Arc<Scenario>> {
+    match format!(in alloc; "{lines};max_sets = {most}") {
+        Ok(lines) => scenario(alloc, numbers, lines.as_str()),
+        Err(_) => None,
+    }
+}
+
 /// The scenario of a book, one that equals it, and another.
 #[derive(Drop)]
 struct Scenarios {
@@ -51,17 +57,24 @@ struct Scenarios {
 
 impl Scenarios {
     /// Those of a row: the other has another greatest number of sets.
-    fn of(alloc: Global, row: &str) -> Result<Scenarios, Fail> {
+    fn of(alloc: Global, row: &str) -> Option<Scenarios> {
         let (numbers, rest) = columns(row);
         let (lines, most) = columns(rest);
-        let lines = format!(in alloc; "{lines};max_sets = ")?;
-        let own = format!(in alloc; "{lines}{most}")?;
-        let other = format!(in alloc; "{lines}99999")?;
-        Ok(Scenarios {
-            own: scenario(alloc, numbers, own.as_str())?,
-            equal: scenario(alloc, numbers, own.as_str())?,
-            other: scenario(alloc, numbers, other.as_str())?,
+        Some(Scenarios {
+            own: bounded(alloc, numbers, lines, most)?,
+            equal: bounded(alloc, numbers, lines, most)?,
+            other: bounded(alloc, numbers, lines, "99999")?,
         })
+    }
+
+    /// One of them, by a number.
+    fn one(&self, number: u64) -> Option<Arc<Scenario>> {
+        let scenario = match number {
+            0 => &self.other,
+            1 => &self.equal,
+            _ => &self.own,
+        };
+        Arc::try_clone(scenario).ok()
     }
 }
 
@@ -79,49 +92,61 @@ struct Play<'a> {
 
 impl<'a> Play<'a> {
     /// A new book.
-    fn begin(alloc: Global, scenarios: &'a Scenarios) -> Result<Play<'a>, AllocError> {
-        Ok(Play {
-            alloc,
-            scenarios,
-            book: Book::begin(alloc, Arc::try_clone(&scenarios.own)?)?,
-            model: Model::begin(alloc)?,
-            jobs: Vec::new(alloc),
-            events: Vec::new(alloc),
-            replies: Vec::new(alloc),
-        })
+    fn begin(alloc: Global, scenarios: &'a Scenarios) -> Option<Play<'a>> {
+        let book = begun(alloc, &scenarios.own)?;
+        match Model::begin(alloc) {
+            Ok(model) => Some(Play {
+                alloc,
+                scenarios,
+                book,
+                model,
+                jobs: Vec::new(alloc),
+                events: Vec::new(alloc),
+                replies: Vec::new(alloc),
+            }),
+            Err(_) => None,
+        }
     }
 
     /// What a take is replied. None where the book and the model differ, and so below.
-    fn take(&mut self) -> Result<Option<Reply>, Fail> {
-        let taken = self.book.take()?;
+    fn take(&mut self) -> Option<Reply> {
+        let Ok(taken) = self.book.take() else {
+            return None;
+        };
         if !self.model.may_give(&taken) {
-            return Ok(None);
+            return None;
         }
-        Ok(Some(match taken {
-            Taken::Busy => Reply::Busy,
-            Taken::LevelDone => Reply::LevelDone,
-            Taken::Finished => Reply::Finished,
-            Taken::Spent => Reply::Spent,
+        match taken {
+            Taken::Busy => Some(Reply::Busy),
+            Taken::LevelDone => Some(Reply::LevelDone),
+            Taken::Finished => Some(Reply::Finished),
+            Taken::Spent => Some(Reply::Spent),
             Taken::Job(job) => {
                 let ticket = job.ticket();
-                self.jobs.push(job)?;
-                Reply::Took(ticket)
+                match self.jobs.push(job) {
+                    Ok(()) => Some(Reply::Took(ticket)),
+                    Err(_) => None,
+                }
             }
-        }))
+        }
     }
 
     /// What the finding of a job is replied.
-    fn file(&mut self, job: &Job) -> Result<Option<Reply>, Fail> {
-        let is_same = job.scenario().same(&self.scenarios.own);
-        let wanted = self
-            .model
-            .file(self.alloc, &self.scenarios.own, job, is_same)?;
-        match self.book.file(work(job)?) {
-            Ok(()) if wanted == 0 => Ok(Some(Reply::Filed)),
+    fn file(&mut self, job: &Job) -> Option<Reply> {
+        let own = &self.scenarios.own;
+        let is_same = job.scenario().same(own);
+        let Ok(wanted) = self.model.file(self.alloc, own, job, is_same) else {
+            return None;
+        };
+        let Ok(finding) = work(job) else {
+            return None;
+        };
+        match self.book.file(finding) {
+            Ok(()) if wanted == 0 => Some(Reply::Filed),
             Err((refusal, back)) if refusal.number() == wanted && back.ticket() == job.ticket() => {
-                Ok(Some(Reply::Refused(wanted)))
+                Some(Reply::Refused(wanted))
             }
-            _ => Ok(None),
+            _ => None,
         }
     }
 
@@ -149,7 +174,7 @@ impl<'a> Play<'a> {
     }
 
     /// What an event is replied.
-    fn reply(&mut self, event: Event) -> Result<Option<Reply>, Fail> {
+    fn reply(&mut self, event: Event) -> Option<Reply> {
         match event {
             Event::Take => self.take(),
             Event::File(place) if place < self.jobs.len() => {
@@ -158,40 +183,85 @@ impl<'a> Play<'a> {
             }
             Event::GiveBack(place) if place < self.jobs.len() => {
                 let job = self.jobs.remove(place);
-                Ok(self.give_back(job))
+                self.give_back(job)
             }
-            Event::File(_) | Event::GiveBack(_) => Ok(Some(Reply::NoJob)),
-            Event::Deepen => Ok(self.deepen()),
+            Event::File(_) | Event::GiveBack(_) => Some(Reply::NoJob),
+            Event::Deepen => self.deepen(),
             Event::Reclaim => {
                 self.book.reclaim();
                 self.model.reclaim();
-                Ok(Some(Reply::Reclaimed))
+                Some(Reply::Reclaimed)
             }
         }
     }
 
-    /// What is replied to a job or its finding as another book might bring it.
-    fn reply_to_another(&mut self, numbers: &mut Numbers) -> Result<Option<Reply>, Fail> {
+    /// What a made event is replied.
+    fn reply_to_made(&mut self, numbers: &mut Numbers) -> Option<Reply> {
+        let event = numbers.event(self.jobs.len());
+        match self.events.push(event) {
+            Ok(()) => self.reply(event),
+            Err(_) => None,
+        }
+    }
+
+    /// A job as another book might have it.
+    fn another(&self, numbers: &mut Numbers) -> Option<Job> {
         let ticket = numbers.below(self.model.next).saturating_add(1);
         let known = numbers.below(self.model.sets.len() as u64) as usize;
         let place = match self.model.claimed_by(ticket) {
             Some(place) if numbers.below(4) > 0 => place,
             _ => known,
         };
-        let scenario = match numbers.below(5) {
-            0 => &self.scenarios.other,
-            1 => &self.scenarios.equal,
-            _ => &self.scenarios.own,
-        };
-        let scenario = Arc::try_clone(scenario)?;
-        let job = self
-            .model
-            .job(self.alloc, scenario, place, ticket, numbers.below(10))?;
-        let job = job.ok_or("no set")?;
+        let scenario = self.scenarios.one(numbers.below(5))?;
+        let change = numbers.below(10);
+        self.model.job(self.alloc, scenario, place, ticket, change)
+    }
+
+    /// What is replied to a job or its finding as another book might bring it.
+    fn reply_to_another(&mut self, numbers: &mut Numbers) -> Option<Reply> {
+        let job = self.another(numbers)?;
         if numbers.below(3) == 0 {
-            Ok(self.give_back(job))
+            self.give_back(job)
         } else {
             self.file(&job)
+        }
+    }
+
+    /// Whether the book and the model reply the same to one event more, or to a job or its finding of another book where there may be any.
+    fn goes_on(&mut self, numbers: &mut Numbers, has_others: bool) -> bool {
+        let reply = if has_others && numbers.below(3) == 0 {
+            self.reply_to_another(numbers)
+        } else {
+            self.reply_to_made(numbers)
+        };
+        match reply {
+            Some(reply) => {
+                self.book.counts() == self.model.counts() && self.replies.push(reply).is_ok()
+            }
+            None => false,
+        }
+    }
+
+    /// Whether the book and the model reply the same to a made list of events, in every other list with jobs and findings of other books
+    /// among them.
+    fn goes_through(&mut self, list: u64) -> bool {
+        let mut numbers = Numbers { last: list };
+        for _ in 0..60 {
+            if !self.goes_on(&mut numbers, list % 2 == 0) {
+                return false;
+            }
+        }
+        list % 2 == 0 || self.is_driven()
+    }
+
+    /// Whether a new book is driven through the events with the same replies.
+    fn is_driven(&self) -> bool {
+        let Some(mut driven) = begun(self.alloc, &self.scenarios.equal) else {
+            return false;
+        };
+        match driven.drive(self.events.as_slice()) {
+            Ok(replies) => replies == self.replies && driven.counts() == self.book.counts(),
+            Err(_) => false,
         }
     }
 }
@@ -221,98 +291,128 @@ fn bit(reply: &Reply) -> u32 {
     1u32.wrapping_shl(place)
 }
 
-/// The book and the model reply the same to a made list of events, in every other list with jobs and findings of other books among them.
-fn played<'a>(
-    rt: &impl Abort,
-    alloc: Global,
-    scenarios: &'a Scenarios,
-    list: u64,
-    row: &str,
-) -> Result<Play<'a>, Fail> {
-    let mut numbers = Numbers { last: list };
-    let mut play = Play::begin(alloc, scenarios)?;
-    for i in 0..60u32 {
-        let event = if list % 2 == 0 && numbers.below(3) == 0 {
-            None
-        } else {
-            Some(numbers.event(play.jobs.len()))
-        };
-        let reply = match event {
-            Some(event) => play.reply(event)?,
-            None => play.reply_to_another(&mut numbers)?,
-        };
-        let is_right = reply.is_some() && play.book.counts() == play.model.counts();
-        assert!(rt;
-            is_right,
-            "{event:?}, {reply:?}: event {i} of list {list} of {row}"
-        );
-        play.events.extend_from_slice(event.as_slice())?;
-        play.replies.push(reply.ok_or("no reply")?)?;
+/// The bits of replies.
+fn bits(replies: &[Reply]) -> u32 {
+    let mut met = 0;
+    for reply in replies {
+        met |= bit(reply);
     }
-    Ok(play)
+    met
 }
 
-/// Whether a new book is driven through the events with the same replies.
-fn is_driven(play: &Play<'_>) -> Result<bool, Fail> {
-    let mut driven = Book::begin(play.alloc, Arc::try_clone(&play.scenarios.equal)?)?;
-    let replies = driven.drive(play.events.as_slice())?;
-    Ok(replies == play.replies && driven.counts() == play.book.counts())
+/// The text of a book's tree, which is empty where the search hasn't ended.
+fn tree_text(alloc: Global, book: Book) -> Option<Vec<u8>> {
+    match book.into_tree() {
+        Ok(tree) => to_text(alloc, &tree).ok(),
+        Err(_) => Some(Vec::new(alloc)),
+    }
 }
 
-/// The end of a search that is made straight on, and its tree, which is accepted.
-fn straight(alloc: Global, scenario: &Arc<Scenario>) -> Result<(End, Option<Vec<u8>>), Fail> {
-    let mut book = Book::begin(alloc, Arc::try_clone(scenario)?)?;
+/// Whether the tree of a text is accepted.
+fn is_read(alloc: Global, scenario: &Scenario, text: &[u8]) -> bool {
+    match read_tree(alloc, text) {
+        Ok(tree) => is_accepted(alloc, scenario, &tree),
+        Err(_) => false,
+    }
+}
+
+/// Whether a search may come to this end, with this text of its tree: the answer is the first least set by plain runs, and the tree is
+/// accepted; or the search hasn't ended.
+fn is_right(alloc: Global, scenario: &Scenario, end: &End, text: &[u8]) -> bool {
+    let Some(least) = plain_least(alloc, scenario) else {
+        return false;
+    };
+    match end {
+        End::Answer(answer) => {
+            answer.as_ref() == least.as_slice().first() && is_read(alloc, scenario, text)
+        }
+        End::Full(_) => text.is_empty(),
+    }
+}
+
+/// The end of a search that is made straight on, and the text of its tree.
+fn straight(alloc: Global, scenario: &Arc<Scenario>) -> Option<(End, Vec<u8>)> {
+    let mut book = begun(alloc, scenario)?;
     let end = search(&mut book)?;
     let text = tree_text(alloc, book)?;
-    match (&end, &text) {
-        (End::Answer(_), Some(text)) => {
-            let tree = read_tree(alloc, text.as_slice())?;
-            if !matches!(check(alloc, scenario, &tree)?, Verdict::Yes) {
-                return Err(Fail::from("a tree that isn't accepted"));
-            }
-        }
-        (End::Full(_), None) => {}
-        _ => return Err(Fail::from("another end than the tree")),
+    if is_right(alloc, scenario, &end, text.as_slice()) {
+        Some((end, text))
+    } else {
+        None
     }
-    Ok((end, text))
+}
+
+/// The scenarios of a row, the end of a search that is made straight on, and the text of its tree.
+#[derive(Drop)]
+struct Case {
+    scenarios: Scenarios,
+    end: End,
+    tree: Vec<u8>,
+}
+
+impl Case {
+    /// That of a row.
+    fn of(alloc: Global, row: &str) -> Option<Case> {
+        let scenarios = Scenarios::of(alloc, row)?;
+        let (end, tree) = straight(alloc, &scenarios.own)?;
+        Some(Case {
+            scenarios,
+            end,
+            tree,
+        })
+    }
+
+    /// Whether the search of a book comes to the same end, with the same tree, once its claims are opened.
+    fn ends(&self, alloc: Global, book: Book) -> bool {
+        let mut book = book;
+        book.reclaim();
+        if search(&mut book) != Some(self.end) {
+            return false;
+        }
+        match tree_text(alloc, book) {
+            Some(text) => text == self.tree,
+            None => false,
+        }
+    }
+
+    /// The bits of the replies to a made list. None where the book and the model differ, or the search comes to another end after it.
+    fn met(&self, alloc: Global, list: u64) -> Option<u32> {
+        let mut play = Play::begin(alloc, &self.scenarios)?;
+        if !play.goes_through(list) {
+            return None;
+        }
+        let met = bits(play.replies.as_slice());
+        let Play { book, .. } = play;
+        if self.ends(alloc, book) {
+            Some(met)
+        } else {
+            None
+        }
+    }
 }
 
 /// The made lists of a scenario: whatever they did, the search comes to the same end, with the same tree.
-fn lists_agree(rt: &impl Abort, alloc: Global, lists: u64, row: &str) -> Result<u32, Fail> {
-    let scenarios = Scenarios::of(alloc, row)?;
-    let own = &scenarios.own;
-    let least = plain_least(alloc, own)?;
-    let (end, tree) = straight(alloc, own)?;
-    let is_first = match &end {
-        End::Answer(answer) => answer.as_ref() == least.as_slice().first(),
-        End::Full(_) => true,
-    };
-    let mut met = 0;
-    for list in 0..lists {
-        let play = played(rt, alloc, &scenarios, list, row)?;
-        let is_driven = list % 2 == 0 || is_driven(&play)?;
-        let Play {
-            mut book,
-            replies,
-            ..
-        } = play;
-        book.reclaim();
-        let is_end = is_first && search(&mut book)? == end && tree_text(alloc, book)? == tree;
-        assert!(rt; is_driven && is_end, "the end after list {list} of {row}");
-        for reply in replies.as_slice() {
-            met |= bit(reply);
+fn lists_agree(rt: &impl Abort, alloc: Global, lists: u64, row: &str) -> u32 {
+    let case = Case::of(alloc, row);
+    agrees(rt, case.is_some(), row);
+    let mut bits = 0;
+    if let Some(case) = case {
+        for list in 0..lists {
+            let met = case.met(alloc, list);
+            assert!(rt; met.is_some(), "list {list} of {row}");
+            bits |= met.unwrap_or(0);
         }
     }
-    Ok(met)
+    bits
 }
 
 /// The made lists of all scenarios of a table. Each row has the bounds, the further lines, and the greatest number of sets.
-fn tables_agree(rt: &impl Abort, alloc: Global, lists: u64, table: &str) -> Result<u32, Fail> {
+fn tables_agree(rt: &impl Abort, alloc: Global, lists: u64, table: &str) -> u32 {
     let mut met = 0;
     for row in table.lines() {
-        met |= lists_agree(rt, alloc, lists, row)?;
+        met |= lists_agree(rt, alloc, lists, row);
     }
-    Ok(met)
+    met
 }
 
 /// With an answer and without one, and with too many sets on the first level: all replies but that tickets are spent.
@@ -324,51 +424,46 @@ const ENDS: &str = concat!(
 );
 
 #[test]
-fn made_lists_to_each_end(rt: HostRuntime) -> Result<(), Fail> {
-    let met = tables_agree(&rt, rt.alloc(), 250, ENDS)?;
-    assert_eq!(rt; met, 0b11_1111_1110_1111_1111);
-    Ok(())
+fn made_lists_to_each_end(rt: HostRuntime) {
+    let met = tables_agree(&rt, rt.alloc(), 250, ENDS);
+    agrees(&rt, met == 0b11_1111_1110_1111_1111, "the replies met");
 }
 
 #[test]
-fn made_lists_over_deliveries(rt: HostRuntime) -> Result<(), Fail> {
+fn made_lists_over_deliveries(rt: HostRuntime) {
     let table = concat!(
         "2 3 2 1 2|protocol = \"retry\";tries = 2;outcome = \"delivered\"|99\n",
         "2 3 1 2 3|protocol = \"retry\";tries = 1;outcome = \"delivered\"|99\n",
         "3 4 3 0 3|protocol = \"retry\";tries = 3;outcome = \"delivered\"|14\n",
         "2 1 0 0 0|protocol = \"retry\";tries = 1;outcome = \"delivered\"|1\n",
     );
-    let _met = tables_agree(&rt, rt.alloc(), 250, table)?;
-    Ok(())
+    let _met = tables_agree(&rt, rt.alloc(), 250, table);
 }
 
 #[test]
-fn made_lists_over_repeated_sendings(rt: HostRuntime) -> Result<(), Fail> {
+fn made_lists_over_repeated_sendings(rt: HostRuntime) {
     let table = concat!(
         "3 3 2 0 2|protocol = \"redundant\";tries = 3;outcome = \"delivered\"|99\n",
         "2 4 2 1 2|protocol = \"redundant\";tries = 3;outcome = \"delivered\";pauses = 2;pause_length = 2|30\n",
     );
-    let _met = tables_agree(&rt, rt.alloc(), 60, table)?;
-    Ok(())
+    let _met = tables_agree(&rt, rt.alloc(), 60, table);
 }
 
 #[test]
-fn made_lists_over_commits(rt: HostRuntime) -> Result<(), Fail> {
+fn made_lists_over_commits(rt: HostRuntime) {
     let table = concat!(
         "2 4 1 1 2|protocol = \"two_phase\";patience = 2;outcome = \"unblocked\";pauses = 1;pause_length = 2|99\n",
         "2 4 1 1 2|protocol = \"two_phase\";patience = 2;outcome = \"agreement\"|99\n",
         "3 4 1 1 1|protocol = \"three_phase\";patience = 2;outcome = \"agreement\";pauses = 1|99\n",
     );
-    let _met = tables_agree(&rt, rt.alloc(), 60, table)?;
-    Ok(())
+    let _met = tables_agree(&rt, rt.alloc(), 60, table);
 }
 
 #[test]
-fn made_lists_over_primaries(rt: HostRuntime) -> Result<(), Fail> {
+fn made_lists_over_primaries(rt: HostRuntime) {
     let table = concat!(
         "3 3 1 1 2|protocol = \"primary_backup\";patience = 2;outcome = \"one_primary\"|99\n",
         "3 4 1 1 1|protocol = \"primary_backup\";patience = 2;outcome = \"durable\";pauses = 3|99\n",
     );
-    let _met = tables_agree(&rt, rt.alloc(), 60, table)?;
-    Ok(())
+    let _met = tables_agree(&rt, rt.alloc(), 60, table);
 }

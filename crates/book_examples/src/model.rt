@@ -1,16 +1,19 @@
 //! What each event does to a search, said plainly: a list of all sets, each with its mark.
 
+ghost use Rattle.lf_sim.specs.Settings.{IsRun, world_of};
+
 use lf_book::{Counts, Deepened, Job, Taken};
 use lf_cone::{edges, sharp};
 use lf_faults::{Fault, FaultSet, FaultSpec};
-use lf_outcome::{evidence, holds};
+use lf_outcome::{Formula, evidence, holds};
+use lf_protocols::{Fact, Protocol};
 use lf_scenario::Scenario;
-use lf_sim::run;
+use lf_sim::{Run, Setting, run};
 use std::alloc::{AllocError, Global};
 use std::sync::Arc;
 
 /// How a set is marked.
-#[derive(Clone, Copy, Debug, PartialEq, Eq)]
+#[derive(Clone, Copy, PartialEq, Eq)]
 enum Mark {
     Waiting,
     Open,
@@ -46,6 +49,26 @@ pub(crate) struct Model {
     finished: bool,
 }
 
+/// The faults that are required beneath a run's set. None where it misses.
+fn required_of(
+    alloc: Global,
+    setting: &Setting<Protocol>,
+    formula: &Formula<Fact>,
+    played: &Run<Protocol>,
+    excluded: &[Fault],
+) -> Result<Option<Vec<Fault>>, AllocError>
+    requires { IsRun (world_of setting.now) played.now }
+{
+    let Some(points) = evidence(alloc, setting, formula, played)? else {
+        return Ok(None);
+    };
+    let reach = sharp(setting, played, points.as_slice());
+    match edges(alloc, setting, played, &reach, excluded) {
+        Ok(edges) => Ok(Some(edges)),
+        Err(error) => Err(error),
+    }
+}
+
 /// The faults that are required beneath a set. None where it misses.
 fn required(
     alloc: Global,
@@ -53,19 +76,57 @@ fn required(
     set: &FaultSet,
     excluded: &[Fault],
 ) -> Result<Option<Vec<Fault>>, AllocError> {
-    let setting = scenario.setting();
+    let (setting, formula) = (scenario.setting(), scenario.formula());
     let played = run(alloc, setting, set)?;
-    if !holds(setting, scenario.formula(), &played) {
-        return Ok(None);
+    if !holds(setting, formula, &played) {
+        Ok(None)
+    } else if set.len() >= setting.spec.budget() as usize {
+        Ok(Some(Vec::new(alloc)))
+    } else {
+        required_of(alloc, setting, formula, &played, excluded)
     }
-    if set.len() >= setting.spec.budget() as usize {
-        return Ok(Some(Vec::new(alloc)));
+}
+
+/// The path of a set, with a change of it or none.
+fn changed_path(alloc: Global, path: &[usize], change: u64) -> Result<Vec<usize>, AllocError> {
+    if change == 2 {
+        return Ok(Vec::new(alloc));
     }
-    let Some(points) = evidence(alloc, setting, scenario.formula(), &played)? else {
-        return Ok(None);
-    };
-    let reach = sharp(setting, &played, points.as_slice());
-    Ok(Some(edges(alloc, setting, &played, &reach, excluded)?))
+    let mut changed = path.to_vec(alloc)?;
+    if change == 1 {
+        changed.push(0)?;
+    }
+    Ok(changed)
+}
+
+/// The exclusions of a set, with a change of them or none.
+fn changed_exclusions(alloc: Global, known: &Known, change: u64) -> Result<Vec<Fault>, AllocError> {
+    if change == 3 {
+        return Ok(Vec::new(alloc));
+    }
+    let mut changed = known.excluded.as_slice().to_vec(alloc)?;
+    if change == 4 {
+        changed.extend_from_slice(known.faults.items())?;
+    }
+    Ok(changed)
+}
+
+/// A kid of a job's set, which waits, at its place among the edges. The edges before its own are excluded.
+fn kid(
+    alloc: Global,
+    job: &Job,
+    place: usize,
+    edge: &Fault,
+    before: &[Fault],
+) -> Result<Known, AllocError> {
+    let mut path = job.path().to_vec(alloc)?;
+    path.push(place)?;
+    Ok(Known {
+        path,
+        faults: job.set().insert(*edge).unwrap_or(job.set()),
+        excluded: before.to_vec(alloc)?,
+        mark: Mark::Waiting,
+    })
 }
 
 impl Model {
@@ -95,22 +156,20 @@ impl Model {
         place: usize,
         ticket: u64,
         change: u64,
-    ) -> Result<Option<Job>, AllocError> {
-        let Some(known) = self.sets.as_slice().get(place) else {
-            return Ok(None);
+    ) -> Option<Job> {
+        let known = self.sets.as_slice().get(place)?;
+        let set = if change == 0 {
+            FaultSet::empty()
+        } else {
+            known.faults
         };
-        let mut path = known.path.as_slice().to_vec(alloc)?;
-        let mut excluded = known.excluded.as_slice().to_vec(alloc)?;
-        let mut set = known.faults;
-        match change {
-            0 => set = FaultSet::empty(),
-            1 => path.push(0)?,
-            2 => path.clear(),
-            3 => excluded.clear(),
-            4 => excluded.extend_from_slice(set.items())?,
-            _ => {}
+        let Ok(path) = changed_path(alloc, known.path.as_slice(), change) else {
+            return None;
+        };
+        match changed_exclusions(alloc, known, change) {
+            Ok(excluded) => Some(Job::new(scenario, set, excluded, path, ticket)),
+            Err(_) => None,
         }
-        Ok(Some(Job::new(scenario, set, excluded, path, ticket)))
     }
 
     /// How many sets are marked in which way.
@@ -203,14 +262,8 @@ impl Model {
     fn put_kids(&mut self, alloc: Global, job: &Job, edges: &[Fault]) -> Result<(), AllocError> {
         let mut before = job.excluded().to_vec(alloc)?;
         for (i, edge) in edges.iter().enumerate() {
-            let mut path = job.path().to_vec(alloc)?;
-            path.push(i)?;
-            self.sets.push(Known {
-                path,
-                faults: job.set().insert(*edge).unwrap_or(job.set()),
-                excluded: before.as_slice().to_vec(alloc)?,
-                mark: Mark::Waiting,
-            })?;
+            self.sets
+                .push(kid(alloc, job, i, edge, before.as_slice())?)?;
             before.push(*edge)?;
         }
         Ok(())

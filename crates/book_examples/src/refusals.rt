@@ -2,48 +2,62 @@
 
 ghost use Rattle.std.specs.Prelude.{◌≡◌, ◌<◌};
 
-use crate::texts::{columns, counts, events, scenario};
-use lf_book::{Book, Job, Steps, Taken, work};
+use crate::texts::{agrees, columns, counts_text, driven, events, is_text, scenario};
+use lf_book::{Book, Finding, Job, Steps, Taken, work};
 use lf_scenario::Scenario;
 use std::alloc::Global;
 use std::marker::Brand;
 use std::sync::Arc;
 use std::sync::ledger::{Blank, Ledger};
-use std::test::Fail;
 
 /// Three nodes, of which node 0 sends the value so many times.
-fn tries_of(alloc: Global, tries: &str) -> Result<Arc<Scenario>, Fail> {
-    let lines = format!(in alloc; "protocol = \"retry\";tries = {tries};outcome = \"delivered\"")?;
-    scenario(alloc, "3 4 3 0 2", lines.as_str())
-}
-
-/// A new book after events and a take, with the job taken.
-fn taken(alloc: Global, scenario: Arc<Scenario>, words: &str) -> Result<(Book, Job), Fail> {
-    let mut book = Book::begin(alloc, scenario)?;
-    let events = events(alloc, words)?;
-    let _replies = book.drive(events.as_slice())?;
-    match book.take()? {
-        Taken::Job(job) => Ok((book, job)),
-        _ => Err(Fail::from("no job")),
+fn tries_of(alloc: Global, tries: &str) -> Option<Arc<Scenario>> {
+    match format!(in alloc; "protocol = \"retry\";tries = {tries};outcome = \"delivered\"") {
+        Ok(lines) => scenario(alloc, "3 4 3 0 2", lines.as_str()),
+        Err(_) => None,
     }
 }
 
-/// What a book says of a finding, with its counts afterwards and the ticket of a finding that is handed back.
-fn said(alloc: Global, book: &mut Book, job: &Job) -> Result<String, Fail> {
-    let said = match book.file(work(job)?) {
-        Ok(()) => format!(in alloc; "filed")?,
-        Err((refusal, back)) => {
-            if back.set() != job.set()
-                || back.path() != job.path()
-                || back.excluded() != job.excluded()
-            {
-                return Err(Fail::from("another finding is handed back"));
-            }
-            format!(in alloc; "{} {}", refusal.number(), back.ticket())?
-        }
+/// A new book with so many tries after events.
+fn driven_by(alloc: Global, tries: &str, words: &str) -> Option<Book> {
+    let events = events(alloc, words)?;
+    driven(alloc, &tries_of(alloc, tries)?, events.as_slice())
+}
+
+/// The same after a take, with the job taken.
+fn taken(alloc: Global, tries: &str, words: &str) -> Option<(Book, Job)> {
+    let mut book = driven_by(alloc, tries, words)?;
+    match book.take() {
+        Ok(Taken::Job(job)) => Some((book, job)),
+        _ => None,
+    }
+}
+
+/// Whether a finding is of a job.
+fn is_of(finding: &Finding, job: &Job) -> bool {
+    finding.set() == job.set()
+        && finding.path() == job.path()
+        && finding.excluded() == job.excluded()
+}
+
+/// Whether a book says this of a finding: that it is filed, or the number of the refusal and the ticket of the finding that is handed back.
+fn says(alloc: Global, book: &mut Book, job: &Job, wanted: &str) -> bool {
+    let Ok(finding) = work(job) else {
+        return false;
     };
-    let counts = counts(alloc, book)?;
-    Ok(format!(in alloc; "{said}, {counts}")?)
+    match book.file(finding) {
+        Ok(()) => wanted == "filed",
+        Err((refusal, back)) => {
+            let said = format!(in alloc; "{} {}", refusal.number(), back.ticket());
+            is_of(&back, job) && is_text(said, wanted)
+        }
+    }
+}
+
+/// Whether a book says this of a finding, and has these counts afterwards.
+fn says_with_counts(alloc: Global, book: &mut Book, job: &Job, wanted: &str) -> bool {
+    let (said, counts) = wanted.split_once(", ").unwrap_or((wanted, ""));
+    says(alloc, book, job, said) && is_text(counts_text(alloc, &book.counts()), counts)
 }
 
 /// Of each row: the events of a book with one try, after which it takes a set; whether the finding is of a book with one try or with
@@ -60,40 +74,47 @@ const FINDINGS: &str = concat!(
     "t f:0 d|3|t g:0 t g:0|1 3, 1 1 1 0|1 3, 1 1 1 0\n",
 );
 
+/// Whether a row's book says to a finding what it is to say, twice.
+fn row_is_said(alloc: Global, row: &str) -> bool {
+    let (own, rest) = columns(row);
+    let (tries, rest) = columns(rest);
+    let (others, rest) = columns(rest);
+    let (first, second) = columns(rest);
+    let Some((mut book, _job)) = taken(alloc, "1", own) else {
+        return false;
+    };
+    let Some((_other, job)) = taken(alloc, tries, others) else {
+        return false;
+    };
+    says_with_counts(alloc, &mut book, &job, first)
+        && says_with_counts(alloc, &mut book, &job, second)
+}
+
 #[test]
-fn findings_of_other_books(rt: HostRuntime) -> Result<(), Fail> {
-    let alloc = rt.alloc();
+fn findings_of_other_books(rt: HostRuntime) {
     for row in FINDINGS.lines() {
-        let (own, rest) = columns(row);
-        let (tries, rest) = columns(rest);
-        let (others, said_of) = columns(rest);
-        let (mut book, _job) = taken(alloc, tries_of(alloc, "1")?, own)?;
-        let (_other, job) = taken(alloc, tries_of(alloc, tries)?, others)?;
-        let first = said(alloc, &mut book, &job)?;
-        let second = said(alloc, &mut book, &job)?;
-        let both = format!(in alloc; "{first}|{second}")?;
-        assert_eq!(rt; both.as_str(), said_of, "of {row}");
+        agrees(&rt, row_is_said(rt.alloc(), row), row);
     }
-    Ok(())
 }
 
 /// Takes the first set of a book with its steps counted, and tells whether a job of the empty set is given.
-fn takes_the_root<L: Ledger>(alloc: Global, blank: Blank) -> Result<bool, Fail>
+fn takes_the_root<L: Ledger>(alloc: Global, blank: Blank) -> bool
     requires name { blank.name ≡ L.name }
     requires parts { blank.parts ≡ L.parts }
     requires some { 0 < blank.parts }
 {
     let mut steps = Steps::<L>::new(blank);
-    let mut book = Book::begin(alloc, tries_of(alloc, "1")?)?;
-    match book.take_counted(&mut steps)? {
-        Taken::Job(job) => Ok(job.ticket() == 1 && job.set().is_empty()),
-        _ => Ok(false),
+    let Some(mut book) = driven_by(alloc, "1", "") else {
+        return false;
+    };
+    match book.take_counted(&mut steps) {
+        Ok(Taken::Job(job)) => job.ticket() == 1 && job.set().is_empty(),
+        _ => false,
     }
 }
 
 #[test]
-fn takes_with_counted_steps(rt: HostRuntime) -> Result<(), Fail> {
-    let took = takes_the_root::<Brand>(rt.alloc(), Blank::new(1))?;
-    assert!(rt; took);
-    Ok(())
+fn takes_with_counted_steps(rt: HostRuntime) {
+    let took = takes_the_root::<Brand>(rt.alloc(), Blank::new(1));
+    agrees(&rt, took, "the first take");
 }
