@@ -262,6 +262,11 @@ module _ (IsReply : List ℕ → ℕ → Type 0) (old new : Option (List ℕ)) (
   pub wrote_part : ((n : ℕ) × (n < length reply) × Appends old new (take n reply)) → WrotePart IsReply old new
   wrote_part some = (reply, status, some.0, is, some.1, some.2)
 
+-- of two facts of what a source held the first
+pub first_told : (held : Option (List ℕ)) (P Q : List ℕ → Type 0) → IfSome held (λ h. P h × Q h) → IfSome held P
+first_told None P Q told = tt
+first_told (Some h) P Q told = told.0
+
 -- what is known of an error, where one is answered
 pub known_of : {X E : Type 0} (result : Result X E) (e : E) (P : Type 0) → IfErr result (λ _. P) → result ≡ Err e → P
 known_of (Ok x) e P told is = absurd (let never : Ok x ≡ Err e = is in cc)

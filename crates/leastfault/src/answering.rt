@@ -9,7 +9,7 @@ ghost use Rattle.lf_sim.specs.Settings.{world_of};
 ghost use Rattle.lf_trace.specs.Namings.{Names};
 ghost use Rattle.lf_trace.specs.Traces.{trace};
 ghost use Rattle.leastfault.specs.Answers.{AreLeastSets, reaches_in};
-ghost use Rattle.leastfault.specs.Replies.{IsAnswerReply, IsRunReply, IsSearchedWith, RepliesAnswer, reports_of};
+ghost use Rattle.leastfault.specs.Replies.{IsAnswerReply, IsRunReply, IsSearchedWith, RepliesAll, RepliesAnswer, RepliesReport, reports_of};
 ghost use Rattle.leastfault.specs.Searches.{IsFoundFor};
 ghost use Rattle.leastfault.specs.Reports.{full_line, no_set_line, refusal, run_status, search_status};
 
@@ -78,20 +78,27 @@ fn searched<V: Watch>(
     ensures { IfOk result (IsFoundFor wanted scenario) }
 {
     match solve_watched(alloc, Arc::new(alloc, scenario)?, watch)? {
-        Ended::Finished(book) => {
-            let reply = reported(alloc, wanted, &book)?;
-            let made = book.into_tree();
-            let Ok(tree) = made else { unreachable!() };
-            Ok(Found {
-                reply,
-                tree: Some(tree),
-            })
-        }
+        Ended::Finished(book) => finished(alloc, wanted, book),
         Ended::Full { level, count } => Ok(Found {
             reply: full(alloc, level, count)?,
             tree: None,
         }),
     }
+}
+
+/// What a search comes to that has ended with this book.
+fn finished(alloc: Global, wanted: Wanted, book: Book) -> Result<Found, AllocError>
+    requires finished { (state_of book).finished ≡ true }
+    requires never_full { IsNeverFull (scenario_of book) }
+    ensures { IfOk result (IsFoundFor wanted (scenario_of book)) }
+{
+    let reply = reported(alloc, wanted, &book)?;
+    let made = book.into_tree();
+    let Ok(tree) = made else { unreachable!() };
+    Ok(Found {
+        reply,
+        tree: Some(tree),
+    })
 }
 
 /// The reply that reports what a search found that has ended.
@@ -100,16 +107,44 @@ fn reported(alloc: Global, wanted: Wanted, book: &Book) -> Result<Reply, AllocEr
     requires never_full { IsNeverFull (scenario_of book.now) }
     ensures { IfOk result (λ reply. reports_of wanted (scenario_of book.now) (string_bytes reply.text) reply.status) }
 {
-    let budget = book.scenario().setting().spec.budget();
+    match wanted {
+        Wanted::Answer => answer_reported(alloc, book),
+        Wanted::AllLeast => all_reported(alloc, book),
+    }
+}
+
+/// The reply that reports the answer of a search that has ended.
+fn answer_reported(alloc: Global, book: &Book) -> Result<Reply, AllocError>
+    requires finished { (state_of book.now).finished ≡ true }
+    requires never_full { IsNeverFull (scenario_of book.now) }
+    ensures { IfOk result (λ reply. RepliesReport (scenario_of book.now) (string_bytes reply.text) reply.status) }
+{
+    let budget = budget_of(book);
     let answer = book.answer();
-    let text = match wanted {
-        Wanted::Answer => report(alloc, budget, &answer)?,
-        Wanted::AllLeast => all_report(alloc, budget, least_sets(book)?.as_slice())?,
-    };
     Ok(Reply {
-        text,
+        text: report(alloc, budget, &answer)?,
         status: search_status(&answer),
     })
+}
+
+/// The reply that reports all least sets of a search that has ended.
+fn all_reported(alloc: Global, book: &Book) -> Result<Reply, AllocError>
+    requires finished { (state_of book.now).finished ≡ true }
+    requires never_full { IsNeverFull (scenario_of book.now) }
+    ensures { IfOk result (λ reply. RepliesAll (scenario_of book.now) (string_bytes reply.text) reply.status) }
+{
+    let budget = budget_of(book);
+    let status = search_status(&book.answer());
+    let sets = least_sets(book)?;
+    let text = all_report(alloc, budget, sets.as_slice())?;
+    Ok(Reply { text, status })
+}
+
+/// The most faults that the sets of a search may have.
+fn budget_of(book: &Book) -> u32
+    ensures { result ≡ (scenario_of book.now).setting.spec.budget }
+{
+    book.scenario().setting().spec.budget()
 }
 
 /// All least sets of a search that has ended.

@@ -1,6 +1,8 @@
 //! The lines of replies.
 
-ghost use Rattle.std.specs.Prelude.{◌≡◌, ◌++◌, IfOk, string_bytes};
+ghost use Rattle.std.specs.Prelude.{◌≡◌, ◌++◌, IfOk, codes, string_bytes};
+ghost use Rattle.std.specs.Fmt.{decimal};
+ghost use Rattle.lf_trace.specs.Lines.{line};
 ghost use Rattle.leastfault.specs.Reports.{all_report, dotted, fault_lines, full_line, judgement, more_text, path_text, refusal, report};
 ghost use Rattle.leastfault.specs.Reports.{set_lines, set_text, tree_refusal};
 
@@ -108,7 +110,14 @@ pub fn refusal(alloc: Global, error: ScenarioError) -> Result<String, AllocError
 pub fn tree_refusal(alloc: Global, fault: TreeFault) -> Result<String, AllocError>
     ensures { IfOk result (λ text. string_bytes text ≡ tree_refusal fault) }
 {
-    format!(in alloc; "refused tree {}\n", fault.number())
+    tree_line(alloc, fault.number())
+}
+
+/// The line of a refusal with this number.
+fn tree_line(alloc: Global, number: u32) -> Result<String, AllocError>
+    ensures { IfOk result (λ text. string_bytes text ≡ line (codes "refused tree " ++ decimal number)) }
+{
+    format!(in alloc; "refused tree {number}\n")
 }
 
 /// The line of a verdict: `yes`, or `no REASON PATH` with the reason's number and the way from the root to the place that is

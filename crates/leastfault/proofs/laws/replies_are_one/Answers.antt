@@ -1,4 +1,5 @@
-use Rattle.leastfault.proofs.Uniqueness.{all_replies_one, answer_replies_agree, answer_replies_one, handed_one, run_replies_one, search_replies_one, statuses_agree}
+use Rattle.leastfault.proofs.Uniqueness.{all_replies_one, answer_replies_agree, answer_replies_one, handed_one, run_replies_one}
+use Rattle.leastfault.proofs.Uniqueness.{search_replies_one, statuses_agree}
 use Rattle.leastfault.proofs.laws.replies_are_one.Goals as goal
 
 pub returns-clause-search : goal.returns-clause-search
