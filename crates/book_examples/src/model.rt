@@ -13,13 +13,33 @@ use std::alloc::{AllocError, Global};
 use std::sync::Arc;
 
 /// How a set is marked.
-#[derive(Clone, Copy, PartialEq, Eq)]
+#[derive(Clone, Copy)]
 enum Mark {
     Waiting,
     Open,
     Claimed(u64),
     Misses,
     Reaches,
+}
+
+impl Mark {
+    /// Whether a set that is marked so is claimed by a ticket.
+    fn is_claim_of(self, ticket: u64) -> bool {
+        match self {
+            Mark::Claimed(by) => by == ticket,
+            _ => false,
+        }
+    }
+}
+
+/// Counts a set that is marked so.
+fn count(counts: &mut Counts, mark: Mark) {
+    match mark {
+        Mark::Waiting => counts.waiting = counts.waiting.saturating_add(1),
+        Mark::Open => counts.ready = counts.ready.saturating_add(1),
+        Mark::Claimed(_) => counts.claimed = counts.claimed.saturating_add(1),
+        Mark::Misses | Mark::Reaches => counts.answered = counts.answered.saturating_add(1),
+    }
 }
 
 /// A set that is known.
@@ -181,12 +201,7 @@ impl Model {
             waiting: 0,
         };
         for set in self.sets.as_slice() {
-            match set.mark {
-                Mark::Waiting => counts.waiting = counts.waiting.saturating_add(1),
-                Mark::Open => counts.ready = counts.ready.saturating_add(1),
-                Mark::Claimed(_) => counts.claimed = counts.claimed.saturating_add(1),
-                Mark::Misses | Mark::Reaches => counts.answered = counts.answered.saturating_add(1),
-            }
+            count(&mut counts, set.mark);
         }
         counts
     }
@@ -206,7 +221,7 @@ impl Model {
     /// Whether a job is of an open set, which is claimed then.
     fn claims(&mut self, job: &Job) -> bool {
         for set in self.sets.as_mut_slice() {
-            if set.mark == Mark::Open && set.is_of(job) {
+            if matches!(set.mark, Mark::Open) && set.is_of(job) {
                 set.mark = Mark::Claimed(job.ticket());
                 self.next = self.next.saturating_add(1);
                 return true;
@@ -217,16 +232,18 @@ impl Model {
 
     /// The place of the set that a ticket claims.
     pub(crate) fn claimed_by(&self, ticket: u64) -> Option<usize> {
-        self.sets
-            .as_slice()
-            .iter()
-            .position(|set| set.mark == Mark::Claimed(ticket))
+        for (place, set) in self.sets.as_slice().iter().enumerate() {
+            if set.mark.is_claim_of(ticket) {
+                return Some(place);
+            }
+        }
+        None
     }
 
     /// The number by which a job or its finding is refused, of this scenario or another, or 0. Then its set is marked.
     fn marks(&mut self, job: &Job, is_same: bool, mark: Mark) -> u32 {
         for set in self.sets.as_mut_slice() {
-            if set.mark == Mark::Claimed(job.ticket()) {
+            if set.mark.is_claim_of(job.ticket()) {
                 if !is_same {
                     return 2;
                 }
@@ -283,18 +300,23 @@ impl Model {
         }
     }
 
+    /// Whether an answered set misses.
+    fn has_missing(&self) -> bool {
+        for set in self.sets.as_slice() {
+            if matches!(set.mark, Mark::Misses) {
+                return true;
+            }
+        }
+        false
+    }
+
     /// The next level, or the end.
     pub(crate) fn deepen(&mut self, spec: &FaultSpec, most: u32) -> Deepened {
         let counts = self.counts();
         if counts.ready > 0 || counts.claimed > 0 {
             return Deepened::NotDone;
         }
-        if self
-            .sets
-            .as_slice()
-            .iter()
-            .any(|set| set.mark == Mark::Misses)
-        {
+        if self.has_missing() {
             self.finished = true;
             return Deepened::Answer;
         }
@@ -309,7 +331,7 @@ impl Model {
         }
         self.level = self.level.saturating_add(1);
         for set in self.sets.as_mut_slice() {
-            if set.mark == Mark::Waiting {
+            if matches!(set.mark, Mark::Waiting) {
                 set.mark = Mark::Open;
             }
         }
