@@ -2,17 +2,15 @@
 
 ghost use Rattle.std.specs.Prelude.{IfOk};
 
-use crate::texts::{columns, scenario, told};
+use crate::texts::{agrees, columns, is_text, scenario, told};
 use lf_pool::{Gate, NoGate, solve};
 use lf_scenario::Scenario;
 use lf_work::{Finding, Job, Spent, work_reusing};
 use std::alloc::{AllocError, Global};
-use std::process::Abort;
 use std::rt::Clock;
 use std::sync::atomic::Ordering::SeqCst;
 use std::sync::atomic::{AtomicBool, AtomicU64};
 use std::sync::{Arc, Wait};
-use std::test::Fail;
 use std::thread;
 use std::thread::Threads;
 use std::time::Duration;
@@ -58,39 +56,62 @@ const MEETINGS: &str = concat!(
     "3 6 2 0 2|protocol = \"primary_backup\";patience = 3;outcome = [\"shows\", 2, 6, \"unclaimed\"]|3|4|7\n",
 );
 
-/// The workers of a row work at once, and run so many sets.
-fn row_meets(
-    rt: &(impl Abort + Threads + Wait + Clock + Sync),
+/// What so many workers find with a gate.
+fn found<R: Threads + Wait + Clock + Sync, G: Gate>(
+    rt: &R,
     alloc: Global,
-    row: &str,
-) -> Result<(), Fail> {
+    scenario: &Arc<Scenario>,
+    workers: u32,
+    gate: &G,
+) -> Option<String> {
+    let Ok(shared) = Arc::try_clone(scenario) else {
+        return None;
+    };
+    told(alloc, scenario, solve(rt, alloc, shared, workers, gate))
+}
+
+/// Whether so many workers meet at a gate, and run so many sets.
+fn meet(
+    rt: &(impl Threads + Wait + Clock + Sync),
+    alloc: Global,
+    scenario: &Arc<Scenario>,
+    workers: u32,
+    gate: &Meeting,
+    wanted: &str,
+) -> bool {
+    let Some(found) = found(rt, alloc, scenario, workers, gate) else {
+        return false;
+    };
+    let (_, rest) = columns(found.as_str());
+    let (runs, _) = columns(rest);
+    runs == wanted && gate.came.load(SeqCst) && !gate.missed.load(SeqCst)
+}
+
+/// Whether the workers of a row work at once, and run so many sets.
+fn row_meets(rt: &(impl Threads + Wait + Clock + Sync), alloc: Global, row: &str) -> bool {
     let (numbers, rest) = columns(row);
     let (lines, rest) = columns(rest);
     let (workers, rest) = columns(rest);
     let (last, wanted) = columns(rest);
+    let (Ok(workers), Ok(last)) = (workers.parse::<u32>(), last.parse::<u64>()) else {
+        return false;
+    };
     let gate = Meeting {
-        last: last.parse::<u64>()?,
+        last,
         came: AtomicBool::new(false),
         missed: AtomicBool::new(false),
     };
-    let scenario = scenario(alloc, numbers, lines)?;
-    let shared = Arc::try_clone(&scenario)?;
-    let solved = solve(rt, alloc, shared, workers.parse::<u32>()?, &gate);
-    let found = told(alloc, &scenario, solved)?;
-    let (_, rest) = columns(found.as_str());
-    let (runs, _) = columns(rest);
-    assert!(rt; gate.came.load(SeqCst), "the gate is passed: {row}");
-    assert!(rt; !gate.missed.load(SeqCst), "workers work at once: {row}");
-    assert_eq!(rt; runs, wanted, "of {row}");
-    Ok(())
+    match scenario(alloc, numbers, lines) {
+        Some(scenario) => meet(rt, alloc, &scenario, workers, &gate, wanted),
+        None => false,
+    }
 }
 
 #[test]
-fn workers_work_at_once(rt: HostRuntime) -> Result<(), Fail> {
+fn workers_work_at_once(rt: HostRuntime) {
     for row in MEETINGS.lines() {
-        row_meets(&rt, rt.alloc(), row)?;
+        agrees(&rt, row_meets(&rt, rt.alloc(), row), row);
     }
-    Ok(())
 }
 
 /// Finds no memory when it is called the k-th time.
@@ -117,32 +138,44 @@ fn found_without(
     alloc: Global,
     scenario: &Arc<Scenario>,
     at: u64,
-) -> Result<(String, bool), Fail> {
+) -> (Option<String>, bool) {
     let gate = Refusing {
         at,
         calls: AtomicU64::new(0),
     };
-    let solved = solve(rt, alloc, Arc::try_clone(scenario)?, 3, &gate);
-    let found = told(alloc, scenario, solved)?;
-    Ok((found, gate.calls.load(SeqCst) > at))
+    let found = found(rt, alloc, scenario, 3, &gate);
+    (found, gate.calls.load(SeqCst) > at)
 }
 
-/// Wherever a call of the gate finds no memory, what is found is what one worker finds with ample memory.
+/// Whether this is found wherever a call of the gate finds no memory.
 fn is_found_without(
-    rt: &(impl Abort + Threads + Wait + Clock + Sync),
+    rt: &(impl Threads + Wait + Clock + Sync),
     alloc: Global,
     scenario: &Arc<Scenario>,
-) -> Result<(), Fail> {
-    let solved = solve(rt, alloc, Arc::try_clone(scenario)?, 1, &NoGate);
-    let wanted = told(alloc, scenario, solved)?;
+    wanted: &str,
+) -> bool {
     for at in 0..1_000 {
-        let (found, refused) = found_without(rt, alloc, scenario, at)?;
-        assert_eq!(rt; found.as_str(), wanted.as_str(), "without the call {at}");
+        let (found, refused) = found_without(rt, alloc, scenario, at);
+        if !is_text(found, wanted) {
+            return false;
+        }
         if !refused {
-            return Ok(());
+            return true;
         }
     }
-    Err(Fail::from("too many calls"))
+    false
+}
+
+/// Whether what a row's workers find, wherever a call of their gate finds no memory, is what one worker finds with ample memory.
+fn row_is_found(rt: &(impl Threads + Wait + Clock + Sync), alloc: Global, row: &str) -> bool {
+    let (numbers, lines) = columns(row);
+    let Some(scenario) = scenario(alloc, numbers, lines) else {
+        return false;
+    };
+    match found(rt, alloc, &scenario, 1, &NoGate) {
+        Some(wanted) => is_found_without(rt, alloc, &scenario, wanted.as_str()),
+        None => false,
+    }
 }
 
 /// Scenarios whose search runs a few sets, and more.
@@ -152,10 +185,8 @@ const SMALL: &str = concat!(
 );
 
 #[test]
-fn a_worker_without_memory_leaves_its_set_to_others(rt: HostRuntime) -> Result<(), Fail> {
+fn a_worker_without_memory_leaves_its_set_to_others(rt: HostRuntime) {
     for row in SMALL.lines() {
-        let (numbers, lines) = columns(row);
-        is_found_without(&rt, rt.alloc(), &scenario(rt.alloc(), numbers, lines)?)?;
+        agrees(&rt, row_is_found(&rt, rt.alloc(), row), row);
     }
-    Ok(())
 }

@@ -1,14 +1,42 @@
 //! Whole searches, by one worker and by more.
 
-use crate::texts::{columns, scenario, told, told_all};
+use crate::texts::{agrees, columns, is_text, scenario, told, told_all};
 use lf_pool::{NoGate, solve, solve_all};
 use lf_scenario::Scenario;
 use std::alloc::Global;
-use std::process::Abort;
 use std::rt::Clock;
 use std::sync::{Arc, Wait};
-use std::test::Fail;
 use std::thread::Threads;
+
+/// The answer that so many workers find.
+fn found_one(
+    rt: &(impl Threads + Wait + Clock + Sync),
+    alloc: Global,
+    scenario: &Arc<Scenario>,
+    workers: u32,
+) -> Option<String> {
+    let Ok(shared) = Arc::try_clone(scenario) else {
+        return None;
+    };
+    told(alloc, scenario, solve(rt, alloc, shared, workers, &NoGate))
+}
+
+/// All least sets that so many workers find.
+fn found_all(
+    rt: &(impl Threads + Wait + Clock + Sync),
+    alloc: Global,
+    scenario: &Arc<Scenario>,
+    workers: u32,
+) -> Option<String> {
+    let Ok(shared) = Arc::try_clone(scenario) else {
+        return None;
+    };
+    told_all(
+        alloc,
+        scenario,
+        solve_all(rt, alloc, shared, workers, &NoGate),
+    )
+}
 
 /// What so many workers find: the answer, and all least sets.
 fn found(
@@ -16,13 +44,22 @@ fn found(
     alloc: Global,
     scenario: &Arc<Scenario>,
     workers: u32,
-) -> Result<String, Fail> {
-    let one = solve(rt, alloc, Arc::try_clone(scenario)?, workers, &NoGate);
-    let one = told(alloc, scenario, one)?;
-    let all = solve_all(rt, alloc, Arc::try_clone(scenario)?, workers, &NoGate);
-    let all = told_all(alloc, scenario, all)?;
+) -> Option<String> {
+    let one = found_one(rt, alloc, scenario, workers)?;
+    let all = found_all(rt, alloc, scenario, workers)?;
     let (sets, _) = columns(all.as_str());
-    Ok(format!(in alloc; "{one} of{sets}")?)
+    format!(in alloc; "{one} of{sets}").ok()
+}
+
+/// Whether so many workers find this.
+fn is_found(
+    rt: &(impl Threads + Wait + Clock + Sync),
+    alloc: Global,
+    scenario: &Arc<Scenario>,
+    workers: u32,
+    wanted: &str,
+) -> bool {
+    is_text(found(rt, alloc, scenario, workers), wanted)
 }
 
 /// For each row the bounds, the further lines, and what is found: the answer and how many sets are run, or a level with too many sets.
@@ -57,40 +94,46 @@ const FOUND: &str = concat!(
     "3 4 3 0 3|protocol = \"retry\";tries = 3;outcome = \"delivered\";max_sets = 20|omit 0>1 @1,omit 0>1 @2,omit 0>1 @3|\n",
 );
 
-/// What one worker finds for a row is what it says, and more workers find the same.
-fn row_is_found(
-    rt: &(impl Abort + Threads + Wait + Clock + Sync),
-    alloc: Global,
-    row: &str,
-) -> Result<(), Fail> {
+/// Whether one worker finds for a row what it says, and more workers the same.
+fn row_is_found(rt: &(impl Threads + Wait + Clock + Sync), alloc: Global, row: &str) -> bool {
     let (numbers, rest) = columns(row);
     let (lines, wanted) = columns(rest);
-    let scenario = scenario(alloc, numbers, lines)?;
-    let alone = found(rt, alloc, &scenario, 1)?;
-    assert!(rt; alone.as_str().starts_with(wanted), "{alone} of {row}");
-    for workers in [2, 3, 32] {
-        let more = found(rt, alloc, &scenario, workers)?;
-        assert_eq!(rt; more.as_str(), alone.as_str(), "by {workers} of {row}");
-    }
-    Ok(())
+    let Some(scenario) = scenario(alloc, numbers, lines) else {
+        return false;
+    };
+    let Some(alone) = found(rt, alloc, &scenario, 1) else {
+        return false;
+    };
+    let alone = alone.as_str();
+    alone.starts_with(wanted)
+        && is_found(rt, alloc, &scenario, 2, alone)
+        && is_found(rt, alloc, &scenario, 3, alone)
+        && is_found(rt, alloc, &scenario, 32, alone)
 }
 
 #[test]
-fn each_number_of_workers_finds_the_same(rt: HostRuntime) -> Result<(), Fail> {
+fn each_number_of_workers_finds_the_same(rt: HostRuntime) {
     for row in FOUND.lines() {
-        row_is_found(&rt, rt.alloc(), row)?;
+        agrees(&rt, row_is_found(&rt, rt.alloc(), row), row);
     }
-    Ok(())
+}
+
+/// Whether no workers and too many are refused.
+fn are_refused(rt: &(impl Threads + Wait + Clock + Sync), alloc: Global) -> bool {
+    let lines = "protocol = \"retry\";tries = 1;outcome = \"delivered\"";
+    let Some(scenario) = scenario(alloc, "3 4 3 0 2", lines) else {
+        return false;
+    };
+    is_found(rt, alloc, &scenario, 0, "pool 1 ofpool 1")
+        && is_found(rt, alloc, &scenario, 33, "pool 1 ofpool 1")
+        && is_found(rt, alloc, &scenario, 4_294_967_295, "pool 1 ofpool 1")
 }
 
 #[test]
-fn no_workers_and_too_many_are_refused(rt: HostRuntime) -> Result<(), Fail> {
-    let alloc = rt.alloc();
-    let lines = "protocol = \"retry\";tries = 1;outcome = \"delivered\"";
-    let scenario = scenario(alloc, "3 4 3 0 2", lines)?;
-    for workers in [0, 33, 4_294_967_295] {
-        let found = found(&rt, alloc, &scenario, workers)?;
-        assert_eq!(rt; found.as_str(), "pool 1 ofpool 1", "by {workers}");
-    }
-    Ok(())
+fn no_workers_and_too_many_are_refused(rt: HostRuntime) {
+    agrees(
+        &rt,
+        are_refused(&rt, rt.alloc()),
+        "0, 33 and 4294967295 workers",
+    );
 }

@@ -2,44 +2,58 @@
 
 ghost use Rattle.std.specs.Prelude.{◌≡◌, ◌+◌};
 
-use crate::texts::{columns, scenario};
-use lf_pool::{Gate, NoGate, SharedBook, Turn};
+use crate::texts::{agrees, columns, is_text, scenario};
+use lf_pool::{Gate, NoGate, Share, SharedBook, Turn};
 use lf_scenario::Scenario;
-use std::alloc::Global;
+use std::alloc::{AllocError, Global};
 use std::marker::Brand;
 use std::rt::Clock;
 use std::sync::ledger::{Blank, Ledger};
 use std::sync::{Arc, Wait};
-use std::test::Fail;
 
-/// What ten turns of one worker did, or those until the search had ended or was full, and how many sets it filed, by its share and by all shares.
+/// Adds what ten turns of a worker did, or those until the search had ended or was full, and how many sets it filed, by its share.
+fn push_turns<L: Ledger, R: Wait + Clock>(
+    text: &mut String,
+    rt: &R,
+    shared: &SharedBook<L>,
+    share: &mut Share<L>,
+) -> Result<(), AllocError> {
+    for _ in 0..10 {
+        let turn = shared.work_one(rt, share, &NoGate)?;
+        write!(text, "{turn:?} {}; ", share.filed())?;
+        if matches!(turn, Turn::Finished | Turn::Full { .. }) {
+            break;
+        }
+    }
+    Ok(())
+}
+
+/// The turns of the only worker, and how many sets were filed, by all shares.
 fn turns<L: Ledger, R: Wait + Clock>(
     rt: &R,
     alloc: Global,
     blank: Blank,
     scenario: Arc<Scenario>,
-) -> Result<String, Fail>
+) -> Option<String>
     requires name { blank.name ≡ L.name }
     requires parts { blank.parts ≡ L.parts }
     requires enough { blank.parts ≡ 2 }
 {
     let Ok((shared, mut shares)) = SharedBook::<L>::begin(alloc, blank, scenario, 1) else {
-        return Err(Fail::from("no book"));
+        return None;
     };
     let mut text = String::new(alloc);
     let (own, _last) = shares.as_mut_slice().split_at_mut(1);
     for share in own.iter_mut() {
-        for _ in 0..10 {
-            let turn = shared.work_one(rt, share, &NoGate)?;
-            text.push_str(format!(in alloc; "{turn:?} {}; ", share.filed())?.as_str())?;
-            if matches!(turn, Turn::Finished | Turn::Full { .. }) {
-                break;
-            }
+        if push_turns(&mut text, rt, &shared, share).is_err() {
+            return None;
         }
     }
     let (book, sum) = shared.gather(shares);
-    text.push_str(format!(in alloc; "{sum} {}", book.answered())?.as_str())?;
-    Ok(text)
+    match write!(text, "{sum} {}", book.answered()) {
+        Ok(()) => Some(text),
+        Err(_) => None,
+    }
 }
 
 /// A scenario, and what the turns of its only worker do, each with how many sets it has filed then.
@@ -51,14 +65,14 @@ const TURNS: &str = concat!(
 );
 
 #[test]
-fn turns_of_one_worker(rt: HostRuntime) -> Result<(), Fail> {
-    let alloc = rt.alloc();
+fn turns_of_one_worker(rt: HostRuntime) {
     for row in TURNS.lines() {
         let (numbers, rest) = columns(row);
         let (lines, wanted) = columns(rest);
-        let scenario = scenario(alloc, numbers, lines)?;
-        let found = turns::<Brand, HostRuntime>(&rt, alloc, Blank::new(2), scenario)?;
-        assert_eq!(rt; found.as_str(), wanted, "of {row}");
+        let found = match scenario(rt.alloc(), numbers, lines) {
+            Some(scenario) => turns::<Brand, HostRuntime>(&rt, rt.alloc(), Blank::new(2), scenario),
+            None => None,
+        };
+        agrees(&rt, is_text(found, wanted), row);
     }
-    Ok(())
 }
