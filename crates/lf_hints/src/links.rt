@@ -74,9 +74,10 @@ fn link_hint(
 
 /// A key that links don't have.
 fn other_key_hint(alloc: Global, place: usize, name: &str) -> Result<String, AllocError> {
+    let quoted_name = in_quotes(name);
+    let found = quoted_name.as_str();
     format!(in alloc;
-        "links[{place}], {}: a link has from, to, least and spread; a key that stands after [[links]] belongs to that link",
-        in_quotes(name).as_str()
+        "links[{place}], {found}: a link has from, to, least and spread; a key that stands after [[links]] belongs to that link"
     )
 }
 

@@ -90,10 +90,21 @@ pub(crate) fn wrong_in_tree(value: &Value) -> Option<Wrong> {
         return refused(way, value, Wanted::Tree);
     };
     match (map.get("answer"), map.get("format"), map.get("root")) {
-        (Some(answer), Some(format), Some(root)) if map.len() == 3 => wrong_in_answer(answer)
-            .or_else(|| wrong_in_format(format))
-            .or_else(|| wrong_in_node(root, Way::of("root"), MOST_BRANCHES)),
+        (Some(answer), Some(format), Some(root)) if map.len() == 3 => {
+            match wrong_before_root(answer, format) {
+                None => wrong_in_node(root, Way::of("root"), MOST_BRANCHES),
+                found => found,
+            }
+        }
         _ => refused(way, value, Wanted::Tree),
+    }
+}
+
+/// What is wrong first in the answer and the format of a certificate.
+fn wrong_before_root(answer: &Value, format: &Value) -> Option<Wrong> {
+    match wrong_in_answer(answer) {
+        None => wrong_in_format(format),
+        found => found,
     }
 }
 
@@ -103,7 +114,10 @@ fn wrong_in_answer(answer: &Value) -> Option<Wrong> {
     match answer {
         Value::Null => None,
         Value::Array(items) if items.len() <= MOST_FAULTS => {
-            wrong_in_faults(items.as_slice(), way).or_else(|| wrong_in_order(items.as_slice(), way))
+            match wrong_in_faults(items.as_slice(), way) {
+                None => wrong_in_order(items.as_slice(), way),
+                found => found,
+            }
         }
         _ => refused(way, answer, Wanted::Answer),
     }
@@ -124,12 +138,20 @@ fn wrong_in_order(items: &[Value], way: Way) -> Option<Wrong> {
     let mut before: Option<Fault> = None;
     for (i, item) in items.iter().enumerate() {
         let fault = fault_of(item)?;
-        if before.is_some_and(|earlier| !earlier.is_before(&fault)) {
+        if !is_later(before, &fault) {
             return refused(onward(way, format_args!("[{i}]")), item, Wanted::Later);
         }
         before = Some(fault);
     }
     None
+}
+
+/// Whether a fault comes after the one before it, where there is one.
+fn is_later(before: Option<Fault>, fault: &Fault) -> bool {
+    match before {
+        Some(earlier) => earlier.is_before(fault),
+        None => true,
+    }
 }
 
 /// The fault of a value.
@@ -179,10 +201,10 @@ fn wrong_in_leaf(misses: &Value, way: Way) -> Option<Wrong> {
 
 /// What is wrong first in the edges and the reach of a branch.
 fn wrong_before_kids(edges: &Value, reach: &Value, way: Way) -> Option<Wrong> {
-    wrong_in_edges(edges, onward(way, ".edges")).or_else(|| wrong_in_reach(
-        reach,
-        onward(way, ".reach"),
-    ))
+    match wrong_in_edges(edges, onward(way, ".edges")) {
+        None => wrong_in_reach(reach, onward(way, ".reach")),
+        found => found,
+    }
 }
 
 /// What is wrong first in the edges of a branch.
@@ -202,11 +224,19 @@ fn wrong_in_reach(reach: &Value, way: Way) -> Option<Wrong> {
         return refused(way, reach, Wanted::Reach);
     }
     for (i, item) in items.iter().enumerate() {
-        if !item.as_u64().is_some_and(|step| step <= LAST_STEP) {
+        if !is_step(item) {
             return refused(onward(way, format_args!("[{i}]")), item, Wanted::Step);
         }
     }
     None
+}
+
+/// Whether a value is a step, or 0.
+fn is_step(value: &Value) -> bool {
+    match value.as_u64() {
+        Some(step) => step <= LAST_STEP,
+        None => false,
+    }
 }
 
 /// What is wrong first in the kids of a branch.
