@@ -134,59 +134,55 @@ module _ (nodes patience node t : ℕ) (own : Replica) (xs : List (Letter Note))
       ∙ ap (end_of kind node t) (fold-still (hear_of kind node t) (begin (states.PrimaryBackup own)) (λ x. ap (heard (begin own) x) e) xs)
       ∙ ap (closed (begin own)) e)
 
--- a state that the protocol's table doesn't name
+-- a state that the protocol's table doesn't name stays as it is: its letters change nothing
+still : (k : Kind) (node t : ℕ) (own : State) → ((x : Letter Note) → hear_of k node t (begin own) x ≡ begin own) → (xs : List (Letter Note))
+    → end_of k node t (begin own) ≡ end_of k node t (fold (hear_of k node t) (begin own) xs)
+still k node t own same xs = sym (ap (end_of k node t) (fold-still (hear_of k node t) (begin own) same xs))
+
+-- each step is what its parts make of it
 pub folds : (k : Kind) (node t : ℕ) (own : State) (xs : List (Letter Note)) → step_of k node t own xs ≡ folded_step k node t own xs
 folds (kinds.Retry nodes tries) node t (states.Retry own) xs = sym (ap (end_of (kinds.Retry nodes tries) node t) (fold-retry nodes tries node t own _ xs))
-folds (kinds.Retry nodes tries) node t (states.Redundant own) xs =
-    sym (ap (end_of (kinds.Retry nodes tries) node t) (fold-still (hear_of (kinds.Retry nodes tries) node t) (begin (states.Redundant own)) (λ x. refl) xs))
-folds (kinds.Retry nodes tries) node t (states.TwoPhase own) xs =
-    sym (ap (end_of (kinds.Retry nodes tries) node t) (fold-still (hear_of (kinds.Retry nodes tries) node t) (begin (states.TwoPhase own)) (λ x. refl) xs))
-folds (kinds.Retry nodes tries) node t (states.ThreePhase own) xs =
-    sym (ap (end_of (kinds.Retry nodes tries) node t) (fold-still (hear_of (kinds.Retry nodes tries) node t) (begin (states.ThreePhase own)) (λ x. refl) xs))
-folds (kinds.Retry nodes tries) node t (states.PrimaryBackup own) xs =
-    sym (ap (end_of (kinds.Retry nodes tries) node t) (fold-still (hear_of (kinds.Retry nodes tries) node t) (begin (states.PrimaryBackup own)) (λ x. refl) xs))
-folds (kinds.Redundant nodes tries) node t (states.Retry own) xs =
-    sym (ap (end_of (kinds.Redundant nodes tries) node t) (fold-still (hear_of (kinds.Redundant nodes tries) node t) (begin (states.Retry own)) (λ x. refl) xs))
-folds (kinds.Redundant nodes tries) node t (states.Redundant own) xs = sym (ap (end_of (kinds.Redundant nodes tries) node t) (fold-redundant nodes tries node t own _ xs))
-folds (kinds.Redundant nodes tries) node t (states.TwoPhase own) xs =
-    sym (ap (end_of (kinds.Redundant nodes tries) node t) (fold-still (hear_of (kinds.Redundant nodes tries) node t) (begin (states.TwoPhase own)) (λ x. refl) xs))
-folds (kinds.Redundant nodes tries) node t (states.ThreePhase own) xs =
-    sym (ap (end_of (kinds.Redundant nodes tries) node t) (fold-still (hear_of (kinds.Redundant nodes tries) node t) (begin (states.ThreePhase own)) (λ x. refl) xs))
-folds (kinds.Redundant nodes tries) node t (states.PrimaryBackup own) xs =
-    sym (ap (end_of (kinds.Redundant nodes tries) node t) (fold-still (hear_of (kinds.Redundant nodes tries) node t) (begin (states.PrimaryBackup own)) (λ x. refl) xs))
-folds (kinds.TwoPhase nodes patience votes) node t (states.Retry own) xs =
-    sym (ap (end_of (kinds.TwoPhase nodes patience votes) node t) (fold-still (hear_of (kinds.TwoPhase nodes patience votes) node t) (begin (states.Retry own)) (λ x. refl) xs))
+folds (kinds.Retry nodes tries) node t (states.Redundant own) xs = still (kinds.Retry nodes tries) node t (states.Redundant own) (λ x. refl) xs
+folds (kinds.Retry nodes tries) node t (states.TwoPhase own) xs = still (kinds.Retry nodes tries) node t (states.TwoPhase own) (λ x. refl) xs
+folds (kinds.Retry nodes tries) node t (states.ThreePhase own) xs = still (kinds.Retry nodes tries) node t (states.ThreePhase own) (λ x. refl) xs
+folds (kinds.Retry nodes tries) node t (states.PrimaryBackup own) xs = still (kinds.Retry nodes tries) node t (states.PrimaryBackup own) (λ x. refl) xs
+folds (kinds.Redundant nodes tries) node t (states.Retry own) xs = still (kinds.Redundant nodes tries) node t (states.Retry own) (λ x. refl) xs
+folds (kinds.Redundant nodes tries) node t (states.Redundant own) xs =
+    sym (ap (end_of (kinds.Redundant nodes tries) node t) (fold-redundant nodes tries node t own _ xs))
+folds (kinds.Redundant nodes tries) node t (states.TwoPhase own) xs = still (kinds.Redundant nodes tries) node t (states.TwoPhase own) (λ x. refl) xs
+folds (kinds.Redundant nodes tries) node t (states.ThreePhase own) xs = still (kinds.Redundant nodes tries) node t (states.ThreePhase own) (λ x. refl) xs
+folds (kinds.Redundant nodes tries) node t (states.PrimaryBackup own) xs = still (kinds.Redundant nodes tries) node t (states.PrimaryBackup own) (λ x. refl) xs
+folds (kinds.TwoPhase nodes patience votes) node t (states.Retry own) xs = still (kinds.TwoPhase nodes patience votes) node t (states.Retry own) (λ x. refl) xs
 folds (kinds.TwoPhase nodes patience votes) node t (states.Redundant own) xs =
-    sym (ap (end_of (kinds.TwoPhase nodes patience votes) node t) (fold-still (hear_of (kinds.TwoPhase nodes patience votes) node t) (begin (states.Redundant own)) (λ x. refl) xs))
+    still (kinds.TwoPhase nodes patience votes) node t (states.Redundant own) (λ x. refl) xs
 folds (kinds.TwoPhase nodes patience votes) node t (states.TwoPhase own) xs =
     ap (wrapped states.TwoPhase) (two_phase-folds nodes patience votes node t own xs)
     ∙ sym (ap (end_of (kinds.TwoPhase nodes patience votes) node t)
     (fold-wrapped states.TwoPhase (two_phase_hear_one votes node t) (hear_of (kinds.TwoPhase nodes patience votes) node t) (λ turn x. refl)
     (commit_begin nodes node t own) xs))
 folds (kinds.TwoPhase nodes patience votes) node t (states.ThreePhase own) xs =
-    sym (ap (end_of (kinds.TwoPhase nodes patience votes) node t) (fold-still (hear_of (kinds.TwoPhase nodes patience votes) node t) (begin (states.ThreePhase own)) (λ x. refl) xs))
+    still (kinds.TwoPhase nodes patience votes) node t (states.ThreePhase own) (λ x. refl) xs
 folds (kinds.TwoPhase nodes patience votes) node t (states.PrimaryBackup own) xs =
-    sym (ap (end_of (kinds.TwoPhase nodes patience votes) node t) (fold-still (hear_of (kinds.TwoPhase nodes patience votes) node t) (begin (states.PrimaryBackup own)) (λ x. refl) xs))
+    still (kinds.TwoPhase nodes patience votes) node t (states.PrimaryBackup own) (λ x. refl) xs
 folds (kinds.ThreePhase nodes patience votes) node t (states.Retry own) xs =
-    sym (ap (end_of (kinds.ThreePhase nodes patience votes) node t) (fold-still (hear_of (kinds.ThreePhase nodes patience votes) node t) (begin (states.Retry own)) (λ x. refl) xs))
+    still (kinds.ThreePhase nodes patience votes) node t (states.Retry own) (λ x. refl) xs
 folds (kinds.ThreePhase nodes patience votes) node t (states.Redundant own) xs =
-    sym (ap (end_of (kinds.ThreePhase nodes patience votes) node t) (fold-still (hear_of (kinds.ThreePhase nodes patience votes) node t) (begin (states.Redundant own)) (λ x. refl) xs))
+    still (kinds.ThreePhase nodes patience votes) node t (states.Redundant own) (λ x. refl) xs
 folds (kinds.ThreePhase nodes patience votes) node t (states.TwoPhase own) xs =
-    sym (ap (end_of (kinds.ThreePhase nodes patience votes) node t) (fold-still (hear_of (kinds.ThreePhase nodes patience votes) node t) (begin (states.TwoPhase own)) (λ x. refl) xs))
+    still (kinds.ThreePhase nodes patience votes) node t (states.TwoPhase own) (λ x. refl) xs
 folds (kinds.ThreePhase nodes patience votes) node t (states.ThreePhase own) xs =
     ap (wrapped states.ThreePhase) (three_phase-folds nodes patience votes node t own xs)
     ∙ sym (ap (end_of (kinds.ThreePhase nodes patience votes) node t)
     (fold-wrapped states.ThreePhase (three_phase_hear_one votes node t) (hear_of (kinds.ThreePhase nodes patience votes) node t) (λ turn x. refl)
     (commit_begin nodes node t own) xs))
 folds (kinds.ThreePhase nodes patience votes) node t (states.PrimaryBackup own) xs =
-    sym (ap (end_of (kinds.ThreePhase nodes patience votes) node t) (fold-still (hear_of (kinds.ThreePhase nodes patience votes) node t) (begin (states.PrimaryBackup own)) (λ x. refl) xs))
-folds (kinds.PrimaryBackup nodes patience) node t (states.Retry own) xs =
-    sym (ap (end_of (kinds.PrimaryBackup nodes patience) node t) (fold-still (hear_of (kinds.PrimaryBackup nodes patience) node t) (begin (states.Retry own)) (λ x. refl) xs))
+    still (kinds.ThreePhase nodes patience votes) node t (states.PrimaryBackup own) (λ x. refl) xs
+folds (kinds.PrimaryBackup nodes patience) node t (states.Retry own) xs = still (kinds.PrimaryBackup nodes patience) node t (states.Retry own) (λ x. refl) xs
 folds (kinds.PrimaryBackup nodes patience) node t (states.Redundant own) xs =
-    sym (ap (end_of (kinds.PrimaryBackup nodes patience) node t) (fold-still (hear_of (kinds.PrimaryBackup nodes patience) node t) (begin (states.Redundant own)) (λ x. refl) xs))
+    still (kinds.PrimaryBackup nodes patience) node t (states.Redundant own) (λ x. refl) xs
 folds (kinds.PrimaryBackup nodes patience) node t (states.TwoPhase own) xs =
-    sym (ap (end_of (kinds.PrimaryBackup nodes patience) node t) (fold-still (hear_of (kinds.PrimaryBackup nodes patience) node t) (begin (states.TwoPhase own)) (λ x. refl) xs))
+    still (kinds.PrimaryBackup nodes patience) node t (states.TwoPhase own) (λ x. refl) xs
 folds (kinds.PrimaryBackup nodes patience) node t (states.ThreePhase own) xs =
-    sym (ap (end_of (kinds.PrimaryBackup nodes patience) node t) (fold-still (hear_of (kinds.PrimaryBackup nodes patience) node t) (begin (states.ThreePhase own)) (λ x. refl) xs))
+    still (kinds.PrimaryBackup nodes patience) node t (states.ThreePhase own) (λ x. refl) xs
 folds (kinds.PrimaryBackup nodes patience) node t (states.PrimaryBackup own) xs =
     backup-folds nodes patience node t own xs (nat_le 3 nodes) refl
