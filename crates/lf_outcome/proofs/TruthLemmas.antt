@@ -41,3 +41,11 @@ module _ {Fact : Type 0} (down : ℕ → ℕ → Bool) (shown : ℕ → ℕ → 
       → b ≡ list_any (truth down shown) xs → b ≡ truth down shown f
   truth-from_any f parts xs b is read h =
       h ∙ ap (list_any (truth down shown)) read ∙ sym (truth-Any parts) ∙ ap (truth down shown) (sym is)
+
+  -- from the test of the node, as read
+  pub truth-from_down : (f : Formula Fact) (n t : ℕ) (b : Bool) → f ≡ kind.Down n t → b ≡ down n t → b ≡ truth down shown f
+  truth-from_down f n t b is h = h ∙ sym (truth-Down n t) ∙ ap (truth down shown) (sym is)
+
+  pub truth-from_shows : (f : Formula Fact) (n t : ℕ) (fact : Fact) (b : Bool) → f ≡ kind.Shows n t fact → b ≡ shown n t fact
+      → b ≡ truth down shown f
+  truth-from_shows f n t fact b is h = h ∙ sym (truth-Shows n t fact) ∙ ap (truth down shown) (sym is)

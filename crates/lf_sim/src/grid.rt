@@ -52,5 +52,6 @@ pub(crate) fn cell_at<S: Copy, N: Copy>(
     requires long { step * nodes + node < length cells.now }
     ensures { slice_get cells.now (step * nodes + node) ≡ Some result.now }
 {
-    &cells[(step * nodes + node) as usize]
+    let row = step * nodes;
+    &cells[(row + node) as usize]
 }

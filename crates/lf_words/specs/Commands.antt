@@ -1,6 +1,6 @@
 -- The commands of `leastfault`, as `clap` reads them.
 use Rattle.std.specs.Prelude.{codes, true, Some}
-use Rattle.clap.specs.Words.{App, Rule, new_app, new_rule, with_rule, with_subcommand}
+use Rattle.clap.specs.Words.{App, Rule, Text, new_app, new_rule, with_rule, with_subcommand}
 use Rattle.clap.specs.Simple.{on_top}
 use Rattle.clap.specs.declared.builder.action.ArgAction.TheVariants.{SetTrue}
 
@@ -24,9 +24,21 @@ workers = record (new_rule (codes "workers")) { long = Some (codes "workers"); v
 abbrev pub quiet : Rule
 quiet = record (new_rule (codes "quiet")) { long = Some (codes "quiet"); action = Some SetTrue }
 
+-- a command with this name and the argument FILE
+abbrev pub of_file : Text → App
+of_file name = with_rule (new_app name) file
+
+-- search FILE, with --tree TREE alone
+abbrev pub written_search : App
+written_search = with_rule (of_file (codes "search")) written
+
+-- search FILE, with --tree TREE and --all
+abbrev pub alone_search : App
+alone_search = with_rule written_search each
+
 -- search FILE, with all but its last flag
 abbrev pub loud_search : App
-loud_search = with_rule (with_rule (with_rule (with_rule (new_app (codes "search")) file) written) each) workers
+loud_search = with_rule alone_search workers
 
 -- search FILE
 abbrev pub search : App
@@ -38,19 +50,23 @@ faults = record (new_rule (codes "faults")) { required = true; value_names = 1 }
 
 -- run FILE FAULTS
 abbrev pub run : App
-run = with_rule (with_rule (new_app (codes "run")) file) faults
+run = with_rule (of_file (codes "run")) faults
 
 -- the argument TREE
 abbrev pub tree : Rule
 tree = record (new_rule (codes "tree")) { required = true; value_names = 1 }
 
+-- check FILE TREE, without its flag
+abbrev pub loud_check : App
+loud_check = with_rule (of_file (codes "check")) tree
+
 -- check FILE TREE
 abbrev pub check : App
-check = with_rule (with_rule (with_rule (new_app (codes "check")) file) tree) quiet
+check = with_rule loud_check quiet
 
 -- answer FILE
 abbrev pub answer : App
-answer = with_rule (with_rule (new_app (codes "answer")) file) quiet
+answer = with_rule (of_file (codes "answer")) quiet
 
 -- the words are all after the program's name, there is a version and no command `help`, and one command has to be named
 abbrev pub plain : App
@@ -61,8 +77,14 @@ plain = on_top (λ s. record s {
   subcommand_required = true;
 }) (new_app (codes "leastfault"))
 
+abbrev pub without_run : App
+without_run = with_subcommand plain search.top
+
+abbrev pub without_check : App
+without_check = with_subcommand without_run run.top
+
 abbrev pub without_answer : App
-without_answer = with_subcommand (with_subcommand (with_subcommand plain search.top) run.top) check.top
+without_answer = with_subcommand without_check check.top
 
 abbrev pub program : App
 program = with_subcommand without_answer answer.top

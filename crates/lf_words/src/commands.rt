@@ -3,8 +3,9 @@
 ghost use Rattle.std.specs.Prelude.{◌≡◌, IfOk, false};
 ghost use Rattle.clap.specs.Words.{app_of, rule_of};
 ghost use Rattle.clap.specs.declared.builder.command.Command.TheViews.{out-Command};
-ghost use Rattle.lf_words.specs.Commands.{loud_search, workers, written};
-ghost use Rattle.lf_words.specs.Commands.{answer, check, each, file, plain, program, quiet, run, search, tree, without_answer};
+ghost use Rattle.lf_words.specs.Commands.{each, faults, file, of_file, quiet, tree, workers, written};
+ghost use Rattle.lf_words.specs.Commands.{alone_search, answer, check, loud_check, loud_search, run, search, written_search};
+ghost use Rattle.lf_words.specs.Commands.{plain, program, without_answer, without_check, without_run};
 
 use clap::{Arg, ArgAction, Command};
 use std::alloc::{AllocError, Global};
@@ -47,10 +48,21 @@ fn unnamed<'a>(alloc: Global) -> Result<Command<'a>, AllocError>
 fn without_answer<'a>(alloc: Global) -> Result<Command<'a>, AllocError>
     ensures { IfOk result (λ c. app_of c ≡ without_answer) }
 {
-    plain(alloc)
-        .subcommand(search(alloc)?)?
-        .subcommand(run(alloc)?)?
-        .subcommand(check(alloc)?)
+    without_check(alloc)?.subcommand(check(alloc)?)
+}
+
+/// The command line with the commands `search` and `run` alone.
+fn without_check<'a>(alloc: Global) -> Result<Command<'a>, AllocError>
+    ensures { IfOk result (λ c. app_of c ≡ without_check) }
+{
+    without_run(alloc)?.subcommand(run(alloc)?)
+}
+
+/// The command line with the command `search` alone.
+fn without_run<'a>(alloc: Global) -> Result<Command<'a>, AllocError>
+    ensures { IfOk result (λ c. app_of c ≡ without_run) }
+{
+    plain(alloc).subcommand(search(alloc)?)
 }
 
 /// The command line without its commands.
@@ -77,53 +89,86 @@ fn search<'a>(alloc: Global) -> Result<Command<'a>, AllocError>
 fn loud_search<'a>(alloc: Global) -> Result<Command<'a>, AllocError>
     ensures { IfOk result (λ c. (app_of c ≡ loud_search) × ((out-Command c).has_globals ≡ false)) }
 {
-    Command::new(alloc, "search")
-        .about("Prints the fewest faults with which the scenario FILE misses its outcome, or none")
-        .arg(file(alloc))?
-        .arg(written(alloc))?
-        .arg(each(alloc))?
-        .arg(workers(alloc))
+    alone_search(alloc)?.arg(workers(alloc))
+}
+
+/// The command `search FILE` with the option `--tree TREE` and the flag `--all`.
+fn alone_search<'a>(alloc: Global) -> Result<Command<'a>, AllocError>
+    ensures { IfOk result (λ c. (app_of c ≡ alone_search) × ((out-Command c).has_globals ≡ false)) }
+{
+    written_search(alloc)?.arg(each(alloc))
+}
+
+/// The command `search FILE` with the option `--tree TREE`.
+fn written_search<'a>(alloc: Global) -> Result<Command<'a>, AllocError>
+    ensures { IfOk result (λ c. (app_of c ≡ written_search) × ((out-Command c).has_globals ≡ false)) }
+{
+    of_file(
+        alloc,
+        "search",
+        "Prints the fewest faults with which the scenario FILE misses its outcome, or none",
+    )?
+    .arg(written(alloc))
 }
 
 /// The command `run FILE FAULTS`.
 fn run<'a>(alloc: Global) -> Result<Command<'a>, AllocError>
     ensures { IfOk result (λ c. (app_of c ≡ run) × ((out-Command c).has_globals ≡ false)) }
 {
-    let faults = Arg::new(alloc, "faults")
-        .required(true)
-        .value_name("FAULTS")
-        .help(
-            "Faults joined by commas, as in 'omit 0>1 @2,crash 2 @3'; the empty word '' for none",
-        );
-    Command::new(alloc, "run")
-        .about("Runs the scenario FILE once under the faults FAULTS, and prints what happens")
-        .arg(file(alloc))?
-        .arg(faults)
+    of_file(
+        alloc,
+        "run",
+        "Runs the scenario FILE once under the faults FAULTS, and prints what happens",
+    )?
+    .arg(faults(alloc))
 }
 
 /// The command `check FILE TREE`, with the flag `--quiet`.
 fn check<'a>(alloc: Global) -> Result<Command<'a>, AllocError>
     ensures { IfOk result (λ c. (app_of c ≡ check) × ((out-Command c).has_globals ≡ false)) }
 {
-    Command::new(alloc, "check")
-        .about(
-            "Judges the certificate TREE of an answer to the scenario FILE: prints yes, or why not",
-        )
-        .arg(file(alloc))?
-        .arg(tree(alloc))?
-        .arg(quiet(alloc))
+    loud_check(alloc)?.arg(quiet(alloc))
+}
+
+/// The command `check FILE TREE` without the flag `--quiet`.
+fn loud_check<'a>(alloc: Global) -> Result<Command<'a>, AllocError>
+    ensures { IfOk result (λ c. (app_of c ≡ loud_check) × ((out-Command c).has_globals ≡ false)) }
+{
+    of_file(
+        alloc,
+        "check",
+        "Judges the certificate TREE of an answer to the scenario FILE: prints yes, or why not",
+    )?
+    .arg(tree(alloc))
 }
 
 /// The command `answer FILE`, with the flag `--quiet`.
 fn answer<'a>(alloc: Global) -> Result<Command<'a>, AllocError>
     ensures { IfOk result (λ c. (app_of c ≡ answer) × ((out-Command c).has_globals ≡ false)) }
 {
-    Command::new(alloc, "answer")
-        .about(
-            "Prints what search does, by another way that no bound of the scenario on how many sets are kept can stop, and that makes no certificate",
-        )
-        .arg(file(alloc))?
-        .arg(quiet(alloc))
+    of_file(
+        alloc,
+        "answer",
+        "Prints what search does, by another way that no bound of the scenario on how many sets are kept can stop, and that makes no certificate",
+    )?
+    .arg(quiet(alloc))
+}
+
+/// A command with this name and the argument FILE, and what help says of it.
+fn of_file<'a>(alloc: Global, name: &'a str, about: &'a str) -> Result<Command<'a>, AllocError>
+    ensures { IfOk result (λ c. (app_of c ≡ of_file name.entry.now) × ((out-Command c).has_globals ≡ false)) }
+{
+    Command::new(alloc, name).about(about).arg(file(alloc))
+}
+
+/// The argument FAULTS.
+fn faults<'a>(alloc: Global) -> Arg<'a>
+    ensures { (rule_of result ≡ faults) × (result.global ≡ false) }
+{
+    Arg::new(alloc, "faults")
+        .required(true)
+        .value_name("FAULTS")
+        .help("Faults joined by commas, as in 'omit 0>1 @2,crash 2 @3'; the empty word '' for none")
 }
 
 /// The argument TREE.

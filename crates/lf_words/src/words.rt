@@ -41,13 +41,7 @@ pub fn asked(alloc: Global, words: &[String]) -> Result<Asked, Unasked>
         (λ a. Asks (map string_bytes words.now) a × (shares_input a ≡ false)) (IsRefusal (map string_bytes words.now)) }
 {
     if words.is_empty() {
-        return Ok(Asked::Search {
-            file: String::from_str(alloc, "-")?,
-            tree: None,
-            all: false,
-            workers: 1,
-            quiet: false,
-        });
+        return Ok(search_of_input(alloc)?);
     }
     match program(alloc)?.try_get_matches_from(words) {
         Ok(matches) => match command(alloc, words, &matches)? {
@@ -56,6 +50,20 @@ pub fn asked(alloc: Global, words: &[String]) -> Result<Asked, Unasked>
         },
         Err(error) => Err(refused(alloc, &error)?),
     }
+}
+
+/// The search of the scenario on standard input, which no words ask for.
+fn search_of_input(alloc: Global) -> Result<Asked, AllocError>
+    ensures plain { IfOk result (IsPlainly (codes "search" ∷ codes "-" ∷ [])) }
+    ensures workers { IfOk result (λ a. IsWorkers (workers_of a)) }
+{
+    Ok(Asked::Search {
+        file: String::from_str(alloc, "-")?,
+        tree: None,
+        all: false,
+        workers: 1,
+        quiet: false,
+    })
 }
 
 /// What is asked for, where it can be done.
