@@ -68,6 +68,45 @@ is_some-if : {A : Type 0} (b : Bool) (x : A) → is_some (if b then Some x else 
 is_some-if true x = refl
 is_some-if false x = refl
 
+none-if : (b : Bool) (points : List Point) → points ≡ [] → unwrap_or (if b then Some points else None) [] ≡ []
+none-if true points e = e
+none-if false points e = refl
+
+-- what is found at a node that is down, and at one that shows a fact or not, and what is put behind the points before
+module _ {Fact : Type 0} (down : ℕ → ℕ → Bool) (shown : ℕ → ℕ → Fact → Bool) where
+  abbrev some_of : Formula Fact → Bool
+  some_of f = is_some (rests_on down shown f)
+
+  abbrev behind : List Point → Option (List Point) → List Point
+  behind ps found = ps ++ unwrap_or found []
+
+  pub found-down : (f : Formula Fact) (n t : ℕ) (b : Bool) → f ≡ kind.Down n t → b ≡ down n t → b ≡ is_some (rests_on down shown f)
+  found-down f n t b is h =
+      h ∙ sym (is_some-if {A = List Point} (down n t) []) ∙ sym (ap is_some (rests_on-Down down shown n t)) ∙ sym (ap some_of is)
+
+  pub behind-down : (f : Formula Fact) (n t : ℕ) (ps : List Point) → f ≡ kind.Down n t → ps ≡ ps ++ unwrap_or (rests_on down shown f) []
+  behind-down f n t ps is =
+      sym (ap (λ x. behind ps (rests_on down shown x)) is ∙ ap (behind ps) (rests_on-Down down shown n t)
+      ∙ ap (λ xs. ps ++ xs) (none-if (down n t) [] refl) ∙ append-nil ps)
+
+  pub found-shows : (f : Formula Fact) (n t : ℕ) (fact : Fact) (b : Bool) → f ≡ kind.Shows n t fact → b ≡ shown n t fact
+      → b ≡ is_some (rests_on down shown f)
+  found-shows f n t fact b is h =
+      h ∙ sym (is_some-if {A = List Point} (shown n t fact) (record { node = n; step = t } ∷ []))
+      ∙ sym (ap is_some (rests_on-Shows down shown n t fact)) ∙ sym (ap some_of is)
+
+  pub behind-shows : (f : Formula Fact) (n t : ℕ) (fact : Fact) (ps : List Point) → f ≡ kind.Shows n t fact → shown n t fact ≡ true
+      → ps ++ record { node = n; step = t } ∷ [] ≡ ps ++ unwrap_or (rests_on down shown f) []
+  behind-shows f n t fact ps is h =
+      sym (ap (λ x. behind ps (rests_on down shown x)) is ∙ ap (behind ps) (rests_on-Shows down shown n t fact)
+      ∙ ap (λ b. behind ps (if b then Some (record { node = n; step = t } ∷ []) else None)) h)
+
+  pub behind-hidden : (f : Formula Fact) (n t : ℕ) (fact : Fact) (ps : List Point) → f ≡ kind.Shows n t fact → shown n t fact ≡ false
+      → ps ≡ ps ++ unwrap_or (rests_on down shown f) []
+  behind-hidden f n t fact ps is h =
+      sym (ap (λ x. behind ps (rests_on down shown x)) is ∙ ap (behind ps) (rests_on-Shows down shown n t fact)
+      ∙ ap (λ b. behind ps (if b then Some (record { node = n; step = t } ∷ []) else None)) h ∙ append-nil ps)
+
 -- a formula rests on something where it is true, and only there
 module _ {Fact : Type 0} (down : ℕ → ℕ → Bool) (shown : ℕ → ℕ → Fact → Bool) where
   abbrev Agrees : Formula Fact → Type 0

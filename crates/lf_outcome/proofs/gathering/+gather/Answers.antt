@@ -1,4 +1,4 @@
-use Rattle.std.proofs.Common.{◌≡◌, ◌++◌, [], length, take, sym, ap, ◌∙◌, subst, arith}
+use Rattle.std.proofs.Common.{rules, ◌≡◌, ◌++◌, [], ◌∷◌, length, take, sym, ap, ◌∙◌, subst, arith}
 use Rattle.std.specs.Prelude.{IfOk}
 use Rattle.std.specs.Option.{is_some, unwrap_or}
 use Rattle.std.proofs.lemmas.List.{append-nil}
@@ -6,6 +6,7 @@ use Rattle.lf_sim.specs.Settings.{set_of, world_of}
 use Rattle.lf_outcome.specs.Evidence.{evidence_of}
 use Rattle.lf_outcome.specs.Truth.{is_down, is_shown}
 use Rattle.lf_outcome.proofs.EvidenceLemmas.{rests_on-from_all, rests_on-from_any, gathered-none, gathered-more, gathered-missing}
+use Rattle.lf_outcome.proofs.EvidenceLemmas.{found-down, behind-down, found-shows, behind-shows, behind-hidden}
 use Rattle.lf_outcome.proofs.EvidenceLemmas.{gathered-back, gathered-all, first-found, first-later, first-none, is_missing}
 use Rattle.lf_outcome.proofs.gathering.+gather.Goals as goal
 
@@ -96,3 +97,40 @@ gather_first-returns-clause-points g t c =
     ∙ ap (λ o. c.args.points.now.items ++ unwrap_or o [])
     (sym (first-none (evidence_of (world_of c.args.setting.now) (set_of c.args.run.now)) c.args.parts.now
     c.any.part-index (omega arith) c.any.invariant.1))
+
+pub gather-returns-in-Down-clause-found : goal.gather-returns-in-Down-clause-found
+gather-returns-in-Down-clause-found g t c =
+    let w = world_of c.args.setting.now in
+    let faults = set_of c.args.run.now in
+    found-down (is_down w faults) (is_shown w faults) c.args.formula.now c.in-Down.node c.in-Down.step _ c.in-Down.is (search rules)
+
+pub gather-returns-in-Down-clause-points : goal.gather-returns-in-Down-clause-points
+gather-returns-in-Down-clause-points g t c =
+    let w = world_of c.args.setting.now in
+    let faults = set_of c.args.run.now in
+    behind-down (is_down w faults) (is_shown w faults) c.args.formula.now c.in-Down.node c.in-Down.step _ c.in-Down.is
+
+pub gather-returns-in_ok-push-in-Shows-clause-found : goal.gather-returns-in_ok-push-in-Shows-clause-found
+gather-returns-in_ok-push-in-Shows-clause-found g t c =
+    let w = world_of c.args.setting.now in
+    let faults = set_of c.args.run.now in
+    found-shows (is_down w faults) (is_shown w faults) c.args.formula.now c.in-Shows.node c.in-Shows.step c.in-Shows.fact _ c.in-Shows.is c.shows-shown.ensures
+
+pub gather-returns-in_ok-push-in-Shows-clause-points : goal.gather-returns-in_ok-push-in-Shows-clause-points
+gather-returns-in_ok-push-in-Shows-clause-points g t c =
+    let w = world_of c.args.setting.now in
+    let faults = set_of c.args.run.now in
+    let pushed : c.push.new.self.items ≡ c.args.points.now.items ++ record { node = c.in-Shows.node; step = c.in-Shows.step } ∷ [] = search rules in
+    pushed ∙ behind-shows (is_down w faults) (is_shown w faults) c.args.formula.now c.in-Shows.node c.in-Shows.step c.in-Shows.fact c.args.points.now.items c.in-Shows.is (sym c.shows-shown.ensures ∙ c.if-shown.true)
+
+pub gather-returns-else-shown-clause-found : goal.gather-returns-else-shown-clause-found
+gather-returns-else-shown-clause-found g t c =
+    let w = world_of c.args.setting.now in
+    let faults = set_of c.args.run.now in
+    found-shows (is_down w faults) (is_shown w faults) c.args.formula.now c.in-Shows.node c.in-Shows.step c.in-Shows.fact _ c.in-Shows.is c.shows-shown.ensures
+
+pub gather-returns-else-shown-clause-points : goal.gather-returns-else-shown-clause-points
+gather-returns-else-shown-clause-points g t c =
+    let w = world_of c.args.setting.now in
+    let faults = set_of c.args.run.now in
+    behind-hidden (is_down w faults) (is_shown w faults) c.args.formula.now c.in-Shows.node c.in-Shows.step c.in-Shows.fact _ c.in-Shows.is (sym c.shows-shown.ensures ∙ c.if-shown.false)
