@@ -3,7 +3,7 @@
 ghost use Rattle.std.specs.Prelude.{◌≡◌, ◌≢◌, ◌++◌, ◌<◌, ◌≤◌, IfOk, Some, string_bytes};
 ghost use Rattle.lf_sim.specs.Settings.{IsRun, set_of, world_of};
 ghost use Rattle.lf_trace.specs.Lines.{line};
-ghost use Rattle.lf_trace.specs.Traces.{end_word, fate, node_line, note_line, note_lines, sender_lines, slot_line, standing, step_lines, trace};
+ghost use Rattle.lf_trace.specs.Traces.{end_word, fate, fate_at, node_line, note_line, note_lines, sender_lines, slot_line, standing, step_lines, trace};
 
 use lf_outcome::{Formula, holds};
 use lf_protocols::{Fact, Note, Protocol};
@@ -168,10 +168,22 @@ impl Step<'_> {
         ensures { IfOk result (λ _. string_bytes text.new ≡ string_bytes text.old
             ++ line (fate (world_of self.now.setting.now) (set_of self.now.run.now) self.now.number from to)) }
     {
-        let arrival = self.setting.network.arrival(from, to, self.number);
         if self.run.set().omits(from, to, self.number) {
             text.push_str("omitted\n")
-        } else if self.run.up(to, arrival) {
+        } else {
+            let arrival = self.setting.network.arrival(from, to, self.number);
+            self.push_arrival(to, arrival, text)
+        }
+    }
+
+    /// Adds the rest of the line of a note that arrives at this step, if its receiver is up there.
+    fn push_arrival(&self, to: u32, arrival: u32, text: &mut String) -> Result<(), AllocError>
+        requires run { IsRun (world_of self.now.setting.now) self.now.run.now }
+        requires to { to < (world_of self.now.setting.now).rules.nodes }
+        ensures { IfOk result (λ _. string_bytes text.new ≡ string_bytes text.old
+            ++ line (fate_at (world_of self.now.setting.now) (set_of self.now.run.now) to arrival)) }
+    {
+        if self.run.up(to, arrival) {
             writeln!(text, "{arrival}")
         } else {
             text.push_str("lost\n")
