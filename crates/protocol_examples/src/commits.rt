@@ -1,11 +1,8 @@
 //! Two-phase and three-phase commit, rule by rule.
 
 use crate::states::{first_of, nodes};
-use crate::steps::{are_starts, are_steps, are_wakings};
+use crate::steps::are_right;
 use crate::texts::{agrees, number, words};
-use lf_protocols::Nodes;
-use std::process::Abort;
-use std::test::Fail;
 
 /// The rules that both have in common, where node 2 of three votes no.
 const SHARED: &str = concat!(
@@ -58,10 +55,11 @@ const TWO_PHASE: &str = concat!(
 );
 
 #[test]
-fn two_phase_by_its_rules(rt: HostRuntime) -> Result<(), Fail> {
-    are_starts(&rt, "two_phase 3 3 yyn", "0|idle @0")?;
-    are_steps(&rt, rt.alloc(), "two_phase 3 3 yyn", SHARED)?;
-    are_steps(&rt, rt.alloc(), "two_phase 3 3 yyn", TWO_PHASE)
+fn two_phase_by_its_rules(rt: HostRuntime) {
+    let machine = "two_phase 3 3 yyn";
+    are_right(&rt, rt.alloc(), "starts", machine, "0|idle @0");
+    are_right(&rt, rt.alloc(), "steps", machine, SHARED);
+    are_right(&rt, rt.alloc(), "steps", machine, TWO_PHASE);
 }
 
 /// The rules of three_phase alone.
@@ -92,10 +90,11 @@ const THREE_PHASE: &str = concat!(
 );
 
 #[test]
-fn three_phase_by_its_rules(rt: HostRuntime) -> Result<(), Fail> {
-    are_starts(&rt, "three_phase 3 3 yyn", "0|idle @0")?;
-    are_steps(&rt, rt.alloc(), "three_phase 3 3 yyn", SHARED)?;
-    are_steps(&rt, rt.alloc(), "three_phase 3 3 yyn", THREE_PHASE)
+fn three_phase_by_its_rules(rt: HostRuntime) {
+    let machine = "three_phase 3 3 yyn";
+    are_right(&rt, rt.alloc(), "starts", machine, "0|idle @0");
+    are_right(&rt, rt.alloc(), "steps", machine, SHARED);
+    are_right(&rt, rt.alloc(), "steps", machine, THREE_PHASE);
 }
 
 /// Wakings of node 0.
@@ -115,26 +114,33 @@ const WAKINGS_OF_THE_NEXT: &str = concat!(
 );
 
 #[test]
-fn waking_starts_the_time_out_anew(rt: HostRuntime) -> Result<(), Fail> {
-    are_wakings(&rt, "two_phase 3 3", WAKINGS)?;
-    are_wakings(&rt, "three_phase 3 3", WAKINGS_OF_THE_NEXT)
+fn waking_starts_the_time_out_anew(rt: HostRuntime) {
+    are_right(&rt, rt.alloc(), "wakings", "two_phase 3 3", WAKINGS);
+    are_right(
+        &rt,
+        rt.alloc(),
+        "wakings",
+        "three_phase 3 3",
+        WAKINGS_OF_THE_NEXT,
+    );
 }
 
-/// For each item of the list a number, and whether it is one of the nodes.
-fn are_members(rt: &impl Abort, nodes: Nodes, list: &str) -> Result<(), Fail> {
-    for item in list.split(',') {
-        let (node, is) = words(item);
-        let node = number(node).ok_or("a node")?;
-        agrees(rt, nodes.contains(node), first_of(is, "yes", "no"), item)?;
+/// Whether the number of an item is one of the nodes, or none, as the item says.
+fn is_member(some: &str, item: &str) -> bool {
+    let (node, is) = words(item);
+    match (nodes(some), number(node)) {
+        (Some(nodes), Some(node)) => first_of(is, "yes", "no") == Some(nodes.contains(node)),
+        _ => false,
     }
-    Ok(())
 }
 
 #[test]
-fn sets_of_nodes(rt: HostRuntime) -> Result<(), Fail> {
-    let some = nodes("1,7,8,4294967295").ok_or("nodes")?;
-    are_members(&rt, some, "0 no,1 yes,2 no,7 yes,8 no")?;
-    agrees(&rt, some, nodes("7,1"), "another order")
+fn sets_of_nodes(rt: HostRuntime) {
+    let some = "1,7,8,4294967295";
+    for item in "0 no,1 yes,2 no,7 yes,8 no".split(',') {
+        agrees(&rt, is_member(some, item), item);
+    }
+    agrees(&rt, nodes(some) == nodes("7,1"), "another order");
 }
 
 /// The yes of the last node is missing, or that of the first.
@@ -150,20 +156,22 @@ const NONE_MISSING: &str = concat!(
 );
 
 #[test]
-fn all_yes_are_those_of_the_nodes_that_there_are(rt: HostRuntime) -> Result<(), Fail> {
+fn all_yes_are_those_of_the_nodes_that_there_are(rt: HostRuntime) {
     let alloc = rt.alloc();
-    are_steps(
+    are_right(
         &rt,
         alloc,
+        "steps",
         "two_phase 2 1",
         "0 2|voting 1,7 @2||committed @2|1 commit",
-    )?;
-    are_steps(
+    );
+    are_right(
         &rt,
         alloc,
+        "steps",
         "two_phase 3 1",
         "0 2|voting 1,7 @2||voting 1,7 @2|",
-    )?;
-    are_steps(&rt, alloc, "two_phase 8 1", NONE_MISSING)?;
-    are_steps(&rt, alloc, "two_phase 8 1", ONE_MISSING)
+    );
+    are_right(&rt, alloc, "steps", "two_phase 8 1", NONE_MISSING);
+    are_right(&rt, alloc, "steps", "two_phase 8 1", ONE_MISSING);
 }

@@ -1,7 +1,6 @@
 //! Primary and backup, rule by rule.
 
-use crate::steps::{are_starts, are_steps, are_wakings};
-use std::test::Fail;
+use crate::steps::are_right;
 
 /// What each of four nodes does.
 const RULES: &str = concat!(
@@ -35,8 +34,8 @@ const RULES: &str = concat!(
 );
 
 #[test]
-fn primary_backup_by_its_rules(rt: HostRuntime) -> Result<(), Fail> {
-    are_steps(&rt, rt.alloc(), "primary_backup 4 3", RULES)
+fn primary_backup_by_its_rules(rt: HostRuntime) {
+    are_right(&rt, rt.alloc(), "steps", "primary_backup 4 3", RULES);
 }
 
 /// A letter that is read starts the time-out anew.
@@ -44,8 +43,8 @@ const ANSWER: &str =
     "1 9|empty not_done backup unclaimed @0|0 repl|holds not_done backup unclaimed @9|0 ack";
 
 #[test]
-fn an_answer_and_a_claim_are_never_sent_at_once(rt: HostRuntime) -> Result<(), Fail> {
-    are_steps(&rt, rt.alloc(), "primary_backup 3 1", ANSWER)
+fn an_answer_and_a_claim_are_never_sent_at_once(rt: HostRuntime) {
+    are_right(&rt, rt.alloc(), "steps", "primary_backup 3 1", ANSWER);
 }
 
 /// What the nodes know before the first step.
@@ -59,7 +58,7 @@ const STARTS: &str = concat!(
 const WAKING: &str = "1 7|holds done primary claimed @4|holds done primary claimed @7";
 
 #[test]
-fn waking_replicas_keep_what_they_know(rt: HostRuntime) -> Result<(), Fail> {
-    are_starts(&rt, "primary_backup 3 3", STARTS)?;
-    are_wakings(&rt, "primary_backup 3 3", WAKING)
+fn waking_replicas_keep_what_they_know(rt: HostRuntime) {
+    are_right(&rt, rt.alloc(), "starts", "primary_backup 3 3", STARTS);
+    are_right(&rt, rt.alloc(), "wakings", "primary_backup 3 3", WAKING);
 }

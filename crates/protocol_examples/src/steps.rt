@@ -3,12 +3,11 @@
 ghost use Rattle.std.specs.Prelude.{◌<◌, ◌≤◌};
 
 use crate::states::state;
-use crate::texts::{agrees, columns, letters, number, out, protocol, words};
+use crate::texts::{add_letters, agrees, columns, number, out, protocol, words};
 use lf_protocols::{Protocol, State};
 use lf_sim::{Letter, Machine, Stepped};
 use std::alloc::Global;
 use std::process::Abort;
-use std::test::Fail;
 
 /// A step of any machine.
 fn turn<M: Machine>(
@@ -37,101 +36,81 @@ fn place_of<'a>(states: &str, row: &'a str) -> Option<(Place, &'a str)> {
     let (head, rest) = columns(row);
     let (before, rest) = columns(rest);
     let (node, t) = words(head);
-    let place = Place {
-        node: number(node)?,
-        t: number(t)?,
-        state: state(states, before)?,
-    };
-    Some((place, rest))
+    match (number(node), number(t), state(states, before)) {
+        (Some(node), Some(t), Some(state)) => Some((Place { node, t, state }, rest)),
+        _ => None,
+    }
 }
 
-/// The step of the row is as it says.
-fn is_step(
-    rt: &impl Abort,
+/// Whether the step from the place with these letters leads to this state, and sends these notes.
+fn leads_to(
     alloc: Global,
     machine: &Protocol,
-    states: &str,
-    row: &str,
-) -> Result<(), Fail> {
-    let (place, rest) = place_of(states, row).ok_or("a place")?;
+    place: Place,
+    inbox: &str,
+    after: Option<State>,
+    notes: &str,
+) -> bool {
+    let Place { node, t, state } = place;
+    let mut letters = Vec::new(alloc);
+    if !add_letters(&mut letters, inbox) || node >= machine.nodes() || t < 1 || 48 < t {
+        return false;
+    }
+    let turned = turn(machine, node, t, state, letters.as_slice());
+    after == Some(turned.state) && out(notes) == Some(turned.out)
+}
+
+/// Whether the step of the row is as it says, of a machine with states of the protocol of this name.
+pub(crate) fn is_step(alloc: Global, machine: &str, states: &str, row: &str) -> bool {
+    let (Some(machine), Some((place, rest))) = (protocol(machine), place_of(states, row)) else {
+        return false;
+    };
     let (inbox, rest) = columns(rest);
     let (after, notes) = columns(rest);
-    let inbox = letters(alloc, inbox)?;
+    leads_to(alloc, &machine, place, inbox, state(states, after), notes)
+}
+
+/// Whether what the node of the row wakes with is as it says.
+fn is_waking(machine: &str, states: &str, row: &str) -> bool {
+    let (Some(machine), Some((place, after))) = (protocol(machine), place_of(states, row)) else {
+        return false;
+    };
     let Place {
         node,
         t,
         state: before,
     } = place;
-    assert!(rt; node < machine.nodes() && 1 <= t && t <= 48);
-    let turned = turn(machine, node, t, before, inbox.as_slice());
-    agrees(rt, turned.state, state(states, after), row)?;
-    agrees(rt, turned.out, out(notes), row)
+    if node >= machine.nodes() || t < 1 || 48 < t {
+        return false;
+    }
+    state(states, after) == Some(machine.wake(node, t, before))
 }
 
-/// What the node of the row wakes with is as it says.
-fn is_waking(rt: &impl Abort, machine: &Protocol, states: &str, row: &str) -> Result<(), Fail> {
-    let (place, after) = place_of(states, row).ok_or("a place")?;
-    let Place {
-        node,
-        t,
-        state: before,
-    } = place;
-    assert!(rt; node < machine.nodes() && 1 <= t && t <= 48);
-    let woken = machine.wake(node, t, before);
-    agrees(rt, woken, state(states, after), row)
-}
-
-/// The state of the row's node before the first step is as it says.
-fn is_start(rt: &impl Abort, machine: &Protocol, states: &str, row: &str) -> Result<(), Fail> {
+/// Whether the state of the row's node before the first step is as it says.
+fn is_start(machine: &str, states: &str, row: &str) -> bool {
     let (node, start) = columns(row);
-    let node = number(node).ok_or("a node")?;
-    assert!(rt; node < machine.nodes());
-    agrees(rt, machine.start(node), state(states, start), row)
+    let (Some(machine), Some(node)) = (protocol(machine), number(node)) else {
+        return false;
+    };
+    node < machine.nodes() && state(states, start) == Some(machine.start(node))
 }
 
-/// For each line of the table a node and a step, its state before, its inbox, its state after, and the notes that it
-/// sends, of a machine with states of the protocol of this name.
-pub(crate) fn are_steps_in(
-    rt: &impl Abort,
-    alloc: Global,
-    machine: &str,
-    states: &str,
-    table: &str,
-) -> Result<(), Fail> {
-    let machine = protocol(machine).ok_or("a protocol")?;
-    for row in table.lines() {
-        is_step(rt, alloc, &machine, states, row)?;
-    }
-    Ok(())
-}
-
-/// The same with states of the machine's own.
-pub(crate) fn are_steps(
-    rt: &impl Abort,
-    alloc: Global,
-    machine: &str,
-    table: &str,
-) -> Result<(), Fail> {
+/// Whether a row of such a table is as it says, of a machine with states of its own.
+fn is_right(alloc: Global, what: &str, machine: &str, row: &str) -> bool {
     let (states, _) = words(machine);
-    are_steps_in(rt, alloc, machine, states, table)
+    match what {
+        "steps" => is_step(alloc, machine, states, row),
+        "wakings" => is_waking(machine, states, row),
+        "starts" => is_start(machine, states, row),
+        _ => false,
+    }
 }
 
-/// For each line of the table a node and a step, its state before and what it wakes with.
-pub(crate) fn are_wakings(rt: &impl Abort, machine: &str, table: &str) -> Result<(), Fail> {
-    let (states, _) = words(machine);
-    let machine = protocol(machine).ok_or("a protocol")?;
+/// For each line of a table of `steps` a node and a step, its state before, its inbox, its state after, and the notes that it
+/// sends; of `wakings` a node and a step, its state before and what it wakes with; of `starts` a node and its state before the
+/// first step.
+pub(crate) fn are_right(rt: &impl Abort, alloc: Global, what: &str, machine: &str, table: &str) {
     for row in table.lines() {
-        is_waking(rt, &machine, states, row)?;
+        agrees(rt, is_right(alloc, what, machine, row), row);
     }
-    Ok(())
-}
-
-/// For each line of the table a node and its state before the first step.
-pub(crate) fn are_starts(rt: &impl Abort, machine: &str, table: &str) -> Result<(), Fail> {
-    let (states, _) = words(machine);
-    let machine = protocol(machine).ok_or("a protocol")?;
-    for row in table.lines() {
-        is_start(rt, &machine, states, row)?;
-    }
-    Ok(())
 }

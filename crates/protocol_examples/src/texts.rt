@@ -2,20 +2,11 @@
 
 use lf_protocols::{Kind, Note, Protocol};
 use lf_sim::{Letter, Out};
-use std::alloc::Global;
 use std::process::Abort;
-use std::test::Fail;
 
-/// What is found is what a text stands for, in the row of this name. Each comparison is this one: an assertion is dear to prove.
-pub(crate) fn agrees<T: Copy + Eq>(
-    rt: &impl Abort,
-    found: T,
-    expected: Option<T>,
-    name: &str,
-) -> Result<(), Fail> {
-    let expected = expected.ok_or("a text that stands for nothing")?;
-    assert!(rt; found == expected, "at {name}");
-    Ok(())
+/// What is found at the row is what it says. Each comparison ends here: an assertion is dear to prove.
+pub(crate) fn agrees(rt: &impl Abort, truth: bool, row: &str) {
+    assert!(rt; truth, "at {row}");
 }
 
 /// The columns before and behind the first `|`.
@@ -36,8 +27,10 @@ pub(crate) fn number(word: &str) -> Option<u32> {
 /// The votes of all eight nodes: of these letters each `n` is a no, and every other vote is a yes.
 fn votes(letters: &str) -> [bool; 8] {
     let mut votes = [true; 8];
-    for (vote, letter) in votes.iter_mut().zip(letters.chars()) {
-        *vote = letter != 'n';
+    for (node, letter) in letters.chars().enumerate() {
+        if node < 8 && letter == 'n' {
+            votes[node] = false;
+        }
     }
     votes
 }
@@ -47,8 +40,9 @@ fn votes(letters: &str) -> [bool; 8] {
 pub(crate) fn kind(name: &str, settings: &str) -> Option<Kind> {
     let (nodes, rest) = words(settings);
     let (limit, letters) = words(rest);
-    let nodes = number(nodes)?;
-    let tries = number(limit)?;
+    let (Some(nodes), Some(tries)) = (number(nodes), number(limit)) else {
+        return None;
+    };
     let patience = tries;
     let votes = votes(letters);
     match name {
@@ -120,21 +114,22 @@ fn node_and_note(text: &str) -> Option<(u32, Note)> {
     Some((number(node)?, note(word)?))
 }
 
-/// The letters of a list of senders and notes, each sent at step 1.
-pub(crate) fn letters(alloc: Global, text: &str) -> Result<Vec<Letter<Note>>, Fail> {
-    let mut letters = Vec::new(alloc);
-    if text.is_empty() {
-        return Ok(letters);
-    }
+/// Adds the letters of a list of senders and notes, each sent at step 1. Says whether the list is one, and there was memory.
+pub(crate) fn add_letters(letters: &mut Vec<Letter<Note>>, text: &str) -> bool {
     for item in text.split(',') {
-        let (from, note) = node_and_note(item).ok_or("a letter")?;
-        letters.push(Letter {
+        let Some((from, note)) = node_and_note(item) else {
+            return text.is_empty();
+        };
+        let letter = Letter {
             from,
             sent: 1,
             note,
-        })?;
+        };
+        if letters.push(letter).is_err() {
+            return false;
+        }
     }
-    Ok(letters)
+    true
 }
 
 /// What a node sends, of a list of receivers and notes. Nothing else is sent.

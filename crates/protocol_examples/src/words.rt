@@ -5,7 +5,6 @@ use crate::texts::{agrees, columns, note, number, protocol, words};
 use lf_protocols::{Protocol, State};
 use lf_sim::Machine;
 use std::process::Abort;
-use std::test::Fail;
 
 /// Whether a word is one of a list.
 fn is_among(word: &str, list: &str) -> bool {
@@ -17,69 +16,79 @@ fn is_among(word: &str, list: &str) -> bool {
     false
 }
 
-/// Of the facts of the protocol that the list names, the state shows these alone.
-fn shows(
-    rt: &impl Abort,
-    machine: &Protocol,
-    state: State,
-    facts: &str,
-    shown: &str,
-) -> Result<(), Fail> {
+/// Whether the machine has a fact of this word, and the state shows it or not.
+fn shows(machine: &Protocol, state: State, word: &str, is_shown: bool) -> bool {
     let _nodes = machine.nodes();
-    for word in facts.split(' ') {
-        let fact = machine.fact(word).ok_or("a fact")?;
-        agrees(rt, fact.word(), Some(word), word)?;
-        agrees(
-            rt,
-            machine.shows(0, state, fact),
-            Some(is_among(word, shown)),
-            word,
-        )?;
+    match machine.fact(word) {
+        Some(fact) => fact.word() == word && machine.shows(0, state, fact) == is_shown,
+        None => false,
     }
-    Ok(())
+}
+
+/// Whether of the facts of the protocol that the list names the state shows these alone.
+fn shows_these(machine: &Protocol, state: State, facts: &str, shown: &str) -> bool {
+    for word in facts.split(' ') {
+        if !shows(machine, state, word, is_among(word, shown)) {
+            return false;
+        }
+    }
+    true
+}
+
+/// Whether the state of the row has its text, and shows its facts alone.
+fn is_in_words(machine: &str, facts: &str, row: &str) -> bool {
+    let (states, _) = words(machine);
+    let (before, rest) = columns(row);
+    let (text, shown) = columns(rest);
+    match (protocol(machine), state(states, before)) {
+        (Some(machine), Some(state)) => {
+            state.text() == text && shows_these(&machine, state, facts, shown)
+        }
+        _ => false,
+    }
+}
+
+/// Whether a machine has as many nodes as its settings say.
+fn has_its_nodes(machine: &str) -> bool {
+    let (_, settings) = words(machine);
+    let (nodes, _) = words(settings);
+    match protocol(machine) {
+        Some(machine) => number(nodes) == Some(machine.nodes()),
+        None => false,
+    }
 }
 
 /// For each line of the table a state, its text, and which of the protocol's facts it shows.
-fn are_words(rt: &impl Abort, machine: &str, facts: &str, table: &str) -> Result<(), Fail> {
-    let (states, settings) = words(machine);
-    let machine = protocol(machine).ok_or("a protocol")?;
-    let (nodes, _) = words(settings);
-    agrees(rt, machine.nodes(), number(nodes), settings)?;
+fn are_words(rt: &impl Abort, machine: &str, facts: &str, table: &str) {
+    agrees(rt, has_its_nodes(machine), machine);
     for row in table.lines() {
-        let (before, rest) = columns(row);
-        let (text, shown) = columns(rest);
-        let state = state(states, before).ok_or("a state")?;
-        agrees(rt, state.text(), Some(text), row)?;
-        shows(rt, &machine, state, facts, shown)?;
+        agrees(rt, is_in_words(machine, facts, row), row);
     }
-    Ok(())
+}
+
+/// Whether a word is no fact of a protocol.
+fn is_no_fact(machine: &str, word: &str) -> bool {
+    match protocol(machine) {
+        Some(machine) => machine.fact(word).is_none(),
+        None => false,
+    }
 }
 
 /// None of the words, which `|` parts, is a fact of the protocol.
-fn are_no_facts(rt: &impl Abort, machine: &str, list: &str) -> Result<(), Fail> {
-    let machine = protocol(machine).ok_or("a protocol")?;
+fn are_no_facts(rt: &impl Abort, machine: &str, list: &str) {
     for word in list.split('|') {
-        agrees(rt, machine.fact(word), Some(None), word)?;
+        agrees(rt, is_no_fact(machine, word), word);
     }
-    Ok(())
 }
 
 #[test]
-fn words_of_deliveries(rt: HostRuntime) -> Result<(), Fail> {
-    are_words(
-        &rt,
-        "retry 2 1",
-        "has lacks",
-        "has|has|has\nlacks|lacks|lacks",
-    )?;
-    are_words(
-        &rt,
-        "redundant 2 1",
-        "has lacks",
-        "has 0|has|has\nhas 1|has|has\nlacks|lacks|lacks",
-    )?;
-    are_no_facts(&rt, "retry 2 1", "|Has|hass|committed")?;
-    are_no_facts(&rt, "redundant 2 1", "|Has|hass|committed")
+fn words_of_deliveries(rt: HostRuntime) {
+    let held = "has|has|has\nlacks|lacks|lacks";
+    are_words(&rt, "retry 2 1", "has lacks", held);
+    let relayed = "has 0|has|has\nhas 1|has|has\nlacks|lacks|lacks";
+    are_words(&rt, "redundant 2 1", "has lacks", relayed);
+    are_no_facts(&rt, "retry 2 1", "|Has|hass|committed");
+    are_no_facts(&rt, "redundant 2 1", "|Has|hass|committed");
 }
 
 /// The facts of a commit.
@@ -97,19 +106,12 @@ const PHASES: &str = concat!(
 );
 
 #[test]
-fn words_of_commits(rt: HostRuntime) -> Result<(), Fail> {
-    are_words(&rt, "two_phase 2 1", FACTS_OF_COMMITS, PHASES)?;
-    are_words(&rt, "three_phase 2 1", FACTS_OF_COMMITS, PHASES)?;
-    are_no_facts(
-        &rt,
-        "two_phase 2 1",
-        "|has|holds|prepared|Committed|not committed",
-    )?;
-    are_no_facts(
-        &rt,
-        "three_phase 2 1",
-        "|has|holds|prepared|Committed|not committed",
-    )
+fn words_of_commits(rt: HostRuntime) {
+    are_words(&rt, "two_phase 2 1", FACTS_OF_COMMITS, PHASES);
+    are_words(&rt, "three_phase 2 1", FACTS_OF_COMMITS, PHASES);
+    let others = "|has|holds|prepared|Committed|not committed";
+    are_no_facts(&rt, "two_phase 2 1", others);
+    are_no_facts(&rt, "three_phase 2 1", others);
 }
 
 /// The facts of a primary and a backup.
@@ -128,19 +130,25 @@ const REPLICAS: &str = concat!(
 );
 
 #[test]
-fn words_of_replicas(rt: HostRuntime) -> Result<(), Fail> {
-    are_words(&rt, "primary_backup 3 1", FACTS_OF_REPLICAS, REPLICAS)?;
-    are_no_facts(&rt, "primary_backup 3 1", "has|free|hold|not_holds")
+fn words_of_replicas(rt: HostRuntime) {
+    are_words(&rt, "primary_backup 3 1", FACTS_OF_REPLICAS, REPLICAS);
+    are_no_facts(&rt, "primary_backup 3 1", "has|free|hold|not_holds");
 }
 
 /// Every note's word.
 const NOTES: &str = "data prepare yes no precommit ack commit abort write repl done beat claim";
 
-#[test]
-fn words_of_notes(rt: HostRuntime) -> Result<(), Fail> {
-    for word in NOTES.split(' ') {
-        let note = note(word).ok_or("a note")?;
-        agrees(&rt, note.word(), Some(word), word)?;
+/// Whether the note of a word has that word.
+fn is_word_of_its_note(word: &str) -> bool {
+    match note(word) {
+        Some(note) => note.word() == word,
+        None => false,
     }
-    Ok(())
+}
+
+#[test]
+fn words_of_notes(rt: HostRuntime) {
+    for word in NOTES.split(' ') {
+        agrees(&rt, is_word_of_its_note(word), word);
+    }
 }
