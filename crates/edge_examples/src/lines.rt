@@ -3,17 +3,20 @@
 //! In a table each line is a command line, `|`, and what it asks for. Before each word stands `;`.
 
 use lf_words::{Asked, Unasked, asked};
-use std::alloc::{AllocError, Global};
+use std::alloc::Global;
 use std::process::Abort;
-use std::test::Fail;
 
-/// The words as they come from the system.
-fn owned(alloc: Global, words: &str) -> Result<Vec<String>, AllocError> {
-    let mut owned = Vec::new(alloc);
+/// Adds the words as they come from the system. Says whether there was memory.
+fn add_words(alloc: Global, owned: &mut Vec<String>, words: &str) -> bool {
     for word in words.split(';').skip(1) {
-        owned.push(String::from_str(alloc, word)?)?;
+        let Ok(word) = String::from_str(alloc, word) else {
+            return false;
+        };
+        if owned.push(word).is_err() {
+            return false;
+        }
     }
-    Ok(owned)
+    true
 }
 
 /// Why words ask for nothing, by the status, by where the text goes, and by the text.
@@ -33,51 +36,102 @@ fn stillness(quiet: bool) -> &'static str {
     if quiet { ";quiet" } else { "" }
 }
 
-/// What the words ask for, as a table says it.
-fn said(alloc: Global, words: &str) -> Result<String, AllocError> {
-    match asked(alloc, owned(alloc, words)?.as_slice()) {
-        Ok(
-            Asked::Search {
-                file,
-                tree,
-                all,
-                workers,
-                quiet,
-            },
-        ) => {
-            let told = if all { ";all" } else { "" };
-            let still = stillness(quiet);
-            match tree {
-                Some(tree) => format!(in alloc;
-                    ";search;{file};tree;{tree}{told};{workers}{still}"
+/// Whether a table says this: what to do, the file, what stands behind it, and the rest.
+fn is_text(
+    alloc: Global,
+    expected: &str,
+    verb: &str,
+    file: &str,
+    behind: (&str, &str),
+    rest: &str,
+) -> bool {
+    let (mark, second) = behind;
+    match format!(in alloc; ";{verb};{file}{mark}{second}{rest}") {
+        Ok(text) => text.as_str() == expected,
+        Err(_) => false,
+    }
+}
+
+/// Whether a table says this of what is asked for.
+fn is_said(alloc: Global, asked: &Asked, expected: &str) -> bool {
+    match asked {
+        Asked::Search {
+            file,
+            tree,
+            all,
+            workers,
+            quiet,
+        } => {
+            let told = if *all { ";all" } else { "" };
+            let behind = match tree {
+                Some(tree) => (";tree;", tree.as_str()),
+                None => ("", ""),
+            };
+            match format!(in alloc; "{told};{workers}{}", stillness(*quiet)) {
+                Ok(rest) => is_text(
+                    alloc,
+                    expected,
+                    "search",
+                    file.as_str(),
+                    behind,
+                    rest.as_str(),
                 ),
-                None => format!(in alloc; ";search;{file}{told};{workers}{still}"),
+                Err(_) => false,
             }
         }
-        Ok(Asked::Run { file, faults }) => format!(in alloc; ";run;{file};{faults}"),
-        Ok(Asked::Check { file, tree, quiet }) => {
-            format!(in alloc; ";check;{file};{tree}{}", stillness(quiet))
+        Asked::Run { file, faults } => {
+            let behind = (";", faults.as_str());
+            is_text(alloc, expected, "run", file.as_str(), behind, "")
         }
-        Ok(Asked::Answer { file, quiet }) => format!(in alloc;
-            ";answer;{file}{}",
-            stillness(quiet)
-        ),
-        Err(unasked) => String::from_str(alloc, why(&unasked)),
+        Asked::Check { file, tree, quiet } => {
+            let behind = (";", tree.as_str());
+            is_text(
+                alloc,
+                expected,
+                "check",
+                file.as_str(),
+                behind,
+                stillness(*quiet),
+            )
+        }
+        Asked::Answer { file, quiet } => {
+            is_text(
+                alloc,
+                expected,
+                "answer",
+                file.as_str(),
+                ("", ""),
+                stillness(*quiet),
+            )
+        }
+    }
+}
+
+/// Whether a command line of a table asks for what stands behind it.
+fn is_asked(alloc: Global, line: &str) -> bool {
+    let Some((words, expected)) = line.split_once('|') else {
+        return false;
+    };
+    let mut owned = Vec::new(alloc);
+    if !add_words(alloc, &mut owned, words) {
+        return false;
+    }
+    match asked(alloc, owned.as_slice()) {
+        Ok(asked) => is_said(alloc, &asked, expected),
+        Err(unasked) => why(&unasked) == expected,
     }
 }
 
 /// Each command line of a table asks for what stands behind it.
-fn check_lines(rt: &impl Abort, alloc: Global, table: &str) -> Result<(), Fail> {
+fn check_lines(rt: &impl Abort, alloc: Global, table: &str) {
     for line in table.lines() {
-        let (words, expected) = line.split_once('|').ok_or("a line in two columns")?;
-        let found = said(alloc, words)?;
-        assert!(rt; found.as_str() == expected, "{words} ask for {found}");
+        let is_asked = is_asked(alloc, line);
+        assert!(rt; is_asked, "at {line}");
     }
-    Ok(())
 }
 
 #[test]
-fn searches_name_their_file(rt: HostRuntime) -> Result<(), Fail> {
+fn searches_name_their_file(rt: HostRuntime) {
     let table = concat!(
         "|;search;-;1\n",
         ";search;a.toml|;search;a.toml;1\n",
@@ -112,11 +166,11 @@ fn searches_name_their_file(rt: HostRuntime) -> Result<(), Fail> {
         ";search;a;--quiet;--workers;2|;search;a;2;quiet\n",
         ";search;--;--quiet|;search;--quiet;1\n",
     );
-    check_lines(&rt, rt.alloc(), table)
+    check_lines(&rt, rt.alloc(), table);
 }
 
 #[test]
-fn runs_name_their_file_and_their_faults(rt: HostRuntime) -> Result<(), Fail> {
+fn runs_name_their_file_and_their_faults(rt: HostRuntime) {
     let table = concat!(
         ";run;a.toml;|;run;a.toml;\n",
         ";run;-;omit 0>1 @2,crash 2 @3|;run;-;omit 0>1 @2,crash 2 @3\n",
@@ -126,11 +180,11 @@ fn runs_name_their_file_and_their_faults(rt: HostRuntime) -> Result<(), Fail> {
         ";run;a;--;-h|;run;a;-h\n",
         ";run;--;-a;--help|;run;-a;--help\n",
     );
-    check_lines(&rt, rt.alloc(), table)
+    check_lines(&rt, rt.alloc(), table);
 }
 
 #[test]
-fn checks_name_their_file_and_their_tree(rt: HostRuntime) -> Result<(), Fail> {
+fn checks_name_their_file_and_their_tree(rt: HostRuntime) {
     let table = concat!(
         ";check;a.toml;a.json|;check;a.toml;a.json\n",
         ";check;-;a.json|;check;-;a.json\n",
@@ -143,11 +197,11 @@ fn checks_name_their_file_and_their_tree(rt: HostRuntime) -> Result<(), Fail> {
         ";check;-;--quiet;-|shared\n",
         ";check;--;-;-|shared\n",
     );
-    check_lines(&rt, rt.alloc(), table)
+    check_lines(&rt, rt.alloc(), table);
 }
 
 #[test]
-fn answers_name_their_file(rt: HostRuntime) -> Result<(), Fail> {
+fn answers_name_their_file(rt: HostRuntime) {
     let table = concat!(
         ";answer;a.toml|;answer;a.toml\n",
         ";answer;-|;answer;-\n",
@@ -159,11 +213,11 @@ fn answers_name_their_file(rt: HostRuntime) -> Result<(), Fail> {
         ";answer;a;--all|wrong\n",
         ";answer;--help|help\n",
     );
-    check_lines(&rt, rt.alloc(), table)
+    check_lines(&rt, rt.alloc(), table);
 }
 
 #[test]
-fn wrong_words_are_refused(rt: HostRuntime) -> Result<(), Fail> {
+fn wrong_words_are_refused(rt: HostRuntime) {
     let table = concat!(
         ";search|wrong\n",
         ";|wrong\n",
@@ -201,11 +255,11 @@ fn wrong_words_are_refused(rt: HostRuntime) -> Result<(), Fail> {
         ";search;--version|wrong\n",
         ";run;-V|wrong\n",
     );
-    check_lines(&rt, rt.alloc(), table)
+    check_lines(&rt, rt.alloc(), table);
 }
 
 #[test]
-fn help_and_the_version_are_no_errors(rt: HostRuntime) -> Result<(), Fail> {
+fn help_and_the_version_are_no_errors(rt: HostRuntime) {
     let table = concat!(
         ";--help|help\n",
         ";-h|help\n",
@@ -219,5 +273,5 @@ fn help_and_the_version_are_no_errors(rt: HostRuntime) -> Result<(), Fail> {
         ";-V|version\n",
         ";--version;search|version\n",
     );
-    check_lines(&rt, rt.alloc(), table)
+    check_lines(&rt, rt.alloc(), table);
 }
