@@ -2,8 +2,6 @@
 
 use lf_hints::{check_hint, run_hint, search_hint};
 use std::alloc::{AllocError, Global};
-use std::process::Abort;
-use std::test::Fail;
 
 /// A scenario, in the order of its keys.
 const SCENARIO: &str = concat!(
@@ -66,19 +64,20 @@ fn hint(alloc: Global, what: &str, given: &str) -> Result<String, AllocError> {
     }
 }
 
-/// The hint of a row begins as the row says.
-fn is_told(rt: &impl Abort, alloc: Global, row: &str) -> Result<(), Fail> {
+/// Whether the hint of a row begins as the row says.
+fn is_told(alloc: Global, row: &str) -> bool {
     let (what, rest) = columns(row);
     let (given, expected) = columns(rest);
-    let found = hint(alloc, what, given)?;
-    assert!(rt; found.as_str().starts_with(expected), "at {row}: {found}");
-    Ok(())
+    match hint(alloc, what, given) {
+        Ok(found) => found.as_str().starts_with(expected),
+        Err(_) => false,
+    }
 }
 
 #[test]
-fn refusals_are_told_in_words(rt: HostRuntime) -> Result<(), Fail> {
+fn refusals_are_told_in_words(rt: HostRuntime) {
     for row in HINTS.lines() {
-        is_told(&rt, rt.alloc(), row)?;
+        let is_told = is_told(rt.alloc(), row);
+        assert!(&rt; is_told, "at {row}");
     }
-    Ok(())
 }
