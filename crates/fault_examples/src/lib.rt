@@ -11,6 +11,8 @@ pub mod mazes;
 #[cfg(test)]
 mod order;
 #[cfg(test)]
+mod rows;
+#[cfg(test)]
 mod texts;
 #[cfg(test)]
 mod walks;

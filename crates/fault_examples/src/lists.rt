@@ -2,6 +2,7 @@
 
 ghost use Rattle.std.specs.Prelude.{◌≡◌, ◌↔◌, IsTrue};
 
+use crate::rows::agrees;
 use lf_list::Listed;
 use std::alloc::{AllocError, Global};
 
@@ -54,24 +55,35 @@ fn branch(alloc: Global, last: u32) -> Result<Tree, AllocError> {
     Ok(Tree::Branch(Listed::from_vec(kids)))
 }
 
-#[test]
-fn a_tree_of_lists_is_compared_by_recursion(rt: HostRuntime) -> Result<(), AllocError> {
-    let one = branch(rt.alloc(), 2)?;
-    let two = branch(rt.alloc(), 2)?;
-    let three = branch(rt.alloc(), 3)?;
-    assert!(rt; same(&one, &two));
-    assert!(rt; !same(&one, &three));
-    Ok(())
+/// Whether the trees with these last leaves are equal. None where there is no memory.
+fn are_same(alloc: Global, one: u32, other: u32) -> Option<bool> {
+    match (branch(alloc, one), branch(alloc, other)) {
+        (Ok(one), Ok(other)) => Some(same(&one, &other)),
+        _ => None,
+    }
 }
 
 #[test]
-fn a_list_gives_back_its_items(rt: HostRuntime) -> Result<(), AllocError> {
-    let list = Listed::from_vec(vec![in rt.alloc(); 3u32, 1, 2]?);
-    assert_eq!(rt; list.len(), 3);
-    assert!(rt; !list.is_empty());
-    assert_eq!(rt; list.as_slice()[0], 3);
+fn a_tree_of_lists_is_compared_by_recursion(rt: HostRuntime) {
+    let one_is_two = are_same(rt.alloc(), 2, 2);
+    let one_is_three = are_same(rt.alloc(), 2, 3);
+    let compared = one_is_two == Some(true) && one_is_three == Some(false);
+    agrees(&rt, compared, "trees of lists");
+}
+
+/// Whether a list of the items, which are 3, 1 and 2, has them and gives them back.
+fn is_given_back(items: Vec<u32>) -> bool {
+    let list = Listed::from_vec(items);
+    let has_them = list.len() == 3 && !list.is_empty() && list.as_slice()[0] == 3;
     let items = list.into_vec();
-    assert_eq!(rt; items.len(), 3);
-    assert_eq!(rt; items[2], 2);
-    Ok(())
+    has_them && items.len() == 3 && items[2] == 2
+}
+
+#[test]
+fn a_list_gives_back_its_items(rt: HostRuntime) {
+    let given_back = match vec![in rt.alloc(); 3u32, 1, 2] {
+        Ok(items) => is_given_back(items),
+        Err(_) => false,
+    };
+    agrees(&rt, given_back, "3, 1 and 2");
 }
