@@ -136,10 +136,10 @@ fn by_rule(number: u32, step: u32, least: u32, spread: u32) -> u64 {
 }
 
 /// Whether a link of four nodes, if it is one, has its delays, and its notes arrive by the rule.
-fn link_is_the_rule(network: &Network, from: u32, to: u32) -> bool {
-    if network.nodes() != 4 || network.horizon() != 48 {
-        return false;
-    }
+fn link_is_the_rule(network: &Network, from: u32, to: u32) -> bool
+    requires nodes { network.now.nodes ≡ 4 }
+    requires horizon { network.now.horizon ≡ 48 }
+{
     if !is_pair(4, from, to) {
         return true;
     }
