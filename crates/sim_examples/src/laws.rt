@@ -11,7 +11,6 @@ use crate::texts::{agrees, set, setting};
 use lf_faults::FaultSet;
 use lf_sim::{Machine, Setting, Slot, inboxes_of, run, same_until};
 use std::alloc::{AllocError, Global};
-use std::test::Fail;
 
 /// Whether a node is up at a step, its state after it, and what it sends to another in it: each as the definition of
 /// runs says.
@@ -45,22 +44,44 @@ fn nothing_changes_before<State, Note, Fact>()
     same_until::<State, Note, Fact>();
 }
 
-#[test]
-fn laws_have_no_premise_left(rt: HostRuntime) -> Result<(), Fail> {
-    nothing_changes_before::<u32, u32, u32>();
-    let Some(setting) = setting(Ring, 1, 0, 2) else {
-        return Err("a ring")?;
+/// Whether to node 1 there comes at step 3 what the others sent at step 2.
+fn comes(setting: &Setting<Ring>) -> bool
+    requires { setting.now.spec.horizon ≡ 14 }
+{
+    let slots = [
+        Slot { from: 0, sent: 2 },
+        Slot { from: 2, sent: 2 },
+        Slot { from: 3, sent: 2 },
+    ];
+    setting.arriving(1, 3) == slots.as_slice()
+}
+
+/// Whether in the run node 1 is down at step 4, and node 3 is up at step 2, with its state and what it sends to node 1.
+fn has_points(alloc: Global, setting: &Setting<Ring>, set: &FaultSet) -> bool
+    requires { setting.now.spec.horizon ≡ 14 }
+{
+    let crashed = point(alloc, setting, set, 1, 3, 4);
+    // At step 2 the note 2, which node 2 sent at step 1, has reached node 3.
+    let told = point(alloc, setting, set, 3, 1, 2);
+    match (crashed, told) {
+        (Ok((is_up, _, _)), Ok((up, state, sent))) => {
+            !is_up && up && state == 3 * 5 + 2 + 2 + 3 && sent == Some(2)
+        }
+        _ => false,
+    }
+}
+
+/// Whether the laws hold at a ring, where these points are found.
+fn ring_has_points(alloc: Global) -> bool {
+    let (Some(setting), Some(set)) = (setting(Ring, 1, 0, 2), set("omit 0>1 @1,crash 1 @4")) else {
+        return false;
     };
     inboxes_of(&setting);
-    let slots = [(0, 2), (2, 2), (3, 2)].map(|(from, sent)| Slot { from, sent });
-    let comes = setting.arriving(1, 3) == slots.as_slice();
-    agrees(&rt, comes, true, "what comes to node 1 at step 3")?;
-    let set = set("omit 0>1 @1,crash 1 @4").ok_or("a set")?;
-    let crashed = point(rt.alloc(), &setting, &set, 1, 3, 4)?;
-    agrees(&rt, crashed.0, false, "node 1 at step 4")?;
-    // At step 2 the note 2, which node 2 sent at step 1, has reached node 3.
-    let (up, state, sent) = point(rt.alloc(), &setting, &set, 3, 1, 2)?;
-    agrees(&rt, up, true, "node 3 at step 2")?;
-    agrees(&rt, state, 3 * 5 + 2 + 2 + 3, "its state")?;
-    agrees(&rt, sent, Some(2), "what it sends to node 1")
+    comes(&setting) && has_points(alloc, &setting, &set)
+}
+
+#[test]
+fn laws_have_no_premise_left(rt: HostRuntime) {
+    nothing_changes_before::<u32, u32, u32>();
+    agrees(&rt, ring_has_points(rt.alloc()), "a ring");
 }

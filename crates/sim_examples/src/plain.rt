@@ -48,7 +48,7 @@ fn place(nodes: u32, node: u32, t: u32) -> usize {
     t.saturating_mul(nodes).saturating_add(node) as usize
 }
 
-/// What every node does, step by step and node by node.
+/// What every node does, step by step and node by node, from before the first step on.
 pub(crate) fn plain<M: Machine>(
     alloc: Global,
     setting: &Setting<M>,
@@ -56,19 +56,34 @@ pub(crate) fn plain<M: Machine>(
 ) -> Result<Vec<Stepped<M::State, M::Note>>, AllocError> {
     let nodes = setting.machine.nodes();
     let mut cells = Vec::new(alloc);
-    for node in 0..nodes {
-        cells.push(Stepped {
-            state: setting.machine.start(node),
-            out: Out::none(),
-        })?;
-    }
-    for t in 1..setting.spec.horizon() + 1 {
+    for t in 0..setting.spec.horizon() + 1 {
         for node in 0..nodes {
-            let cell = turn(alloc, setting, set, &cells, node, t)?;
+            let cell = cell(alloc, setting, set, &cells, node, t)?;
             cells.push(cell)?;
         }
     }
     Ok(cells)
+}
+
+/// What a node does at a step, or its start before the first.
+fn cell<M: Machine>(
+    alloc: Global,
+    setting: &Setting<M>,
+    set: &FaultSet,
+    cells: &[Stepped<M::State, M::Note>],
+    node: u32,
+    t: u32,
+) -> Result<Stepped<M::State, M::Note>, AllocError>
+    requires node { node < (M.rules setting.now.machine).nodes }
+    requires last { t ≤ 48 }
+{
+    if t > 0 {
+        return turn(alloc, setting, set, cells, node, t);
+    }
+    Ok(Stepped {
+        state: setting.machine.start(node),
+        out: Out::none(),
+    })
 }
 
 /// What a node does at a step.

@@ -4,10 +4,9 @@ use crate::machines::{Hub, Ring};
 use crate::plain::{is_plain, plain};
 use crate::texts::{agrees, set, setting};
 use lf_faults::FaultSet;
-use lf_sim::{Machine, Setting, run, run_reusing, runs_agree};
-use std::alloc::{AllocError, Global};
+use lf_sim::{Machine, Setting, Stepped, run, run_reusing, runs_agree};
+use std::alloc::Global;
 use std::process::Abort;
-use std::test::Fail;
 
 /// Sets with each kind of fault, and with pauses in each place to crashes, other pauses and the end.
 const SETS: &str = concat!(
@@ -25,39 +24,67 @@ const SETS: &str = concat!(
     "omit 1>0 @5,omit 2>0 @6,crash 3 @7,pause 0 @4,pause 1 @4,crash 2 @11\n",
 );
 
-/// Whether the set makes the run that the plain evaluation finds, and then so in the memory of the run of another set.
-fn is_plain_run<M: Machine>(
+/// Whether the run of a set is the one of these cells, and then so in the memory of the run of another set.
+fn has_cells<M: Machine>(
     alloc: Global,
     setting: &Setting<M>,
     before: &FaultSet,
     set: &FaultSet,
-) -> Result<bool, AllocError> {
-    let cells = plain(alloc, setting, set)?;
-    let found = run(alloc, setting, set)?;
-    let spent = run_reusing(setting, set, run(alloc, setting, before)?);
-    runs_agree(setting, &found, &spent);
-    Ok(is_plain(setting, &found, set, &cells) && is_plain(setting, &spent, set, &cells))
+    cells: &[Stepped<M::State, M::Note>],
+) -> bool {
+    match (run(alloc, setting, set), run(alloc, setting, before)) {
+        (Ok(found), Ok(before)) => {
+            let spent = run_reusing(setting, set, before);
+            runs_agree(setting, &found, &spent);
+            is_plain(setting, &found, set, cells) && is_plain(setting, &spent, set, cells)
+        }
+        _ => false,
+    }
+}
+
+/// Whether the set of a row makes the run that the plain evaluation finds, and then so in the memory of the run of another set, in place of
+/// which it is put.
+fn is_plain_run<M: Machine>(
+    alloc: Global,
+    setting: &Setting<M>,
+    before: &mut FaultSet,
+    row: &str,
+) -> bool {
+    let Some(set) = set(row) else {
+        return false;
+    };
+    let spent = *before;
+    *before = set;
+    match plain(alloc, setting, &set) {
+        Ok(cells) => has_cells(alloc, setting, &spent, &set, cells.as_slice()),
+        Err(_) => false,
+    }
 }
 
 /// Each of the sets makes the run, and then the run in the memory of the one before, that the plain evaluation finds.
-fn are_plain<M: Machine>(rt: &impl Abort, alloc: Global, setting: &Setting<M>) -> Result<(), Fail> {
+fn are_plain<M: Machine>(rt: &impl Abort, alloc: Global, setting: &Setting<M>) {
     let mut before = FaultSet::empty();
     for row in SETS.lines() {
-        let set = set(row).ok_or("a set")?;
-        let same = is_plain_run(alloc, setting, &before, &set)?;
-        agrees(rt, same, true, row)?;
-        before = set;
+        agrees(rt, is_plain_run(alloc, setting, &mut before, row), row);
     }
-    Ok(())
+}
+
+/// The same of the setting, and there is one.
+fn is_plain_setting<M: Machine + Drop>(
+    rt: &impl Abort,
+    alloc: Global,
+    setting: Option<Setting<M>>,
+) {
+    match setting {
+        Some(setting) => are_plain(rt, alloc, &setting),
+        None => agrees(rt, false, "no setting"),
+    }
 }
 
 #[test]
-fn runs_are_the_plain_ones(rt: HostRuntime) -> Result<(), Fail> {
+fn runs_are_the_plain_ones(rt: HostRuntime) {
     for (least, spread, length) in [(1, 0, 2), (1, 3, 3), (2, 5, 1), (1, 9, 8)] {
-        let ring = setting(Ring, least, spread, length).ok_or("a ring")?;
-        are_plain(&rt, rt.alloc(), &ring)?;
-        let hub = setting(Hub, least, spread, length).ok_or("a hub")?;
-        are_plain(&rt, rt.alloc(), &hub)?;
+        is_plain_setting(&rt, rt.alloc(), setting(Ring, least, spread, length));
+        is_plain_setting(&rt, rt.alloc(), setting(Hub, least, spread, length));
     }
-    Ok(())
 }

@@ -6,17 +6,15 @@ use lf_faults::{FaultSet, FaultSpec, read_fault};
 use lf_latency::{Links, Network};
 use lf_sim::{Machine, Setting};
 use std::process::Abort;
-use std::test::Fail;
 
-/// What is found is what is expected, in the row of this name. Each comparison is this one: an assertion is dear to prove.
-pub(crate) fn agrees<T: Copy + Eq>(
-    rt: &impl Abort,
-    found: T,
-    expected: T,
-    name: &str,
-) -> Result<(), Fail> {
-    assert!(rt; found == expected, "at {name}");
-    Ok(())
+/// What is found at the row is what it says. Each comparison ends here: an assertion is dear to prove.
+pub(crate) fn agrees(rt: &impl Abort, truth: bool, row: &str) {
+    assert!(rt; truth, "at {row}");
+}
+
+/// The set with the fault of a text more.
+fn with(set: &FaultSet, text: &str) -> Option<FaultSet> {
+    set.insert(read_fault(text)?)
 }
 
 /// The set of a list of faults.
@@ -26,9 +24,16 @@ pub(crate) fn set(text: &str) -> Option<FaultSet> {
         return Some(set);
     }
     for item in text.split(',') {
-        set = set.insert(read_fault(item)?)?;
+        set = with(&set, item)?;
     }
     Some(set)
+}
+
+/// Bounds of 14 steps.
+fn bounds(nodes: u32, length: u32) -> Option<FaultSpec>
+    ensures { IfSome result (λ spec. spec.horizon ≡ 14) }
+{
+    FaultSpec::new(nodes, 14, 13, nodes, 6)?.with_pauses(nodes, length)
 }
 
 /// A machine's setting, of 14 steps. A note takes `least` steps, and up to `spread` more, and a pause `length`.
@@ -46,6 +51,8 @@ pub(crate) fn setting<M: Machine + Drop>(
     let nodes = machine.nodes();
     let links = Links::new(nodes, least, spread);
     let network = Network::new([least as u8; 32], links, nodes, 14);
-    let spec = FaultSpec::new(nodes, 14, 13, nodes, 6)?.with_pauses(nodes, length)?;
-    Setting::new(machine, network, spec)
+    match bounds(nodes, length) {
+        Some(spec) => Setting::new(machine, network, spec),
+        None => None,
+    }
 }
