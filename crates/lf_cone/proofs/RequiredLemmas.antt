@@ -45,6 +45,17 @@ late-place b last (Omit n m t) h is less short = omega (arith, h.0, h.1, h.3, is
 late-place b last (Crash n t) h is less short = omega (arith, h.0, h.1, is.2)
 late-place b last (Pause n t) h is less short = omega (arith, h.0, h.1, is.2)
 
+-- a step that is reached before the end of all is one of them
+pub within_end : (t last horizon : ℕ) → t < last + 1 → last ≡ horizon → t ≤ horizon
+within_end t last horizon below same = omega arith
+
+pub less_than_same : (a b c d : ℕ) → a < b → a ≡ c → b ≡ d → c < d
+less_than_same a b c d less left right = omega arith
+
+-- where a step's places end the next one's begin
+pub next_step : (t : ℕ) → t * 80 ≡ (t + 1 - 1) * 80
+next_step t = omega arith
+
 module _ {State Note Fact : Type 0} (w : World State Note Fact) (faults : List Parts) (b : Bounds) (reach : List ℕ) (excluded : List Parts)
     (limits : IsInLimits b) where
   abbrev P : Parts → Type 0

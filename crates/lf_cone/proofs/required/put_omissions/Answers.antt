@@ -1,6 +1,6 @@
-use Rattle.std.proofs.Common.{◌<◌, sym, ◌∙◌, arith}
+use Rattle.std.proofs.Common.{◌<◌, ◌≤◌, refl, subst, sym, ◌∙◌, arith}
 use Rattle.lf_sim.specs.Settings.{world_of}
-use Rattle.lf_cone.proofs.RequiredLemmas.{skip_sender, end_senders, skip_omissions}
+use Rattle.lf_cone.proofs.RequiredLemmas.{less_than_same, skip_sender, end_senders, skip_omissions}
 use Rattle.lf_cone.proofs.required.put_omissions.Goals as goal
 use Rattle.lf_cone.proofs.required.put_omissions.Goals.{then-goes+in_ok-put_omissions_of, else-goes}
 
@@ -36,3 +36,36 @@ returns g c =
     end_senders (world_of s) v.effects.set s.spec v.reach v.marks.faults.now limits c.loop-from.found.items c.loop-from.from t c.requires.first (omega
     (arith, c.loop-from-test.false, c.nodes-from-end.ensures.value))
     (omega (arith, c.loop-from.auto.from-end, c.nodes-from-end.ensures.value, limits.nodes.1)) c.loop-from.invariant
+
+pub put_omissions_of-requires-clause-run : goal.put_omissions_of-requires-clause-run
+put_omissions_of-requires-clause-run g c = c.requires.run
+
+pub put_omissions_of-requires-clause-set : goal.put_omissions_of-requires-clause-set
+put_omissions_of-requires-clause-set g c = c.requires.set
+
+pub put_omissions_of-requires-clause-marks : goal.put_omissions_of-requires-clause-marks
+put_omissions_of-requires-clause-marks g c = c.requires.marks
+
+pub put_omissions_of-requires-clause-allowed : goal.put_omissions_of-requires-clause-allowed
+put_omissions_of-requires-clause-allowed g c = c.requires.allowed
+
+pub put_omissions_of-requires-clause-few : goal.put_omissions_of-requires-clause-few
+put_omissions_of-requires-clause-few g c = c.requires.few
+
+pub put_omissions_of-requires-clause-ends : goal.put_omissions_of-requires-clause-ends
+put_omissions_of-requires-clause-ends g c = c.requires.ends
+
+pub put_omissions_of-requires-clause-first : goal.put_omissions_of-requires-clause-first
+put_omissions_of-requires-clause-first g c = c.requires.first
+
+pub put_omissions_of-requires-clause-from : goal.put_omissions_of-requires-clause-from
+put_omissions_of-requires-clause-from g c = less_than_same _ _ _ _ c.loop-from-test.true refl c.nodes-from-end.ensures.value
+
+pub put_omissions_of-requires-clause-last : goal.put_omissions_of-requires-clause-last
+put_omissions_of-requires-clause-last g c = subst (λ h. c.args.step ≤ h) c.last_omission.ensures.value c.if-step-last_omission.false
+
+pub put_omissions_of-requires-clause-up : goal.put_omissions_of-requires-clause-up
+put_omissions_of-requires-clause-up g c = sym c.goes.ensures.value ∙ c.if-goes.true
+
+pub put_omissions_of-requires-clause-so_far : goal.put_omissions_of-requires-clause-so_far
+put_omissions_of-requires-clause-so_far g c = c.loop-from.invariant

@@ -1,9 +1,9 @@
-use Rattle.std.proofs.Common.{◌<◌, ◌+◌, ◌-◌, ◌*◌, sym, subst, arith}
+use Rattle.std.proofs.Common.{◌<◌, ◌+◌, ◌-◌, ◌*◌, refl, sym, subst, arith}
 use Rattle.std.proofs.lemmas.Bool.{both_ways}
 use Rattle.lf_faults.specs.declared.fault.Parts.TheVariants.{Omit}
 use Rattle.lf_sim.specs.Settings.{world_of}
 use Rattle.lf_cone.specs.Places.{AreOpen}
-use Rattle.lf_cone.proofs.RequiredLemmas.{moved, is-fault, put_one, skip_omission, end_receivers}
+use Rattle.lf_cone.proofs.RequiredLemmas.{less_than_same, moved, is-fault, put_one, skip_omission, end_receivers}
 use Rattle.lf_cone.proofs.required.put_omissions_of.Goals as goal
 use Rattle.lf_cone.proofs.required.put_omissions_of.Goals.{then-tries_omission+in_ok-push, else-tries_omission}
 
@@ -53,3 +53,39 @@ returns g c =
     end_receivers (world_of s) v.effects.set s.spec v.reach v.marks.faults.now limits c.loop-to.found.items c.args.from c.loop-to.to t c.requires.first
     (omega (arith, c.requires.from, limits.nodes.1)) (omega (arith, c.loop-to-test.false, c.nodes-nodes.ensures.value))
     (omega (arith, c.loop-to.auto.to-end, c.nodes-nodes.ensures.value, limits.nodes.1)) c.loop-to.invariant
+
+pub open_slots-slots-requires-clause-run : goal.open_slots-slots-requires-clause-run
+open_slots-slots-requires-clause-run g c = c.requires.run
+
+pub open_slots-slots-requires-clause-from : goal.open_slots-slots-requires-clause-from
+open_slots-slots-requires-clause-from g c = c.requires.from
+
+pub open_slots-slots-requires-clause-first : goal.open_slots-slots-requires-clause-first
+open_slots-slots-requires-clause-first g c = c.requires.first
+
+pub tries_omission-requires-clause-marks : goal.tries_omission-requires-clause-marks
+tries_omission-requires-clause-marks g c = c.requires.marks
+
+pub tries_omission-requires-clause-allowed : goal.tries_omission-requires-clause-allowed
+tries_omission-requires-clause-allowed g c = c.requires.allowed
+
+pub tries_omission-requires-clause-few : goal.tries_omission-requires-clause-few
+tries_omission-requires-clause-few g c = c.requires.few
+
+pub tries_omission-requires-clause-ends : goal.tries_omission-requires-clause-ends
+tries_omission-requires-clause-ends g c = c.requires.ends
+
+pub tries_omission-requires-clause-from : goal.tries_omission-requires-clause-from
+tries_omission-requires-clause-from g c = c.requires.from
+
+pub tries_omission-requires-clause-first : goal.tries_omission-requires-clause-first
+tries_omission-requires-clause-first g c = c.requires.first
+
+pub tries_omission-requires-clause-last : goal.tries_omission-requires-clause-last
+tries_omission-requires-clause-last g c = c.requires.last
+
+pub tries_omission-requires-clause-up : goal.tries_omission-requires-clause-up
+tries_omission-requires-clause-up g c = c.requires.up
+
+pub tries_omission-requires-clause-to : goal.tries_omission-requires-clause-to
+tries_omission-requires-clause-to g c = less_than_same _ _ _ _ c.loop-to-test.true refl c.nodes-nodes.ensures.value

@@ -1,8 +1,8 @@
-use Rattle.std.proofs.Common.{◌<◌, ◌+◌, ◌-◌, ◌*◌, arith}
+use Rattle.std.proofs.Common.{◌<◌, ◌+◌, ◌-◌, ◌*◌, refl, arith}
 use Rattle.std.proofs.lemmas.Bool.{both_ways}
 use Rattle.lf_faults.specs.declared.fault.Parts.TheVariants.{Pause}
 use Rattle.lf_sim.specs.Settings.{world_of}
-use Rattle.lf_cone.proofs.RequiredLemmas.{moved, put_one, skip_pause, end_pauses}
+use Rattle.lf_cone.proofs.RequiredLemmas.{less_than_same, moved, put_one, skip_pause, end_pauses}
 use Rattle.lf_cone.proofs.required.put_pauses.Goals as goal
 use Rattle.lf_cone.proofs.required.put_pauses.Goals.{then-tries_pause+in_ok-push, else-tries_pause}
 
@@ -35,3 +35,24 @@ returns g c =
     end_pauses (world_of s) v.effects.set s.spec v.reach v.marks.faults.now limits c.loop-node.found.items c.loop-node.node t c.requires.first (omega
     (arith, c.loop-node-test.false, c.nodes-node-end.ensures.value))
     (omega (arith, c.loop-node.auto.node-end, c.nodes-node-end.ensures.value, limits.nodes.1)) c.loop-node.invariant
+
+pub tries_pause-requires-clause-marks : goal.tries_pause-requires-clause-marks
+tries_pause-requires-clause-marks g c = c.requires.marks
+
+pub tries_pause-requires-clause-allowed : goal.tries_pause-requires-clause-allowed
+tries_pause-requires-clause-allowed g c = c.requires.allowed
+
+pub tries_pause-requires-clause-room : goal.tries_pause-requires-clause-room
+tries_pause-requires-clause-room g c = c.requires.room
+
+pub tries_pause-requires-clause-ends : goal.tries_pause-requires-clause-ends
+tries_pause-requires-clause-ends g c = c.requires.ends
+
+pub tries_pause-requires-clause-first : goal.tries_pause-requires-clause-first
+tries_pause-requires-clause-first g c = c.requires.first
+
+pub tries_pause-requires-clause-last : goal.tries_pause-requires-clause-last
+tries_pause-requires-clause-last g c = c.requires.last
+
+pub tries_pause-requires-clause-node : goal.tries_pause-requires-clause-node
+tries_pause-requires-clause-node g c = less_than_same _ _ _ _ c.loop-node-test.true refl c.nodes-node-end.ensures.value
