@@ -1,12 +1,18 @@
 -- One table more among those of links.
 use Rattle.std.proofs.Common.{◌≡◌, ℕ, ◌+◌, ◌<◌, ◌≤◌, refl, nat_lt, ◌==◌, ◌&&◌, cond, List, [], ◌∷◌, ◌++◌}
-use Rattle.std.proofs.Common.{length, get_or, drop, fold, map, Ok, String, BTreeMap, Global, inl, inr, sym, ap, ◌∙◌}
+use Rattle.std.proofs.Common.{length, get_or, drop, fold, map, Ok, Err, String, BTreeMap, Global, inl, inr, sym, ap, ◌∙◌}
 use Rattle.std.proofs.lemmas.Bool.{and_from, and_parts, cases_Bool, cases_eq, eq-eqb, false≢true, lt-ltb, ltb-true, ne_eqb, and_right}
-use Rattle.std.proofs.lemmas.List.{drop_more}
-use Rattle.toml.specs.Data.{item, table, Items}
-use Rattle.toml.specs.View.{view, items_view, members_view}
-use Rattle.toml.specs.declared.value.Value.{Value, Table}
+use Rattle.std.proofs.lemmas.List.{drop_all, drop_more}
+use Rattle.toml.specs.Data.{Data, item, table, Items}
+use Rattle.toml.specs.View.{view, view_step, items_view, members_view}
+use Rattle.toml.specs.declared.value.Value.{Value, Table, fold_out-Value, out-Value, roll-Value, roll-out-Value}
+use Rattle.toml.specs.declared.value.Value.TheVariants.{rolls-Table}
+use Rattle.toml.specs.declared.value.Value.TheOpen.{Value-F}
+use Rattle.toml.specs.declared.value.Value.TheFolds.{map-Value}
 use Rattle.toml.proofs.Views.{items_view-drop, view-Table}
+use Rattle.lf_scenario.specs.declared.error.ScenarioError.{ScenarioError}
+use Rattle.lf_scenario.specs.declared.error.ScenarioError.TheVariants as refusals
+use Rattle.lf_scenario.specs.declared.key.Key.TheVariants as keys
 use Rattle.lf_scenario.specs.declared.links.Link.{Link}
 use Rattle.lf_scenario.specs.Values.{◌>>=◌}
 use Rattle.lf_scenario.specs.LinkTables.{least_given, link_in, links_from, links_of, spread_given, table_by}
@@ -33,6 +39,42 @@ links_from-step nodes least spread before after vs i v t link within here is rea
     ap (λ b. links_from nodes least spread b rest) pushed
     ∙ ap (λ r. r >>= (λ l. links_from nodes least spread (before ++ l ∷ []) rest)) read
     ∙ sym (ap (links_from nodes least spread before) (shape vs i v t within here is))
+
+-- a table without a link
+pub links_from-wrong : (nodes least spread : ℕ) (before : List Link) (vs : List Value) (i : ℕ) (v : Value) (t : BTreeMap (String Global) Value)
+    (e : ScenarioError)
+    → i < length vs → v ≡ get_or vs i v → v ≡ Table t → Err e ≡ link_in nodes least spread before (members_view t.entries)
+    → links_from nodes least spread before (items_view (drop i vs)) ≡ Err e
+links_from-wrong nodes least spread before vs i v t e within here is read =
+    let rest : Items = items_view (drop (i + 1) vs) in
+    ap (links_from nodes least spread before) (shape vs i v t within here is)
+    ∙ ap (λ r. r >>= (λ l. links_from nodes least spread (before ++ l ∷ []) rest)) (sym read)
+
+-- an item that is no table
+other-view : (nodes least spread : ℕ) (before : List Link) (ds : Items) (y : Value-F Value)
+    → ((m : BTreeMap (String Global) Value) → y ≡ Value-F.Table m → ⊥)
+    → links_from nodes least spread before (item (view_step (map-Value Value Data view y)) ds) ≡ Err (refusals.WrongKind keys.Links)
+other-view nodes least spread before ds (Value-F.String s) h = refl
+other-view nodes least spread before ds (Value-F.Integer z) h = refl
+other-view nodes least spread before ds (Value-F.Float x) h = refl
+other-view nodes least spread before ds (Value-F.Boolean b) h = refl
+other-view nodes least spread before ds (Value-F.Datetime t) h = refl
+other-view nodes least spread before ds (Value-F.Array v) h = refl
+other-view nodes least spread before ds (Value-F.Table m) h = absurd (h m refl)
+
+pub links_from-other : (nodes least spread : ℕ) (before : List Link) (vs : List Value) (i : ℕ) (v : Value)
+    → i < length vs → v ≡ get_or vs i v → ((m : BTreeMap (String Global) Value) → v ≡ Table m → ⊥)
+    → links_from nodes least spread before (items_view (drop i vs)) ≡ Err (refusals.WrongKind keys.Links)
+links_from-other nodes least spread before vs i v within here other =
+    let rest : Items = items_view (drop (i + 1) vs) in
+    let seen : view v ≡ view_step (map-Value Value Data view (out-Value v)) = fold_out-Value Data view_step v in
+    ap (links_from nodes least spread before) (items_view-drop vs i v within ∙ ap (λ d. item d rest) (ap view (sym here) ∙ seen))
+    ∙ other-view nodes least spread before rest (out-Value v) (λ m is. other m (sym (roll-out-Value v) ∙ ap roll-Value is ∙ rolls-Table m))
+
+-- after the last
+pub links_from-last : (nodes least spread : ℕ) (before : List Link) (vs : List Value) (i : ℕ) → length vs ≤ i
+    → links_from nodes least spread before (items_view (drop i vs)) ≡ Ok before
+links_from-last nodes least spread before vs i far = ap (λ xs. links_from nodes least spread before (items_view xs)) (drop_all i vs far)
 
 -- a link's own delay at its ends, and the one before elsewhere
 chosen : (from to n m own old new : ℕ) → (n ≡ from → m ≡ to → new ≡ own) → ((n ≡ from → m ≡ to → ⊥) → new ≡ old)

@@ -1,6 +1,9 @@
-use Rattle.std.proofs.Common.{sym, ◌∙◌}
-use Rattle.serde_json.specs.View.{view}
+use Rattle.std.proofs.Common.{◌≡◌, ◌≢◌, [], ◌∷◌, ◌++◌, Ok, Err, sym, ap, ◌∙◌, rules}
+use Rattle.serde_json.specs.View.{view, items_view}
+use Rattle.lf_tree.specs.declared.fault.TreeFault.TheVariants.{Memory}
+use Rattle.lf_tree.specs.Reading.{all_in, node_in}
 use Rattle.lf_tree.specs.Views.{three_view}
+use Rattle.lf_tree.proofs.Items.{read-last, read-more, read-wrong}
 use Rattle.lf_tree.proofs.NodeSteps.{node_in-leaf, node_in-form, node_in-deep, node_in-branch, ok_of, err_of, ok_same, err_same}
 use Rattle.lf_tree.proofs.nodes.+node.Goals as goal
 
@@ -34,3 +37,21 @@ node_in-returns-clause-err t c =
     (node_in-branch c.args.room (view c.args.value.now) (three_view c.in-Some-three_in.parts) c.in_default.ensures c.in-Some-three_in.ensures
     c.if-room-eq0.false)
     c.branch_in.ensures.err
+
+pub nodes_in-returns-in_err-kid-clause-err : goal.nodes_in-returns-in_err-kid-clause-err
+nodes_in-returns-in_err-kid-clause-err t c =
+    let e = c.in_err-kid.field-0.0 in
+    let wrong : e ≢ Memory → all_in (node_in c.args.room) (items_view c.args.items.now) ≡ Err e =
+    λ other. read-wrong (node_in c.args.room) c.args.items.now c.items.kids.items c.items.item-index _ c.items.invariant c.item-item.result e
+        c.items-test.true c.item-item.is (sym (c.in_err-kid.ensures.err other)) in
+    search rules
+
+pub nodes_in-items-preserved : goal.nodes_in-items-preserved
+nodes_in-items-preserved t c =
+    let pushed : c.push.new.self.items ≡ c.items.kids.items ++ c.in_ok-kid.kid ∷ [] = search rules in
+    read-more (node_in c.args.room) c.args.items.now c.items.kids.items c.items.item-index _ c.items.invariant c.push.new.self.items c.item-item.result
+        c.in_ok-kid.kid c.items-test.true c.item-item.is (sym c.in_ok-kid.ensures.ok) pushed
+
+pub nodes_in-returns-clause-ok : goal.nodes_in-returns-clause-ok
+nodes_in-returns-clause-ok t c =
+    read-last (node_in c.args.room) c.args.items.now c.items.kids.items c.items.item-index _ c.items.invariant c.items-test.false ∙ ap Ok (sym c.from_vec.ensures)
