@@ -2,7 +2,8 @@
 
 ghost use Rattle.std.specs.Prelude.{◌≡◌, ◌≢◌, ◌+◌, ◌<◌, ◌≤◌, ◌↔◌, ◌++◌, ◌==◌, [], Err, IfErr, IfOk, OnOk, codes, if◌then◌else◌, length, map};
 ghost use Rattle.std.specs.Fmt.{decimal};
-ghost use Rattle.lf_faults.specs.Texts.{node_at_step};
+ghost use Rattle.lf_faults.specs.Faults.{IsFault};
+ghost use Rattle.lf_faults.specs.Texts.{node_at_step, spelling};
 ghost use Rattle.lf_tree.specs.Texts.{answer_text, faults_text, in_brackets, most_bytes, node_text, quoted, tree_text};
 
 use crate::pauses::format_number;
@@ -131,24 +132,38 @@ fn put_comma(text: &mut Vec<u8>, place: usize) -> Result<(), AllocError>
 fn put_fault(text: &mut Vec<u8>, fault: &Fault) -> Result<(), AllocError>
     ensures { OnOk result (text.new.items ≡ text.old.items ++ quoted fault.now) }
 {
-    match fault.parts() {
-        Parts::Omit { from, to, step } => {
-            text.extend_from_slice(b"\"omit ")?;
-            put_number(text, from)?;
-            text.push(b'>')?;
-            put_node_at_step(text, to, step)?;
-        }
+    put_parts(text, fault.parts())?;
+    text.push(b'"')?;
+    Ok(())
+}
+
+/// Writes a quote and the spelling of a fault.
+fn put_parts(text: &mut Vec<u8>, parts: Parts) -> Result<(), AllocError>
+    requires { IsFault parts }
+    ensures { OnOk result (text.new.items ≡ text.old.items ++ (codes "\"" ++ spelling parts)) }
+{
+    match parts {
+        Parts::Omit { from, to, step } => put_omit(text, from, to, step),
         Parts::Crash { node, step } => {
             text.extend_from_slice(b"\"crash ")?;
-            put_node_at_step(text, node, step)?;
+            put_node_at_step(text, node, step)
         }
         Parts::Pause { node, step } => {
             text.extend_from_slice(b"\"pause ")?;
-            put_node_at_step(text, node, step)?;
+            put_node_at_step(text, node, step)
         }
     }
-    text.push(b'"')?;
-    Ok(())
+}
+
+/// Writes a quote and the spelling of an omission.
+fn put_omit(text: &mut Vec<u8>, from: u32, to: u32, step: u32) -> Result<(), AllocError>
+    requires { IsFault (Parts.Omit from to step) }
+    ensures { OnOk result (text.new.items ≡ text.old.items ++ (codes "\"" ++ spelling (Parts.Omit from to step))) }
+{
+    text.extend_from_slice(b"\"omit ")?;
+    put_number(text, from)?;
+    text.push(b'>')?;
+    put_node_at_step(text, to, step)
 }
 
 /// Writes a node and a step, as `3 @10`.
