@@ -1,6 +1,6 @@
-use Rattle.std.proofs.Common.{arith, map, ◌++◌}
+use Rattle.std.proofs.Common.{refl, arith, map, ◌++◌}
 use Rattle.lf_tree.specs.Texts.{in_brackets, node_text}
-use Rattle.lf_tree.proofs.ListLemmas.{list-more}
+use Rattle.lf_tree.proofs.ListLemmas.{list-first, list-last, list-more}
 use Rattle.lf_tree.proofs.PutLemmas.{put-Branch, put-Misses, put-Reaches}
 use Rattle.lf_tree.proofs.write.+put.Goals as goal
 
@@ -29,3 +29,12 @@ put_node-returns-in_ok-push-in-Branch t c =
     c.in_ok-extend_from_slice-in-Branch.ensures.items c.in_ok-put_faults-in-Branch.ensures
     c.in_ok-extend_from_slice-in-Branch-2.ensures.items c.in_ok-put_kids-in-Branch.ensures
     c.in_ok-extend_from_slice-in-Branch-3.ensures.items c.in_ok-put_reach-in-Branch.ensures c.in_ok-push-in-Branch.ensures.items
+
+pub put_kids-kids-init : goal.put_kids-kids-init
+put_kids-kids-init t c =
+    list-first node_text c.args.kids.now c.args.kids.now c.args.text.now.items c.push.new.self.items refl c.in_ok-push.ensures.items
+
+pub put_kids-returns : goal.put_kids-returns
+put_kids-returns t c =
+    list-last node_text c.args.kids.now c.kids.i c.kids.text.items c.push-2.new.self.items
+    (c.args.text.now.items ++ in_brackets (map node_text c.args.kids.now)) (omega arith) c.kids.invariant c.in_ok-push-2.ensures.items
