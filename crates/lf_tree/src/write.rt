@@ -37,14 +37,22 @@ fn written(alloc: Global, tree: &Tree, length: usize) -> Result<Vec<u8>, AllocEr
     ensures { IfOk result (λ text. text.items ≡ tree_text tree.now) }
 {
     let mut text = Vec::with_capacity(alloc, length)?;
-    text.extend_from_slice(b"{\"answer\":")?;
-    put_answer(&mut text, &tree.answer)?;
-    text.extend_from_slice(b",\"format\":")?;
-    put_number(&mut text, format_number(tree))?;
-    text.extend_from_slice(b",\"root\":")?;
-    put_node(&mut text, &tree.root)?;
-    text.push(b'}')?;
+    put_tree(&mut text, tree)?;
     Ok(text)
+}
+
+/// Writes a tree.
+fn put_tree(text: &mut Vec<u8>, tree: &Tree) -> Result<(), AllocError>
+    ensures { OnOk result (text.new.items ≡ text.old.items ++ tree_text tree.now) }
+{
+    text.extend_from_slice(b"{\"answer\":")?;
+    put_answer(text, &tree.answer)?;
+    text.extend_from_slice(b",\"format\":")?;
+    put_number(text, format_number(tree))?;
+    text.extend_from_slice(b",\"root\":")?;
+    put_node(text, &tree.root)?;
+    text.push(b'}')?;
+    Ok(())
 }
 
 /// Writes the answer of a tree.
