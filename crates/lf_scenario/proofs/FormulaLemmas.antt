@@ -89,7 +89,7 @@ formula_in-unnamed k b v items vs first list same some here other =
     ap view (sym here) ∙ fold_out-Value Data view_step first in
     ap (formula_in k b) (whole ∙ ap array (split ∙ ap (λ d. item d (items_view (drop 1 vs))) seen))
     ∙ other-first k b (items_view (drop 1 vs)) (out-Value first)
-        (λ s is. other s (sym (roll-out-Value first) ∙ ap roll-Value is ∙ rolls-String s))
+    (λ s is. other s (sym (roll-out-Value first) ∙ ap roll-Value is ∙ rolls-String s))
 
 -- one part more, and what was read before
 joined : (done : List (Formula Fact)) (x : Formula Fact) (more : Reading (List (Formula Fact)))

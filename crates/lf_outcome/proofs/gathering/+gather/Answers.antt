@@ -121,7 +121,8 @@ gather-returns-in_ok-push-in-Shows-clause-points g t c =
     let w = world_of c.args.setting.now in
     let faults = set_of c.args.run.now in
     let pushed : c.push.new.self.items ≡ c.args.points.now.items ++ record { node = c.in-Shows.node; step = c.in-Shows.step } ∷ [] = search rules in
-    pushed ∙ behind-shows (is_down w faults) (is_shown w faults) c.args.formula.now c.in-Shows.node c.in-Shows.step c.in-Shows.fact c.args.points.now.items c.in-Shows.is (sym c.shows-shown.ensures ∙ c.if-shown.true)
+    pushed ∙ behind-shows (is_down w faults) (is_shown w faults) c.args.formula.now c.in-Shows.node c.in-Shows.step c.in-Shows.fact
+    c.args.points.now.items c.in-Shows.is (sym c.shows-shown.ensures ∙ c.if-shown.true)
 
 pub gather-returns-else-shown-clause-found : goal.gather-returns-else-shown-clause-found
 gather-returns-else-shown-clause-found g t c =
@@ -133,4 +134,5 @@ pub gather-returns-else-shown-clause-points : goal.gather-returns-else-shown-cla
 gather-returns-else-shown-clause-points g t c =
     let w = world_of c.args.setting.now in
     let faults = set_of c.args.run.now in
-    behind-hidden (is_down w faults) (is_shown w faults) c.args.formula.now c.in-Shows.node c.in-Shows.step c.in-Shows.fact _ c.in-Shows.is (sym c.shows-shown.ensures ∙ c.if-shown.false)
+    behind-hidden (is_down w faults) (is_shown w faults) c.args.formula.now c.in-Shows.node c.in-Shows.step c.in-Shows.fact _
+    c.in-Shows.is (sym c.shows-shown.ensures ∙ c.if-shown.false)

@@ -11,7 +11,7 @@ returns-in_err-link-in-Table-clause-err c =
     let wrong : links_from u.nodes u.least u.spread [] (array_view c.args.items.now) ≡ Err c.in_err-link-in-Table.field-0.0 =
     ap (λ vs. links_from u.nodes u.least u.spread [] (items_view vs)) (sym c.deref-value-items.ensures.value) ∙ sym c.items.invariant.same
     ∙ links_from-wrong u.nodes u.least u.spread c.items.links.items c.deref-value-items.result.now c.items.value-index c.value-item.result
-        c.in-Table.table c.in_err-link-in-Table.field-0.0 c.items-test.true c.value-item.is c.in-Table.is (search rules) in
+    c.in-Table.table c.in_err-link-in-Table.field-0.0 c.items-test.true c.value-item.is c.in-Table.is (search rules) in
     search rules
 
 pub returns-in_default-clause-err : goal.returns-in_default-clause-err
@@ -20,7 +20,7 @@ returns-in_default-clause-err c =
     λ other.
     ap (λ vs. links_from u.nodes u.least u.spread [] (items_view vs)) (sym c.deref-value-items.ensures.value) ∙ sym c.items.invariant.same
     ∙ links_from-other u.nodes u.least u.spread c.items.links.items c.deref-value-items.result.now c.items.value-index c.value-item.result
-        c.items-test.true c.value-item.is c.in_default.not-Table
+    c.items-test.true c.value-item.is c.in_default.not-Table
 
 pub items-preserved : goal.items-preserved
 items-preserved c =

@@ -35,7 +35,7 @@ formula_in-returns-in_default-first-clause-err t c =
     let d = c.args.described.now in
     λ other.
     formula_in-unnamed d.protocol d.bounds c.args.value.now c.in-Array.items c.as_slice.result.now c.first-item.result
-        (search rules) (search rules) (search rules) (search rules) c.in_default-first.not-String
+    (search rules) (search rules) (search rules) (search rules) c.in_default-first.not-String
 
 pub parts_in-returns-in_err-part-clause-err : goal.parts_in-returns-in_err-part-clause-err
 parts_in-returns-in_err-part-clause-err t c =
@@ -43,7 +43,7 @@ parts_in-returns-in_err-part-clause-err t c =
     let e = c.in_err-part.field-0.0 in
     let wrong : e ≢ refusals.Memory → parts_in d.protocol d.bounds (items_view c.args.items.now) ≡ Err e =
     λ other. parts_in-wrong d.protocol d.bounds c.args.items.now c.items.parts.items c.items.item-index _ c.items.invariant c.item-item.result e
-        c.items-test.true c.item-item.is (c.in_err-part.ensures.err other) in
+    c.items-test.true c.item-item.is (c.in_err-part.ensures.err other) in
     search rules
 
 pub parts_in-items-preserved : goal.parts_in-items-preserved
@@ -51,7 +51,7 @@ parts_in-items-preserved t c =
     let d = c.args.described.now in
     let pushed : c.push.new.self.items ≡ c.items.parts.items ++ c.in_ok-part.part ∷ [] = search rules in
     parts_in-more d.protocol d.bounds c.args.items.now c.items.parts.items c.items.item-index _ c.items.invariant c.push.new.self.items
-        c.item-item.result c.in_ok-part.part c.items-test.true c.item-item.is c.in_ok-part.ensures.ok pushed
+    c.item-item.result c.in_ok-part.part c.items-test.true c.item-item.is c.in_ok-part.ensures.ok pushed
 
 pub parts_in-returns-clause-ok : goal.parts_in-returns-clause-ok
 parts_in-returns-clause-ok t c =
@@ -63,7 +63,8 @@ pub by_word-returns-in_err-parts_in-clause-err : goal.by_word-returns-in_err-par
 by_word-returns-in_err-parts_in-clause-err t c =
     let d = c.args.described.now in
     let e = c.in_err-parts_in.field-0.0 in
-    let wrong : e ≢ refusals.Memory → by_word c.args.word.now (parts_in d.protocol d.bounds (items_view c.args.rest.now)) (down_in d.bounds (items_view c.args.rest.now))
+    let wrong : e ≢ refusals.Memory → by_word c.args.word.now (parts_in d.protocol d.bounds (items_view c.args.rest.now))
+    (down_in d.bounds (items_view c.args.rest.now))
     (shows_in d.protocol d.bounds (items_view c.args.rest.now)) ≡ Err e =
     λ other.
     at-all c.args.word.now (parts_in d.protocol d.bounds (items_view c.args.rest.now))
@@ -82,12 +83,14 @@ pub by_word-returns-in_err-parts_in-2-clause-err : goal.by_word-returns-in_err-p
 by_word-returns-in_err-parts_in-2-clause-err t c =
     let d = c.args.described.now in
     let e = c.in_err-parts_in-2.field-0.0 in
-    let wrong : e ≢ refusals.Memory → by_word c.args.word.now (parts_in d.protocol d.bounds (items_view c.args.rest.now)) (down_in d.bounds (items_view c.args.rest.now))
+    let wrong : e ≢ refusals.Memory → by_word c.args.word.now (parts_in d.protocol d.bounds (items_view c.args.rest.now))
+    (down_in d.bounds (items_view c.args.rest.now))
     (shows_in d.protocol d.bounds (items_view c.args.rest.now)) ≡ Err e =
     λ other.
     at-any c.args.word.now (parts_in d.protocol d.bounds (items_view c.args.rest.now))
     (down_in d.bounds (items_view c.args.rest.now)) (shows_in d.protocol d.bounds (items_view c.args.rest.now))
-    (sym c.eq.ensures ∙ c.if-eq.false) (sym c.eq-else-eq.ensures ∙ c.if-eq-2.true) ∙ ap (λ r. r >>= (λ fs. Ok (kind.Any fs))) (c.in_err-parts_in-2.ensures.err other) in
+    (sym c.eq.ensures ∙ c.if-eq.false) (sym c.eq-else-eq.ensures ∙ c.if-eq-2.true)
+    ∙ ap (λ r. r >>= (λ fs. Ok (kind.Any fs))) (c.in_err-parts_in-2.ensures.err other) in
     search rules
 
 pub by_word-returns-in_ok-parts_in-2-clause-ok : goal.by_word-returns-in_ok-parts_in-2-clause-ok
@@ -95,7 +98,8 @@ by_word-returns-in_ok-parts_in-2-clause-ok t c =
     let d = c.args.described.now in
     at-any c.args.word.now (parts_in d.protocol d.bounds (items_view c.args.rest.now))
     (down_in d.bounds (items_view c.args.rest.now)) (shows_in d.protocol d.bounds (items_view c.args.rest.now))
-    (sym c.eq.ensures ∙ c.if-eq.false) (sym c.eq-else-eq.ensures ∙ c.if-eq-2.true) ∙ ap (λ r. r >>= (λ fs. Ok (kind.Any fs))) c.in_ok-parts_in-2.ensures.ok
+    (sym c.eq.ensures ∙ c.if-eq.false) (sym c.eq-else-eq.ensures ∙ c.if-eq-2.true)
+    ∙ ap (λ r. r >>= (λ fs. Ok (kind.Any fs))) c.in_ok-parts_in-2.ensures.ok
 
 pub by_word-returns-then-eq-3-clause-ok : goal.by_word-returns-then-eq-3-clause-ok
 by_word-returns-then-eq-3-clause-ok t c =
@@ -119,7 +123,8 @@ by_word-returns-then-eq-4-clause-ok t c =
     ok_same c.shows_in.result _
     (at-shows c.args.word.now (parts_in d.protocol d.bounds (items_view c.args.rest.now))
     (down_in d.bounds (items_view c.args.rest.now)) (shows_in d.protocol d.bounds (items_view c.args.rest.now))
-    (sym c.eq.ensures ∙ c.if-eq.false) (sym c.eq-else-eq.ensures ∙ c.if-eq-2.false) (sym c.eq-else-eq-2.ensures ∙ c.if-eq-3.false) (sym c.eq-else-eq-3.ensures ∙ c.if-eq-4.true) ∙ sym c.shows_in.ensures)
+    (sym c.eq.ensures ∙ c.if-eq.false) (sym c.eq-else-eq.ensures ∙ c.if-eq-2.false)
+    (sym c.eq-else-eq-2.ensures ∙ c.if-eq-3.false) (sym c.eq-else-eq-3.ensures ∙ c.if-eq-4.true) ∙ sym c.shows_in.ensures)
 
 pub by_word-returns-then-eq-4-clause-err : goal.by_word-returns-then-eq-4-clause-err
 by_word-returns-then-eq-4-clause-err t c =
@@ -127,7 +132,8 @@ by_word-returns-then-eq-4-clause-err t c =
     err_same c.shows_in.result _
     (at-shows c.args.word.now (parts_in d.protocol d.bounds (items_view c.args.rest.now))
     (down_in d.bounds (items_view c.args.rest.now)) (shows_in d.protocol d.bounds (items_view c.args.rest.now))
-    (sym c.eq.ensures ∙ c.if-eq.false) (sym c.eq-else-eq.ensures ∙ c.if-eq-2.false) (sym c.eq-else-eq-2.ensures ∙ c.if-eq-3.false) (sym c.eq-else-eq-3.ensures ∙ c.if-eq-4.true) ∙ sym c.shows_in.ensures)
+    (sym c.eq.ensures ∙ c.if-eq.false) (sym c.eq-else-eq.ensures ∙ c.if-eq-2.false)
+    (sym c.eq-else-eq-2.ensures ∙ c.if-eq-3.false) (sym c.eq-else-eq-3.ensures ∙ c.if-eq-4.true) ∙ sym c.shows_in.ensures)
 
 pub by_word-returns-else-eq-4-clause-err : goal.by_word-returns-else-eq-4-clause-err
 by_word-returns-else-eq-4-clause-err t c =
@@ -135,4 +141,5 @@ by_word-returns-else-eq-4-clause-err t c =
     λ other.
     at-none c.args.word.now (parts_in d.protocol d.bounds (items_view c.args.rest.now))
     (down_in d.bounds (items_view c.args.rest.now)) (shows_in d.protocol d.bounds (items_view c.args.rest.now))
-    (sym c.eq.ensures ∙ c.if-eq.false) (sym c.eq-else-eq.ensures ∙ c.if-eq-2.false) (sym c.eq-else-eq-2.ensures ∙ c.if-eq-3.false) (sym c.eq-else-eq-3.ensures ∙ c.if-eq-4.false)
+    (sym c.eq.ensures ∙ c.if-eq.false) (sym c.eq-else-eq.ensures ∙ c.if-eq-2.false)
+    (sym c.eq-else-eq-2.ensures ∙ c.if-eq-3.false) (sym c.eq-else-eq-3.ensures ∙ c.if-eq-4.false)

@@ -43,14 +43,14 @@ nodes_in-returns-in_err-kid-clause-err t c =
     let e = c.in_err-kid.field-0.0 in
     let wrong : e ≢ Memory → all_in (node_in c.args.room) (items_view c.args.items.now) ≡ Err e =
     λ other. read-wrong (node_in c.args.room) c.args.items.now c.items.kids.items c.items.item-index _ c.items.invariant c.item-item.result e
-        c.items-test.true c.item-item.is (sym (c.in_err-kid.ensures.err other)) in
+    c.items-test.true c.item-item.is (sym (c.in_err-kid.ensures.err other)) in
     search rules
 
 pub nodes_in-items-preserved : goal.nodes_in-items-preserved
 nodes_in-items-preserved t c =
     let pushed : c.push.new.self.items ≡ c.items.kids.items ++ c.in_ok-kid.kid ∷ [] = search rules in
     read-more (node_in c.args.room) c.args.items.now c.items.kids.items c.items.item-index _ c.items.invariant c.push.new.self.items c.item-item.result
-        c.in_ok-kid.kid c.items-test.true c.item-item.is (sym c.in_ok-kid.ensures.ok) pushed
+    c.in_ok-kid.kid c.items-test.true c.item-item.is (sym c.in_ok-kid.ensures.ok) pushed
 
 pub nodes_in-returns-clause-ok : goal.nodes_in-returns-clause-ok
 nodes_in-returns-clause-ok t c =
