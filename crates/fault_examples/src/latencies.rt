@@ -1,4 +1,4 @@
-ghost use Rattle.std.specs.Prelude.{◌≡◌};
+ghost use Rattle.std.specs.Prelude.{◌≡◌, ◌≤◌};
 
 use crate::rows::{agrees, agrees_at};
 use lf_latency::{Links, Network, arrives_late, is_pair, keeps_limits, link, word};
@@ -29,19 +29,13 @@ fn the_words_of_zeros_are_the_published_stream(rt: HostRuntime) {
     }
 }
 
-/// Whether the stream of zeros has its first words in order.
-fn are_in_order() -> bool {
-    let mut rng = ChaCha20Rng::from_seed([0; 32]);
-    let mut same = true;
-    for place in 0..40 {
-        same = same && word(&[0; 32], 0, place) == rng.next_word();
-    }
-    same
-}
-
 #[test]
 fn words_in_order_are_those_at_their_places(rt: HostRuntime) {
-    agrees(&rt, are_in_order(), "places 0 to 39");
+    let mut rng = ChaCha20Rng::from_seed([0; 32]);
+    for place in 0..40 {
+        let same = word(&[0; 32], 0, place) == rng.next_word();
+        agrees_at(&rt, same, &[place]);
+    }
 }
 
 /// Streams of rising bytes, places in them, and their words.
@@ -135,22 +129,21 @@ fn by_rule(number: u32, step: u32, least: u32, spread: u32) -> u64 {
     u64::from(step) + u64::from(least) + u64::from(picked) % (u64::from(spread) + 1)
 }
 
-/// Whether a link of four nodes, if it is one, has its delays, and its notes arrive by the rule.
-fn link_is_the_rule(network: &Network, from: u32, to: u32) -> bool
+/// Whether a link of four nodes, if it is one, has its delays, and its note of a step arrives by the rule.
+fn slot_is_the_rule(network: &Network, from: u32, to: u32, step: u32) -> bool
     requires nodes { network.now.nodes ≡ 4 }
     requires horizon { network.now.horizon ≡ 48 }
+    requires first { 1 ≤ step }
+    requires last { step ≤ 48 }
 {
     if !is_pair(4, from, to) {
         return true;
     }
     let (least, spread) = delays(from, to);
     let number = from * 3 + if to < from { to } else { to - 1 };
-    let mut same = network.least(from, to) == least && network.spread(from, to) == spread;
-    for step in 1..49 {
-        let arrival = u64::from(network.arrival(from, to, step));
-        same = same && arrival == by_rule(number, step, least, spread);
-    }
-    same
+    network.least(from, to) == least
+        && network.spread(from, to) == spread
+        && u64::from(network.arrival(from, to, step)) == by_rule(number, step, least, spread)
 }
 
 #[test]
@@ -158,8 +151,11 @@ fn arrivals_are_the_rule_at_each_slot(rt: HostRuntime) {
     let network = mixed();
     for from in 0..4 {
         for to in 0..4 {
-            let is_rule = link_is_the_rule(&network, from, to);
-            agrees_at(&rt, is_rule, &[u64::from(from), u64::from(to)]);
+            for step in 1..49 {
+                let is_rule = slot_is_the_rule(&network, from, to, step);
+                let slot = [u64::from(from), u64::from(to), u64::from(step)];
+                agrees_at(&rt, is_rule, &slot);
+            }
         }
     }
 }
