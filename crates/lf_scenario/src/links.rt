@@ -9,7 +9,7 @@ ghost use Rattle.lf_scenario.specs.LinkTables.{joined, link_in, links_from, link
 
 use crate::value::{at, whole};
 use crate::{Key, ScenarioError};
-use lf_latency::Links;
+use lf_latency::{Links, is_pair};
 use std::alloc::Global;
 use toml::value::Array;
 use toml::{Table, Value};
@@ -117,7 +117,7 @@ fn joined(
     let (Ok(from), Ok(to)) = (u32::try_from(from), u32::try_from(to)) else {
         return Err(ScenarioError::Link);
     };
-    let is_pair = from != to && from < usual.nodes && to < usual.nodes;
+    let is_pair = is_pair(usual.nodes, from, to);
     if is_pair && !is_given(before, from, to) {
         Ok(Link {
             from,
