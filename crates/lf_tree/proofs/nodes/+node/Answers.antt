@@ -54,4 +54,5 @@ nodes_in-items-preserved t c =
 
 pub nodes_in-returns-clause-ok : goal.nodes_in-returns-clause-ok
 nodes_in-returns-clause-ok t c =
-    read-last (node_in c.args.room) c.args.items.now c.items.kids.items c.items.item-index _ c.items.invariant c.items-test.false ∙ ap Ok (sym c.from_vec.ensures)
+    read-last (node_in c.args.room) c.args.items.now c.items.kids.items c.items.item-index _ c.items.invariant c.items-test.false
+    ∙ ap Ok (sym c.from_vec.ensures)
