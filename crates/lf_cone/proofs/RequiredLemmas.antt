@@ -49,6 +49,7 @@ late-place b last (Pause n t) h is less short = omega (arith, h.0, h.1, is.2)
 pub within_end : (t last horizon : ℕ) → t < last + 1 → last ≡ horizon → t ≤ horizon
 within_end t last horizon below same = omega arith
 
+-- one number is less than another, by names that they have elsewhere
 pub less_than_same : (a b c d : ℕ) → a < b → a ≡ c → b ≡ d → c < d
 less_than_same a b c d less left right = omega arith
 

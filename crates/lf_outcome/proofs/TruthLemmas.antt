@@ -1,7 +1,8 @@
 -- The truth of a formula by its kind.
-use Rattle.std.proofs.Common.{◌≡◌, ℕ, Bool, List, [], ◌∷◌, refl, sym, ap, ◌∙◌, map, ◌||◌}
+use Rattle.std.proofs.Common.{◌≡◌, ℕ, ◌+◌, ◌<◌, ◌≤◌, Bool, true, false, List, [], ◌∷◌, length, get_or, take, refl, sym, ap, ◌∙◌, map, ◌&&◌, ◌||◌}
 use Rattle.std.specs.List.{list_all, list_any}
-use Rattle.std.proofs.lemmas.List.Folds.{list_all-map}
+use Rattle.std.proofs.lemmas.List.{take_all}
+use Rattle.std.proofs.lemmas.List.Folds.{list_all-map, list_all_at, list_all_more, list_any_at, list_any_more}
 use Rattle.lf_outcome.specs.declared.formula.Formula.{Formula, fold-roll-Formula}
 use Rattle.lf_outcome.specs.declared.formula.Formula.TheVariants.{rolls-All, rolls-Any, rolls-Down, rolls-Shows}
 use Rattle.lf_outcome.specs.declared.formula.Formula.TheVariants as kind
@@ -11,6 +12,29 @@ use Rattle.lf_outcome.specs.Truth.{truth, truth_step}
 list_any-map : {X Y : Type 0} (p : X → Bool) (h : Y → X) (ys : List Y) → list_any p (map h ys) ≡ list_any (λ y. p (h y)) ys
 list_any-map p h [] = refl
 list_any-map p h (y ∷ ys) = ap (λ b. p (h y) || b) (list_any-map p h ys)
+
+-- a test of each element in turn, as a loop makes it: at an element, and after the last
+module _ {X : Type 0} (p : X → Bool) (xs : List X) (i : ℕ) where
+  module _ (x : X) (b : Bool) (within : i < length xs) (is : x ≡ get_or xs i x) (tested : b ≡ p x) where
+    pub all-more : list_all p (take i xs) ≡ true → b ≡ true → list_all p (take (i + 1) xs) ≡ true
+    all-more before holds =
+        list_all_more p xs i x within ∙ ap (λ c. c && p (get_or xs i x)) before ∙ ap p (sym is) ∙ sym tested ∙ holds
+
+    pub all-wrong : b ≡ false → false ≡ list_all p xs
+    all-wrong fails = sym (list_all_at p xs i x within (ap p (sym is) ∙ sym tested ∙ fails))
+
+    pub any-more : list_any p (take i xs) ≡ false → b ≡ false → list_any p (take (i + 1) xs) ≡ false
+    any-more before fails =
+        list_any_more p xs i x within ∙ ap (λ c. c || p (get_or xs i x)) before ∙ ap p (sym is) ∙ sym tested ∙ fails
+
+    pub any-right : b ≡ true → true ≡ list_any p xs
+    any-right holds = sym (list_any_at p xs i x within (ap p (sym is) ∙ sym tested ∙ holds))
+
+  pub all-last : length xs ≤ i → list_all p (take i xs) ≡ true → true ≡ list_all p xs
+  all-last far before = sym before ∙ ap (list_all p) (take_all i xs far)
+
+  pub any-last : length xs ≤ i → list_any p (take i xs) ≡ false → false ≡ list_any p xs
+  any-last far before = sym before ∙ ap (list_any p) (take_all i xs far)
 
 module _ {Fact : Type 0} (down : ℕ → ℕ → Bool) (shown : ℕ → ℕ → Fact → Bool) where
   pub truth-All : (parts : List (Formula Fact)) → truth down shown (kind.All parts) ≡ list_all (truth down shown) parts

@@ -101,7 +101,8 @@ joined done x (Err e) = refl
 module _ (k : Kind) (b : Bounds) (vs : List Value) (before : List (Formula Fact)) (i : ℕ) (whole : Reading (List (Formula Fact)))
     (h : (parts_in k b (items_view (drop i vs)) >>= (λ rest. Ok (before ++ rest))) ≡ whole) where
   next_part : (v : Value) → i < length vs → v ≡ get_or vs i v
-      → ((formula_in k b (view v) >>= (λ x. parts_in k b (items_view (drop (i + 1) vs)) >>= (λ xs. Ok (x ∷ xs)))) >>= (λ xs. Ok (before ++ xs))) ≡ whole
+      → ((formula_in k b (view v) >>= (λ x. parts_in k b (items_view (drop (i + 1) vs)) >>= (λ xs. Ok (x ∷ xs)))) >>= (λ xs. Ok (before ++ xs)))
+      ≡ whole
   next_part v l is =
       sym (ap (λ ds. parts_in k b ds >>= (λ rest. Ok (before ++ rest)))
       (items_view-drop vs i v l ∙ ap (λ w. item (view w) (items_view (drop (i + 1) vs))) (sym is))) ∙ h

@@ -6,7 +6,7 @@ ghost use Rattle.lf_outcome.specs.Outcomes.{outcome_named};
 ghost use Rattle.lf_scenario.specs.Formulas.{IsFormulaOf};
 ghost use Rattle.lf_scenario.specs.Ranges.{IsInRange};
 ghost use Rattle.lf_scenario.specs.Values.{required};
-ghost use Rattle.lf_scenario.specs.Outcomes.{node_in, step_in, fact_in, down_in, shows_of, shows_in};
+ghost use Rattle.lf_scenario.specs.Outcomes.{node_in, step_in, fact_in, down_of, down_in, shows_of, shows_in};
 ghost use Rattle.lf_scenario.specs.Outcomes.{by_word, formula_in, parts_in, limited, named_in, outcome_in};
 
 use crate::limits::{DEEPEST, MOST_ATOMS};
@@ -57,10 +57,21 @@ fn down_in(items: &[Value], described: &Described) -> Result<Formula<Fact>, Scen
     if items.len() != 2 {
         return Err(ScenarioError::Formula);
     }
-    Ok(Formula::Down {
-        node: node_in(&items[0], described)?,
-        step: step_in(&items[1], described)?,
-    })
+    down_of(&items[0], &items[1], described)
+}
+
+/// The formula that a node is down at a step.
+fn down_of(
+    first: &Value,
+    second: &Value,
+    described: &Described,
+) -> Result<Formula<Fact>, ScenarioError>
+    requires { IsInRange described.now }
+    ensures { result ≡ down_of described.now.bounds (view first.now) (view second.now) }
+{
+    let node = node_in(first, described)?;
+    let step = step_in(second, described)?;
+    Ok(Formula::Down { node, step })
 }
 
 /// The formula of the items after the word `shows`.

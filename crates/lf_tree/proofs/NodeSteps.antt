@@ -1,7 +1,12 @@
 -- How a node is read.
-use Rattle.std.proofs.Common.{◌≡◌, ◌≢◌, ℕ, zero, suc, ◌-◌, Option, Some, None, Ok, Err, codes, IfOk, IfErr, refl, ap, ap₂, ◌∙◌, arith}
+use Rattle.std.proofs.Common.{◌≡◌, ◌≢◌, ℕ, zero, suc, ◌-◌, List, Option, Some, None, Ok, Err, codes, IfOk, IfErr, refl, ap, ap₂, ◌∙◌, arith}
 use Rattle.serde_json.specs.Data.{Data}
+use Rattle.lf_faults.specs.declared.fault.Parts.{Parts}
+use Rattle.lf_tree.specs.declared.fault.TreeFault.{TreeFault}
 use Rattle.lf_tree.specs.declared.fault.TreeFault.TheVariants.{Form, TooDeep, Memory}
+use Rattle.lf_tree.specs.declared.tree.Node.{Node}
+use Rattle.lf_tree.specs.declared.tree.Node.TheVariants as kind
+use Rattle.lf_tree.specs.Reading.{◌>>=◌, edges_in, kids_in, reach_in}
 use Rattle.lf_tree.specs.Reading.{Reading, one_in, three_in, leaf_in, leaf_or, branch_in, node_in}
 
 abbrev misses_in : Data → Option Data
@@ -33,6 +38,19 @@ node_in-branch zero d parts no_leaf is some = absurd (some refl)
 node_in-branch (suc room) d parts no_leaf is some =
     let e : room ≡ suc room - 1 = omega arith in
     ap₂ (leaf_or (branch_in (node_in room))) no_leaf is ∙ ap (λ n. branch_in (node_in n) parts) e
+
+-- a branch of which all is read, and one whose kids are wrong
+with_kids : (read : Data → Reading Node) (parts : Data × (Data × Data)) (es : List Parts) (rs : List ℕ) → edges_in parts.0 ≡ Ok es
+    → reach_in parts.1.1 ≡ Ok rs → branch_in read parts ≡ (kids_in read parts.1.0 >>= (λ ns. Ok (kind.Branch rs es ns)))
+with_kids read parts es rs edges reach = rw (edges, reach) refl
+
+pub branch_in-all : (read : Data → Reading Node) (parts : Data × (Data × Data)) (es : List Parts) (rs : List ℕ) (ns : List Node)
+    → edges_in parts.0 ≡ Ok es → reach_in parts.1.1 ≡ Ok rs → kids_in read parts.1.0 ≡ Ok ns → branch_in read parts ≡ Ok (kind.Branch rs es ns)
+branch_in-all read parts es rs ns edges reach kids = with_kids read parts es rs edges reach ∙ ap (λ r. r >>= (λ ns. Ok (kind.Branch rs es ns))) kids
+
+pub branch_in-wrong : (read : Data → Reading Node) (parts : Data × (Data × Data)) (es : List Parts) (rs : List ℕ) (e : TreeFault)
+    → edges_in parts.0 ≡ Ok es → reach_in parts.1.1 ≡ Ok rs → kids_in read parts.1.0 ≡ Err e → branch_in read parts ≡ Err e
+branch_in-wrong read parts es rs e edges reach kids = with_kids read parts es rs edges reach ∙ ap (λ r. r >>= (λ ns. Ok (kind.Branch rs es ns))) kids
 
 -- what is said of a reading says the same of one that is equal
 pub ok_of : {A : Type 0} (r read whole : Reading A) → whole ≡ read → IfOk r (λ x. read ≡ Ok x) → IfOk r (λ x. whole ≡ Ok x)

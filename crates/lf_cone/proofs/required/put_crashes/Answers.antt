@@ -2,7 +2,7 @@ use Rattle.std.proofs.Common.{◌<◌, ◌+◌, ◌-◌, ◌*◌, refl, arith}
 use Rattle.std.proofs.lemmas.Bool.{both_ways}
 use Rattle.lf_faults.specs.declared.fault.Parts.TheVariants.{Crash}
 use Rattle.lf_sim.specs.Settings.{world_of}
-use Rattle.lf_cone.proofs.RequiredLemmas.{less_than_same, moved, put_one, skip_crash, end_crashes}
+use Rattle.lf_cone.proofs.RequiredLemmas.{is-fault, less_than_same, moved, put_one, skip_crash, end_crashes}
 use Rattle.lf_cone.proofs.required.put_crashes.Goals as goal
 use Rattle.lf_cone.proofs.required.put_crashes.Goals.{then-tries_crash+in_ok-push, else-tries_crash}
 
@@ -56,3 +56,10 @@ tries_crash-requires-clause-last g c = c.requires.last
 
 pub tries_crash-requires-clause-node : goal.tries_crash-requires-clause-node
 tries_crash-requires-clause-node g c = less_than_same _ _ _ _ c.loop-node-test.true refl c.nodes-node-end.ensures.value
+
+pub crash-requires : goal.crash-requires
+crash-requires g c =
+    let s = c.args.setting.now in
+    let v = c.args.view.now in
+    is-fault (world_of s) v.effects.set s.spec v.reach v.marks.faults.now c.nodes-node-end.ensures.limits (Crash c.loop-node.node c.args.step)
+    (c.tries_crash.ensures.0 c.if-tries_crash.true)

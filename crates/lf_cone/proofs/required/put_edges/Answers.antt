@@ -119,3 +119,6 @@ returns g c =
     (subst (λ F. AreRequired w F s.spec c.args.reach.now c.new-2.result.faults.now c.loop-step.found.items) (c.new.ensures ∙ c.set-set.ensures)
     (end_steps w c.new.result.set s.spec c.args.reach.now c.new-2.result.faults.now c.budget.ensures.limits c.loop-step.found.items last short
     c.loop-step.invariant))
+
+pub room_in-requires : goal.room_in-requires
+room_in-requires g c = c.admits.ensures.0 c.if-not-admits.false

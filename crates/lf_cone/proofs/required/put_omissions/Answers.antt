@@ -69,3 +69,9 @@ put_omissions_of-requires-clause-up g c = sym c.goes.ensures.value ∙ c.if-goes
 
 pub put_omissions_of-requires-clause-so_far : goal.put_omissions_of-requires-clause-so_far
 put_omissions_of-requires-clause-so_far g c = c.loop-from.invariant
+
+pub goes-requires-clause-node : goal.goes-requires-clause-node
+goes-requires-clause-node g c = less_than_same _ _ _ _ c.loop-from-test.true refl c.nodes-from-end.ensures.value
+
+pub goes-requires-clause-first : goal.goes-requires-clause-first
+goes-requires-clause-first g c = c.requires.first

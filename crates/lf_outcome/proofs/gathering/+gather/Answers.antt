@@ -1,4 +1,4 @@
-use Rattle.std.proofs.Common.{rules, ◌≡◌, ◌++◌, [], ◌∷◌, length, take, sym, ap, ◌∙◌, subst, arith}
+use Rattle.std.proofs.Common.{rules, ◌≡◌, ◌++◌, [], ◌∷◌, length, take, refl, sym, ap, ◌∙◌, subst, arith}
 use Rattle.std.specs.Prelude.{IfOk}
 use Rattle.std.specs.Option.{is_some, unwrap_or}
 use Rattle.std.proofs.lemmas.List.{append-nil}
@@ -68,6 +68,16 @@ gather_all-returns-clause-points g t c =
     ∙ ap (λ o. c.args.points.now.items ++ unwrap_or o [])
     (sym (gathered-all (evidence_of (world_of c.args.setting.now) (set_of c.args.run.now)) c.args.parts.now
     c.all.part-index c.args.points.now.items c.all.points.items (omega arith) c.all.invariant))
+
+pub gather_first-any-init : goal.gather_first-any-init
+gather_first-any-init g t c = (refl, refl)
+
+pub gather_first-returns-then-branch-clause-found : goal.gather_first-returns-then-branch-clause-found
+gather_first-returns-then-branch-clause-found g t c =
+    let E = evidence_of (world_of c.args.setting.now) (set_of c.args.run.now) in
+    sym c.if-branch.true ∙ c.in_ok-gather.ensures.found
+    ∙ sym (ap is_some (first-found E c.args.parts.now c.any.part-index c.part-item.result (omega arith) c.part-item.is c.any.invariant.1
+    c.in_ok-gather.field-0 c.in_ok-gather.ensures.found c.if-branch.true))
 
 pub gather_first-returns-then-branch-clause-points : goal.gather_first-returns-then-branch-clause-points
 gather_first-returns-then-branch-clause-points g t c =

@@ -98,8 +98,7 @@ by_word-returns-in_ok-parts_in-2-clause-ok t c =
     let d = c.args.described.now in
     at-any c.args.word.now (parts_in d.protocol d.bounds (items_view c.args.rest.now))
     (down_in d.bounds (items_view c.args.rest.now)) (shows_in d.protocol d.bounds (items_view c.args.rest.now))
-    (sym c.eq.ensures ∙ c.if-eq.false) (sym c.eq-else-eq.ensures ∙ c.if-eq-2.true)
-    ∙ ap (λ r. r >>= (λ fs. Ok (kind.Any fs))) c.in_ok-parts_in-2.ensures.ok
+    (sym c.eq.ensures ∙ c.if-eq.false) (sym c.eq-else-eq.ensures ∙ c.if-eq-2.true) ∙ ap (λ r. r >>= (λ fs. Ok (kind.Any fs))) c.in_ok-parts_in-2.ensures.ok
 
 pub by_word-returns-then-eq-3-clause-ok : goal.by_word-returns-then-eq-3-clause-ok
 by_word-returns-then-eq-3-clause-ok t c =

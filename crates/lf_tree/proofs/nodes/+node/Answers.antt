@@ -1,9 +1,10 @@
 use Rattle.std.proofs.Common.{◌≡◌, ◌≢◌, [], ◌∷◌, ◌++◌, Ok, Err, sym, ap, ◌∙◌, rules}
 use Rattle.serde_json.specs.View.{view, items_view}
 use Rattle.lf_tree.specs.declared.fault.TreeFault.TheVariants.{Memory}
-use Rattle.lf_tree.specs.Reading.{all_in, node_in}
+use Rattle.lf_tree.specs.Reading.{all_in, branch_in, node_in}
 use Rattle.lf_tree.specs.Views.{three_view}
 use Rattle.lf_tree.proofs.Items.{read-last, read-more, read-wrong}
+use Rattle.lf_tree.proofs.NodeSteps.{branch_in-all, branch_in-wrong}
 use Rattle.lf_tree.proofs.NodeSteps.{node_in-leaf, node_in-form, node_in-deep, node_in-branch, ok_of, err_of, ok_same, err_same}
 use Rattle.lf_tree.proofs.nodes.+node.Goals as goal
 
@@ -56,3 +57,16 @@ pub nodes_in-returns-clause-ok : goal.nodes_in-returns-clause-ok
 nodes_in-returns-clause-ok t c =
     read-last (node_in c.args.room) c.args.items.now c.items.kids.items c.items.item-index _ c.items.invariant c.items-test.false
     ∙ ap Ok (sym c.from_vec.ensures)
+
+pub branch_in-returns-clause-ok : goal.branch_in-returns-clause-ok
+branch_in-returns-clause-ok t c =
+    branch_in-all (node_in c.args.room) (three_view c.args.parts) c.in_ok-edges.edges c.in_ok-reach.reach c.in_ok-kids.kids
+    c.in_ok-edges.ensures.ok (sym c.in_ok-reach.ensures) c.in_ok-kids.ensures.ok
+
+pub branch_in-returns-in_err-kids-clause-err : goal.branch_in-returns-in_err-kids-clause-err
+branch_in-returns-in_err-kids-clause-err t c =
+    let e = c.in_err-kids.field-0.0 in
+    let wrong : e ≢ Memory → branch_in (node_in c.args.room) (three_view c.args.parts) ≡ Err e =
+    λ other. branch_in-wrong (node_in c.args.room) (three_view c.args.parts) c.in_ok-edges.edges c.in_ok-reach.reach e
+    c.in_ok-edges.ensures.ok (sym c.in_ok-reach.ensures) (c.in_err-kids.ensures.err other) in
+    search rules
