@@ -13,8 +13,8 @@ if [ "${1:-}" = --seconds ]; then
     seconds=1
     shift
 fi
-cd "$here/../crates/bench_answers"
-rt run -- merged <stdin >/dev/null
+cd "$here/../crates/bench_searches"
+rt run -- answers merged <stdin >/dev/null
 names=("$@")
 if [ $# = 0 ]; then
     for scenario in "$here"/answered/*.toml; do names+=("$(basename "$scenario" .toml)"); done
@@ -24,20 +24,20 @@ trap 'rm -r "$scratch"' EXIT
 
 # the instructions of an answer
 instructions() {
-    valgrind --tool=callgrind --callgrind-out-file=/dev/null out/bench_answers merged <"$1" 2>&1 >/dev/null |
+    valgrind --tool=callgrind --callgrind-out-file=/dev/null out/bench_searches answers merged <"$1" 2>&1 >/dev/null |
         awk '/Collected/ { print $NF }'
 }
 
 # the seconds of processor time of the fastest of three answers
 fastest() {
     for _ in 1 2 3; do
-        /usr/bin/time -f '%U %S' out/bench_answers merged <"$1" 2>&1 >/dev/null | awk '{ print $1 + $2 }'
+        /usr/bin/time -f '%U %S' out/bench_searches answers merged <"$1" 2>&1 >/dev/null | awk '{ print $1 + $2 }'
     done | sort -n | head -n 1
 }
 
 for name in "${names[@]}"; do
     scenario="$here/answered/$name.toml"
-    /usr/bin/time -f '%M' -o "$scratch/memory" out/bench_answers merged <"$scenario" >"$scratch/answer"
+    /usr/bin/time -f '%M' -o "$scratch/memory" out/bench_searches answers merged <"$scenario" >"$scratch/answer"
     if [ -n "$seconds" ]; then
         took="$(fastest "$scenario") s"
     else

@@ -7,12 +7,12 @@
 # Wants the Rattle kit, GNU time and valgrind.
 set -euo pipefail
 here=$(cd "$(dirname "$0")" && pwd)
-cd "$here/../crates/bench_books"
-rt run -- 0 search <stdin >/dev/null
+cd "$here/../crates/bench_searches"
+rt run -- books 0 search <stdin >/dev/null
 
 # the instructions of TIMES times in MODE (search or runs) of a scenario
 instructions() {
-    valgrind --tool=callgrind --callgrind-out-file=/dev/null out/bench_books "$1" "$2" <"$3" 2>&1 >/dev/null |
+    valgrind --tool=callgrind --callgrind-out-file=/dev/null out/bench_searches books "$1" "$2" <"$3" 2>&1 >/dev/null |
         awk '/Collected/ { print $NF }'
 }
 
@@ -22,7 +22,7 @@ number() { sed -n "s/^$1 *= *//p" "$2" | head -n 1 | tr -dc '0-9'; }
 scratch=$(mktemp -d)
 trap 'rm -r "$scratch"' EXIT
 for scenario in "$here"/searched/*.toml; do
-    /usr/bin/time -f '%M' -o "$scratch/memory" out/bench_books 1 search <"$scenario" >"$scratch/found"
+    /usr/bin/time -f '%M' -o "$scratch/memory" out/bench_searches books 1 search <"$scenario" >"$scratch/found"
     found=$(cat "$scratch/found")
     answered=$(sed 's/.*, \([0-9]*\) sets answered/\1/' "$scratch/found")
     points=$(($(number nodes "$scenario") * $(number horizon "$scenario")))

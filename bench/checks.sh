@@ -6,19 +6,19 @@
 # Wants the Rattle kit, GNU time, and valgrind if it is there.
 set -euo pipefail
 here=$(cd "$(dirname "$0")" && pwd)
-cd "$here/../crates/bench_checks"
-rt run -- 0 runs <stdin >/dev/null
+cd "$here/../crates/bench_searches"
+rt run -- checks 0 runs <stdin >/dev/null
 
 # the instructions of TIMES times in MODE (runs, check or rows) of a scenario's tree
 instructions() {
-    valgrind --tool=callgrind --callgrind-out-file=/dev/null out/bench_checks "$1" "$2" <"$3" 2>&1 >/dev/null |
+    valgrind --tool=callgrind --callgrind-out-file=/dev/null out/bench_searches checks "$1" "$2" <"$3" 2>&1 >/dev/null |
         awk '/Collected/ { print $NF }'
 }
 
 # the shortest of five runs of the same, in hundredths of a second
 hundredths() {
     for _ in 1 2 3 4 5; do
-        /usr/bin/time -f '%e' out/bench_checks "$1" "$2" <"$3" 2>&1 >/dev/null | tr -d .
+        /usr/bin/time -f '%e' out/bench_searches checks "$1" "$2" <"$3" 2>&1 >/dev/null | tr -d .
     done | sort -n | head -n 1 | sed 's/^0*\(.\)/\1/'
 }
 
@@ -29,7 +29,7 @@ else
 fi
 declare -A took
 for scenario in "$here"/checked/*.toml; do
-    nodes=$(out/bench_checks 0 runs <"$scenario" | cut -d ' ' -f 1)
+    nodes=$(out/bench_searches checks 0 runs <"$scenario" | cut -d ' ' -f 1)
     echo "$(basename "$scenario" .toml): $nodes nodes"
     for mode in $modes; do
         took[$mode]=$((($($measure "$times" "$mode" "$scenario") - $($measure 0 "$mode" "$scenario")) / times))

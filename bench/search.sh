@@ -4,7 +4,7 @@
 # of the fastest of three runs, sets a second, and the peak memory. A plain search is stopped after three million sets.
 #
 # With --instructions it counts instructions in place of seconds, for each set and for each point (one node at one step) of it, of both
-# in `bench_books`, so that the reading of the scenario falls out. They repeat exactly, whatever else the machine does, and take a
+# in `bench_searches books`, so that the reading of the scenario falls out. They repeat exactly, whatever else the machine does, and take a
 # hundred times as long; a plain search is stopped after 100,000 sets then. Further words name scenarios: those alone are searched.
 #
 # How many sets the bounds of a scenario allow stands in a comment of it, with the sum that gives it. Each scenario is one that answers
@@ -13,14 +13,14 @@
 set -euo pipefail
 here=$(cd "$(dirname "$0")" && pwd)
 program="$here/../crates/leastfault_cli/out/leastfault_cli"
-books="$here/../crates/bench_books/out/bench_books"
+searches="$here/../crates/bench_searches/out/bench_searches"
 count=
 if [ "${1:-}" = --instructions ]; then
     count=1
     shift
 fi
 (cd "$here/../crates/leastfault_cli" && rt run -- search "$here/../examples/relayed.toml" >/dev/null)
-(cd "$here/../crates/bench_books" && rt run -- 0 search <stdin >/dev/null)
+(cd "$here/../crates/bench_searches" && rt run -- books 0 search <stdin >/dev/null)
 names=("$@")
 if [ $# = 0 ]; then
     for scenario in "$here"/scenarios/*.toml; do names+=("$(basename "$scenario" .toml)"); done
@@ -32,8 +32,8 @@ trap 'rm -r "$scratch"' EXIT
 # the number after a word at the start of a line of the scenario
 number() { sed -n "s/^$1 *//p" "$scenario" | head -n 1 | tr -dc '0-9'; }
 
-# how many sets bench_books tells of
-sets_of() { "$books" "$1" "$2" <"$scenario" | sed 's/.*, \([0-9]*\) sets answered/\1/'; }
+# how many sets `bench_searches books` tells of
+sets_of() { "$searches" books "$1" "$2" <"$scenario" | sed 's/.*, \([0-9]*\) sets answered/\1/'; }
 
 # the instructions of the words, with the scenario as standard input
 instructions() {
@@ -68,10 +68,10 @@ for name in "${names[@]}"; do
     searched=$(sets_of 1 search)
     if [ -n "$count" ]; then
         plain=$(($(sets_of 100000 plain) - 1))
-        counted search "$searched" $(($(instructions "$books" 1 search) - $(instructions "$books" 0 search)))
-        counted plainly "$plain" $(($(instructions "$books" 100000 plain) - $(instructions "$books" 1 plain)))
+        counted search "$searched" $(($(instructions "$searches" books 1 search) - $(instructions "$searches" books 0 search)))
+        counted plainly "$plain" $(($(instructions "$searches" books 100000 plain) - $(instructions "$searches" books 1 plain)))
     else
         timed search "$searched" "$program" search -
-        timed plainly "$(sets_of 3000000 plain)" "$books" 3000000 plain
+        timed plainly "$(sets_of 3000000 plain)" "$searches" books 3000000 plain
     fi
 done

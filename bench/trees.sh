@@ -3,15 +3,15 @@
 # best of five, with serde_json's own untyped reading of it beside them, and says how much memory each takes at the most.
 # Wants the Rattle kit and GNU time.
 set -euo pipefail
-cd "$(dirname "$0")/../crates/bench_trees"
-rt run -- 1 read 3 >/dev/null
+cd "$(dirname "$0")/../crates/bench_searches"
+rt run -- trees 1 read 3 >/dev/null
 kids=${1:-38000}
 more=5
 
 # the shortest of five times of TIMES calls in MODE, in seconds, and the most memory, in KiB
 best() {
     for _ in 1 2 3 4 5; do
-        /usr/bin/time -f '%e %M' out/bench_trees "$1" "$2" "$kids" 2>&1 >/dev/null
+        /usr/bin/time -f '%e %M' out/bench_searches trees "$1" "$2" "$kids" 2>&1 >/dev/null
     done | sort -n | head -1
 }
 

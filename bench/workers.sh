@@ -24,8 +24,8 @@ if [ "${1-}" = --rounds ]; then
     shift 2
 fi
 here=$(cd "$(dirname "$0")" && pwd)
-program="$here/../crates/bench_pools/out/bench_pools"
-(cd "$here/../crates/bench_pools" && rt run -- 1 <stdin >/dev/null 2>&1)
+program="$here/../crates/bench_searches/out/bench_searches"
+(cd "$here/../crates/bench_searches" && rt run -- pools 1 <stdin >/dev/null 2>&1)
 names=("$@")
 [ $# -gt 0 ] || names=(sends_of_eight sends_of_five)
 scratch=$(mktemp -d)
@@ -39,7 +39,7 @@ keep() {
 
 # search SCENARIO WORKERS: one search, 0 for the one without a lock; its milliseconds are kept, and what it found is written
 search() {
-    "$program" "$2" <"$1" >"$scratch/found" 2>"$scratch/took"
+    "$program" pools "$2" <"$1" >"$scratch/found" 2>"$scratch/took"
     keep "$2" "$(sed 's/ ms$//' "$scratch/took")"
 }
 
@@ -47,7 +47,7 @@ search() {
 apart() {
     local copy ids=()
     for ((copy = 1; copy <= $2; copy++)); do
-        "$program" 0 <"$1" >/dev/null 2>"$scratch/apart.$copy" &
+        "$program" pools 0 <"$1" >/dev/null 2>"$scratch/apart.$copy" &
         ids+=($!)
     done
     for copy in "${ids[@]}"; do wait "$copy"; done
@@ -56,7 +56,7 @@ apart() {
 
 # unworked SCENARIO WORKERS: prints how much of a hundred parts of the workers' time they worked no set
 unworked() {
-    "$program" "$2" shares <"$1" 2>&1 >/dev/null |
+    "$program" pools "$2" shares <"$1" 2>&1 >/dev/null |
         awk '/of work$/ { if ($1 > 0) printf "%.0f\n", 100 * ($1 - $5) / $1; else print 0 }'
 }
 

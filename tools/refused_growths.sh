@@ -16,7 +16,7 @@ set -euo pipefail
 here=$(cd "$(dirname "$0")" && pwd)
 top=$(dirname "$here")
 leastfault="$top/crates/leastfault_cli/out/leastfault_cli"
-books="$top/crates/bench_books/out/bench_books"
+searches="$top/crates/bench_searches/out/bench_searches"
 rest=()
 built=
 for word; do
@@ -127,7 +127,7 @@ sweep_scenario() {
 
 if [ -z "$built" ]; then
     build leastfault_cli "$leastfault"
-    build bench_books "$books"
+    build bench_searches "$searches"
 fi
 "${CC:-cc}" -O2 -shared -fPIC -o refuse.so "$here/refuse.c" -ldl
 cp "$top"/examples/*.toml "$top"/examples/*.json .
@@ -165,12 +165,12 @@ sweep 'help' "$leastfault" --help
 input=one_try.toml
 sweep 'search of standard input' "$leastfault" search -
 sweep 'no words' "$leastfault"
-sweep 'a plain search' "$books" 1000 plain
+sweep 'a plain search' "$searches" books 1000 plain
 
 # A book that is driven through events: a set is given back and taken again.
 for events in 0 1 2 3 4 5 6 7 8 9 10; do
-    "$books" "$events" drive <one_try.toml | tail -n 1
+    "$searches" books "$events" drive <one_try.toml | tail -n 1
 done >places.txt
 slurp places places.txt
-sweep 'a driven book' "$books" 10 drive
+sweep 'a driven book' "$searches" books 10 drive
 exit "$wrong"

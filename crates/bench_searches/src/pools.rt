@@ -1,0 +1,136 @@
+//! `pools WORKERS [shares]` searches the scenario of standard input, to be measured by the clock.
+//!
+//! With 0 workers it searches in one thread and without a lock, else by so many workers of a pool. It prints how many sets were run,
+//! `full`, or `refused` of the number of workers, and on standard error how many milliseconds the search took. With `shares` standard
+//! error also has how many milliseconds the workers had between them, and in how many of these they worked sets: in the others they
+//! held the lock, waited, or weren't there.
+
+use crate::words::{Asked, Word};
+use lf_alone::Ended;
+use lf_pool::{Gate, NoGate, PoolError, Solved};
+use lf_scenario::Scenario;
+use lf_work::{Finding, Job, Spent, work_reusing};
+use std::alloc::{AllocError, Global};
+use std::rt::Clock;
+use std::sync::atomic::AtomicU64;
+use std::sync::atomic::Ordering::SeqCst;
+use std::sync::{Arc, Wait};
+use std::thread::Threads;
+use std::time::Instant;
+
+/// What a search found.
+#[derive(Clone, Copy)]
+enum Found {
+    /// So many sets were run.
+    Runs(u64),
+    /// A level was too full.
+    Full,
+    /// The number of workers was refused.
+    Refused,
+}
+
+/// Works each job at once, and adds up for how many nanoseconds.
+#[derive(Drop)]
+struct Timed {
+    worked: AtomicU64,
+}
+
+impl Gate for Timed {
+    fn run<R: Clock>(&self, rt: &R, job: &Job, spent: &mut Spent) -> Result<Finding, AllocError> {
+        let start = Instant::now(rt);
+        let finding = work_reusing(job, spent);
+        self.worked
+            .fetch_add(nanoseconds_since(rt, start.ok()), SeqCst);
+        finding
+    }
+}
+
+/// The nanoseconds since a moment, or 0 where the clock can't be read.
+fn nanoseconds_since<R: Clock>(rt: &R, start: Option<Instant>) -> u64 {
+    let Some(start) = start else { return 0 };
+    match start.elapsed(rt) {
+        Ok(passed) => u64::try_from(passed.as_nanos()).unwrap_or(u64::MAX),
+        Err(_) => 0,
+    }
+}
+
+/// Searches and prints what is found, and how long it took. The answer is the status.
+pub(crate) fn measure(
+    rt: &HostRuntime,
+    threads: &(impl Threads + Wait + Clock + Sync),
+    asked: Asked,
+    scenario: Arc<Scenario>,
+) -> Result<u8, AllocError> {
+    let gate = Timed {
+        worked: AtomicU64::new(0),
+    };
+    let start = Instant::now(rt).ok();
+    let found = search(threads, rt.alloc(), asked, scenario, &gate)?;
+    let took = nanoseconds_since(rt, start) / 1_000_000;
+    let status = print(rt, found);
+    let _printed = eprintln!(rt; "{took} ms").is_ok();
+    if matches!(asked.way, Word::Shares) {
+        let had = took.saturating_mul(u64::from(asked.count));
+        let worked = gate.worked.load(SeqCst) / 1_000_000;
+        let _printed = eprintln!(rt; "{had} ms of workers, {worked} ms of work").is_ok();
+    }
+    Ok(status)
+}
+
+/// What a search finds, by as many workers as the words ask for.
+fn search<R: Threads + Wait + Clock + Sync>(
+    rt: &R,
+    alloc: Global,
+    asked: Asked,
+    scenario: Arc<Scenario>,
+    gate: &Timed,
+) -> Result<Found, AllocError> {
+    if asked.count == 0 {
+        found_alone(alloc, scenario)
+    } else if matches!(asked.way, Word::Shares) {
+        found_by(rt, alloc, scenario, asked.count, gate)
+    } else {
+        found_by(rt, alloc, scenario, asked.count, &NoGate)
+    }
+}
+
+/// What a search in one thread finds.
+fn found_alone(alloc: Global, scenario: Arc<Scenario>) -> Result<Found, AllocError> {
+    match lf_alone::solve(alloc, scenario)? {
+        Ended::Finished(book) => {
+            let runs = book.answered();
+            let _made = book.into_tree().is_ok();
+            Ok(Found::Runs(runs))
+        }
+        Ended::Full { .. } => Ok(Found::Full),
+    }
+}
+
+/// What a search by several workers finds.
+fn found_by<R: Threads + Wait + Clock + Sync, G: Gate>(
+    rt: &R,
+    alloc: Global,
+    scenario: Arc<Scenario>,
+    workers: u32,
+    gate: &G,
+) -> Result<Found, AllocError> {
+    match lf_pool::solve(rt, alloc, scenario, workers, gate) {
+        Ok(Solved::Answer { runs, .. }) => Ok(Found::Runs(runs)),
+        Ok(Solved::Full(_)) => Ok(Found::Full),
+        Err(PoolError::Memory) => Err(AllocError),
+        Err(_) => Ok(Found::Refused),
+    }
+}
+
+/// Prints what a search found. The answer is the status.
+fn print(rt: &HostRuntime, found: Found) -> u8 {
+    let _printed = match found {
+        Found::Runs(runs) => println!(rt; "{runs} sets").is_ok(),
+        Found::Full => println!(rt; "full").is_ok(),
+        Found::Refused => println!(rt; "refused").is_ok(),
+    };
+    match found {
+        Found::Refused => 2,
+        _ => 0,
+    }
+}
