@@ -7,17 +7,13 @@ use Rattle.clap.specs.declared.error.kind.ErrorKind.TheVariants as kind
 use Rattle.lf_words.specs.Plain.{asks_help, asks_version, is_plain_command, is_unknown}
 use Rattle.lf_words.specs.Statuses.{exit_status}
 use Rattle.lf_words.specs.Commands.{program}
-use Rattle.lf_words.specs.Words.{AreNamed, Asks, IsAskedIn, IsPlainly, IsRefusal, IsWorkers, shares_input, workers_of}
+use Rattle.lf_words.specs.Words.{Answers, AreNamed, Asks, IsAskedIn, IsPlainly, IsRefusal, IsWorkers, shares_input, workers_of}
 use Rattle.lf_words.specs.declared.types.Asked.{Asked}
 use Rattle.lf_words.specs.declared.types.Asked.TheVariants as asked
 use Rattle.lf_words.specs.declared.unasked.Unasked.{Unasked}
 use Rattle.lf_words.specs.declared.unasked.Unasked.TheVariants as unasked
 use Rattle.lf_words.proofs.Plainly.{asks_plainly, refused_plainly, shared_is_refused, shared_refusal}
 use Rattle.lf_words.proofs.Plainly.{help_is, one_status, takes_none, unknown_is, unknown_status, version_is}
-
--- the clause `words` of an answer
-abbrev pub Answers : List Text → Result Asked Unasked → Type 0
-Answers words r = MatchResult r (λ a. Asks words a × (shares_input a ≡ false)) (IsRefusal words)
 
 pub answers_possible : (words : List Text) (a : Asked) (r : Result Asked Unasked)
     → MatchResult r (λ b. (b ≡ a) × (shares_input a ≡ false)) (λ u. (u ≡ unasked.SharedInput) × (shares_input a ≡ true))

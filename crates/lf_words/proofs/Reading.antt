@@ -1,6 +1,7 @@
 -- From what `clap` answers to what words ask for.
 use Rattle.std.proofs.Common.{◌≡◌, ◌∙◌, ◌⊎◌, ◌<◌, ℕ, List, [], ◌∷◌, Option, Some, None, inl, inr, refl, sym, ap, subst, true, false, arith}
-use Rattle.std.specs.Prelude.{Bool}
+use Rattle.std.specs.Prelude.{Bool, IfOk, Result, Ok, Err}
+use Rattle.std.specs.Result.{result_unwrap_or}
 use Rattle.clap.specs.Words.{App, HasKind, HasMatchesOf, IsAmong, Kinds, Row, Text, fault_of, is_simple, is_simple_and_free, subcommand_of, subcommand_rows_of}
 use Rattle.clap.specs.declared.error.Error.{Error}
 use Rattle.clap.specs.declared.error.kind.ErrorKind.{ErrorKind}
@@ -46,6 +47,12 @@ is_refusal words k (unasked.Wrong text) told (inl memory) = absurd (apart 2 3 (o
 is_refusal words k (unasked.Wrong text) told (inr among) = inl (has_status (fault_of program words) k 2 among (sym told))
 is_refusal words k unasked.SharedInput told among = absurd told
 is_refusal words k unasked.Memory told among = tt
+
+-- the same where memory may be wanting for the text
+pub is_refused : {E : Type 0} (words : List Text) (k : ErrorKind) (r : Result Unasked E) → IfOk r (IsToldFor k)
+    → (k ≡ kind.OutOfMemory) ⊎ IsAmong k (fault_of program words) → IsRefusal words (result_unwrap_or r unasked.Memory)
+is_refused words k (Ok u) told among = is_refusal words k u told among
+is_refused words k (Err e) told among = tt
 
 -- the same of words that are taken and ask for nothing
 pub is_unread : (words : List Text) (u : Unasked) → exit_status u ≡ 2 → goes_to_error u ≡ true → fault_of program words ≡ []

@@ -1,28 +1,42 @@
 -- The commands of `leastfault`, as `clap` reads them.
-use Rattle.std.specs.Prelude.{codes, true, Some}
-use Rattle.clap.specs.Words.{App, Rule, Text, new_app, new_rule, with_rule, with_subcommand}
+use Rattle.std.specs.Prelude.{◌≡◌, codes, false, true, Some}
+use Rattle.clap.specs.Words.{App, Rule, Text, app_of, new_app, new_rule, with_rule, with_subcommand}
 use Rattle.clap.specs.Simple.{on_top}
 use Rattle.clap.specs.declared.builder.action.ArgAction.TheVariants.{SetTrue}
+use Rattle.clap.specs.declared.builder.command.Command.{Command}
+use Rattle.clap.specs.declared.builder.command.Command.TheViews.{out-Command}
+
+-- an argument that has to be there
+abbrev pub positional : Text → Rule
+positional id = record (new_rule id) { required = true; value_names = 1 }
+
+-- an option with a value
+abbrev pub option : Text → Rule
+option id = record (new_rule id) { long = Some id; value_names = 1 }
+
+-- an option without one
+abbrev pub flag : Text → Rule
+flag id = record (new_rule id) { long = Some id; action = Some SetTrue }
 
 -- the argument FILE
 abbrev pub file : Rule
-file = record (new_rule (codes "file")) { required = true; value_names = 1 }
+file = positional (codes "file")
 
 -- the option --tree TREE
 abbrev pub written : Rule
-written = record (new_rule (codes "tree")) { long = Some (codes "tree"); value_names = 1 }
+written = option (codes "tree")
 
 -- the flag --all
 abbrev pub each : Rule
-each = record (new_rule (codes "all")) { long = Some (codes "all"); action = Some SetTrue }
+each = flag (codes "all")
 
 -- the option --workers N
 abbrev pub workers : Rule
-workers = record (new_rule (codes "workers")) { long = Some (codes "workers"); value_names = 1 }
+workers = option (codes "workers")
 
 -- the flag --quiet
 abbrev pub quiet : Rule
-quiet = record (new_rule (codes "quiet")) { long = Some (codes "quiet"); action = Some SetTrue }
+quiet = flag (codes "quiet")
 
 -- a command with this name and the argument FILE
 abbrev pub of_file : Text → App
@@ -46,7 +60,7 @@ search = with_rule loud_search quiet
 
 -- the argument FAULTS
 abbrev pub faults : Rule
-faults = record (new_rule (codes "faults")) { required = true; value_names = 1 }
+faults = positional (codes "faults")
 
 -- run FILE FAULTS
 abbrev pub run : App
@@ -54,7 +68,7 @@ run = with_rule (of_file (codes "run")) faults
 
 -- the argument TREE
 abbrev pub tree : Rule
-tree = record (new_rule (codes "tree")) { required = true; value_names = 1 }
+tree = positional (codes "tree")
 
 -- check FILE TREE, without its flag
 abbrev pub loud_check : App
@@ -88,3 +102,7 @@ without_answer = with_subcommand without_check check.top
 
 abbrev pub program : App
 program = with_subcommand without_answer answer.top
+
+-- a command that `clap` reads so, with no argument that is meant for others too
+abbrev pub IsBuilt : App → Command → Type 0
+IsBuilt app c = (app_of c ≡ app) × ((out-Command c).has_globals ≡ false)

@@ -1,5 +1,5 @@
 -- What words ask for.
-use Rattle.std.specs.Prelude.{◌≡◌, ◌≤◌, ◌⊎◌, ◌&&◌, ⊤, Bool, true, false, ℕ, List, [], ◌∷◌, Option, Some, None, IsSomeAnd, codes}
+use Rattle.std.specs.Prelude.{◌≡◌, ◌≤◌, ◌⊎◌, ◌&&◌, ⊤, Bool, true, false, ℕ, List, [], ◌∷◌, Option, Some, None, IsSomeAnd, MatchResult, Result, codes}
 use Rattle.std.specs.Option.{option_map}
 use Rattle.std.specs.Str.{bytes_eq}
 use Rattle.std.specs.Str.Parse.{IsNumeral, digits_value, without_leading_plus}
@@ -136,3 +136,7 @@ IsRefusal words (unasked.Wrong text) =
     HasStatus (fault_of program words) 2 ⊎ ((fault_of program words ≡ []) × ((a : Asked) → Asks words a → ⊥))
 IsRefusal words unasked.SharedInput = (a : Asked) × Asks words a × (shares_input a ≡ true)
 IsRefusal words unasked.Memory = ⊤
+
+-- words ask for this, which can be done, or are refused for this
+abbrev pub Answers : List Text → Result Asked Unasked → Type 0
+Answers words r = MatchResult r (λ a. Asks words a × (shares_input a ≡ false)) (IsRefusal words)

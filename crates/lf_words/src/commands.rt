@@ -1,11 +1,8 @@
 //! The program's commands, as `clap` reads and explains them.
 
 ghost use Rattle.std.specs.Prelude.{◌≡◌, IfOk, false};
-ghost use Rattle.clap.specs.Words.{app_of, rule_of};
-ghost use Rattle.clap.specs.declared.builder.command.Command.TheViews.{out-Command};
-ghost use Rattle.lf_words.specs.Commands.{each, faults, file, of_file, quiet, tree, workers, written};
-ghost use Rattle.lf_words.specs.Commands.{alone_search, answer, check, loud_check, loud_search, run, search, written_search};
-ghost use Rattle.lf_words.specs.Commands.{plain, program, without_answer, without_check, without_run};
+ghost use Rattle.clap.specs.Words.{App, Rule, app_of, rule_of, with_rule, with_subcommand};
+ghost use Rattle.lf_words.specs.Commands.{IsBuilt, answer, check, flag, of_file, option, plain, positional, program, quiet, run, search};
 
 use clap::{Arg, ArgAction, Command};
 use std::alloc::{AllocError, Global};
@@ -34,40 +31,15 @@ Exit status:
 pub(crate) fn program<'a>(alloc: Global) -> Result<Command<'a>, AllocError>
     ensures { IfOk result (λ c. app_of c ≡ program) }
 {
-    unnamed(alloc)?.bin_name("leastfault")
-}
-
-/// The command line of the program.
-fn unnamed<'a>(alloc: Global) -> Result<Command<'a>, AllocError>
-    ensures { IfOk result (λ c. app_of c ≡ program) }
-{
-    without_answer(alloc)?.subcommand(answer(alloc)?)
-}
-
-/// The command line without the command `answer`.
-fn without_answer<'a>(alloc: Global) -> Result<Command<'a>, AllocError>
-    ensures { IfOk result (λ c. app_of c ≡ without_answer) }
-{
-    without_check(alloc)?.subcommand(check(alloc)?)
-}
-
-/// The command line with the commands `search` and `run` alone.
-fn without_check<'a>(alloc: Global) -> Result<Command<'a>, AllocError>
-    ensures { IfOk result (λ c. app_of c ≡ without_check) }
-{
-    without_run(alloc)?.subcommand(run(alloc)?)
-}
-
-/// The command line with the command `search` alone.
-fn without_run<'a>(alloc: Global) -> Result<Command<'a>, AllocError>
-    ensures { IfOk result (λ c. app_of c ≡ without_run) }
-{
-    plain(alloc).subcommand(search(alloc)?)
+    let program = with_command(plain(alloc), search(alloc));
+    let program = with_command(program, run(alloc));
+    let program = with_command(program, check(alloc));
+    with_command(program, answer(alloc))
 }
 
 /// The command line without its commands.
-fn plain<'a>(alloc: Global) -> Command<'a>
-    ensures { app_of result ≡ plain }
+fn plain<'a>(alloc: Global) -> Result<Command<'a>, AllocError>
+    ensures { IfOk result (λ c. app_of c ≡ plain) }
 {
     Command::new(alloc, "leastfault")
         .version(VERSION)
@@ -76,159 +48,156 @@ fn plain<'a>(alloc: Global) -> Command<'a>
         .subcommand_required(true)
         .about(ABOUT)
         .after_help(WORDS)
+        .bin_name("leastfault")
 }
 
 /// The command `search FILE`, with the options `--tree TREE` and `--workers N` and the flags `--all` and `--quiet`.
 fn search<'a>(alloc: Global) -> Result<Command<'a>, AllocError>
-    ensures { IfOk result (λ c. (app_of c ≡ search) × ((out-Command c).has_globals ≡ false)) }
+    ensures { IfOk result (IsBuilt search) }
 {
-    loud_search(alloc)?.arg(quiet(alloc))
-}
-
-/// The command `search FILE` without the flag `--quiet`.
-fn loud_search<'a>(alloc: Global) -> Result<Command<'a>, AllocError>
-    ensures { IfOk result (λ c. (app_of c ≡ loud_search) × ((out-Command c).has_globals ≡ false)) }
-{
-    alone_search(alloc)?.arg(workers(alloc))
-}
-
-/// The command `search FILE` with the option `--tree TREE` and the flag `--all`.
-fn alone_search<'a>(alloc: Global) -> Result<Command<'a>, AllocError>
-    ensures { IfOk result (λ c. (app_of c ≡ alone_search) × ((out-Command c).has_globals ≡ false)) }
-{
-    written_search(alloc)?.arg(each(alloc))
-}
-
-/// The command `search FILE` with the option `--tree TREE`.
-fn written_search<'a>(alloc: Global) -> Result<Command<'a>, AllocError>
-    ensures { IfOk result (λ c. (app_of c ≡ written_search) × ((out-Command c).has_globals ≡ false)) }
-{
-    of_file(
+    let command = of_file(
         alloc,
         "search",
         "Prints the fewest faults with which the scenario FILE misses its outcome, or none",
-    )?
-    .arg(written(alloc))
+    );
+    let tree = option(
+        alloc,
+        "tree",
+        "TREE",
+        "Writes a certificate of the answer to the file TREE",
+    );
+    let all = flag(
+        alloc,
+        "all",
+        "Prints all sets with so few faults, each on a line",
+    );
+    let workers = option(
+        alloc,
+        "workers",
+        "N",
+        "Searches by N workers at once, 1 to 32: the answer is the same for every N",
+    );
+    let command = with_argument(with_argument(command, tree), all);
+    with_argument(with_argument(command, workers), quiet(alloc))
 }
 
 /// The command `run FILE FAULTS`.
 fn run<'a>(alloc: Global) -> Result<Command<'a>, AllocError>
-    ensures { IfOk result (λ c. (app_of c ≡ run) × ((out-Command c).has_globals ≡ false)) }
+    ensures { IfOk result (IsBuilt run) }
 {
-    of_file(
+    let command = of_file(
         alloc,
         "run",
         "Runs the scenario FILE once under the faults FAULTS, and prints what happens",
-    )?
-    .arg(faults(alloc))
+    );
+    let faults = positional(
+        alloc,
+        "faults",
+        "FAULTS",
+        "Faults joined by commas, as in 'omit 0>1 @2,crash 2 @3'; the empty word '' for none",
+    );
+    with_argument(command, faults)
 }
 
 /// The command `check FILE TREE`, with the flag `--quiet`.
 fn check<'a>(alloc: Global) -> Result<Command<'a>, AllocError>
-    ensures { IfOk result (λ c. (app_of c ≡ check) × ((out-Command c).has_globals ≡ false)) }
+    ensures { IfOk result (IsBuilt check) }
 {
-    loud_check(alloc)?.arg(quiet(alloc))
-}
-
-/// The command `check FILE TREE` without the flag `--quiet`.
-fn loud_check<'a>(alloc: Global) -> Result<Command<'a>, AllocError>
-    ensures { IfOk result (λ c. (app_of c ≡ loud_check) × ((out-Command c).has_globals ≡ false)) }
-{
-    of_file(
+    let command = of_file(
         alloc,
         "check",
         "Judges the certificate TREE of an answer to the scenario FILE: prints yes, or why not",
-    )?
-    .arg(tree(alloc))
+    );
+    let tree = positional(
+        alloc,
+        "tree",
+        "TREE",
+        "A file with a certificate, or - for standard input",
+    );
+    with_argument(with_argument(command, tree), quiet(alloc))
 }
 
 /// The command `answer FILE`, with the flag `--quiet`.
 fn answer<'a>(alloc: Global) -> Result<Command<'a>, AllocError>
-    ensures { IfOk result (λ c. (app_of c ≡ answer) × ((out-Command c).has_globals ≡ false)) }
+    ensures { IfOk result (IsBuilt answer) }
 {
-    of_file(
+    let command = of_file(
         alloc,
         "answer",
         "Prints what search does, by another way that no bound of the scenario on how many sets are kept can stop, and that makes no certificate",
-    )?
-    .arg(quiet(alloc))
+    );
+    with_argument(command, quiet(alloc))
 }
 
 /// A command with this name and the argument FILE, and what help says of it.
 fn of_file<'a>(alloc: Global, name: &'a str, about: &'a str) -> Result<Command<'a>, AllocError>
-    ensures { IfOk result (λ c. (app_of c ≡ of_file name.entry.now) × ((out-Command c).has_globals ≡ false)) }
+    ensures { IfOk result (IsBuilt (of_file name.entry.now)) }
 {
-    Command::new(alloc, name).about(about).arg(file(alloc))
-}
-
-/// The argument FAULTS.
-fn faults<'a>(alloc: Global) -> Arg<'a>
-    ensures { (rule_of result ≡ faults) × (result.global ≡ false) }
-{
-    Arg::new(alloc, "faults")
-        .required(true)
-        .value_name("FAULTS")
-        .help("Faults joined by commas, as in 'omit 0>1 @2,crash 2 @3'; the empty word '' for none")
-}
-
-/// The argument TREE.
-fn tree<'a>(alloc: Global) -> Arg<'a>
-    ensures { (rule_of result ≡ tree) × (result.global ≡ false) }
-{
-    Arg::new(alloc, "tree")
-        .required(true)
-        .value_name("TREE")
-        .help("A file with a certificate, or - for standard input")
-}
-
-/// The option `--tree TREE`.
-fn written<'a>(alloc: Global) -> Arg<'a>
-    ensures { (rule_of result ≡ written) × (result.global ≡ false) }
-{
-    Arg::new(alloc, "tree")
-        .long("tree")
-        .value_name("TREE")
-        .help("Writes a certificate of the answer to the file TREE")
-}
-
-/// The flag `--all`.
-fn each<'a>(alloc: Global) -> Arg<'a>
-    ensures { (rule_of result ≡ each) × (result.global ≡ false) }
-{
-    Arg::new(alloc, "all")
-        .long("all")
-        .action(ArgAction::SetTrue)
-        .help("Prints all sets with so few faults, each on a line")
-}
-
-/// The option `--workers N`.
-fn workers<'a>(alloc: Global) -> Arg<'a>
-    ensures { (rule_of result ≡ workers) × (result.global ≡ false) }
-{
-    Arg::new(alloc, "workers")
-        .long("workers")
-        .value_name("N")
-        .help("Searches by N workers at once, 1 to 32: the answer is the same for every N")
+    let file = positional(
+        alloc,
+        "file",
+        "FILE",
+        "A file with a scenario in TOML, or - for standard input",
+    );
+    Command::new(alloc, name).about(about).arg(file)
 }
 
 /// The flag `--quiet`.
 fn quiet<'a>(alloc: Global) -> Arg<'a>
     ensures { (rule_of result ≡ quiet) × (result.global ≡ false) }
 {
-    Arg::new(alloc, "quiet")
-        .long("quiet")
-        .action(ArgAction::SetTrue)
-        .help(
-            "Tells nothing on the way: otherwise standard error, where it is a terminal, says how far it has come",
-        )
+    flag(
+        alloc,
+        "quiet",
+        "Tells nothing on the way: otherwise standard error, where it is a terminal, says how far it has come",
+    )
 }
 
-/// The argument FILE.
-fn file<'a>(alloc: Global) -> Arg<'a>
-    ensures { (rule_of result ≡ file) × (result.global ≡ false) }
+/// The command line with one command more.
+fn with_command<'a>(
+    program: Result<Command<'a>, AllocError>,
+    command: Result<Command<'a>, AllocError>,
+) -> Result<Command<'a>, AllocError>
+    ensures { (above one : App) → IfOk program.entry (λ c. app_of c ≡ above) → IfOk command.entry (IsBuilt one)
+        → IfOk result (λ c. app_of c ≡ with_subcommand above one.top) }
 {
-    Arg::new(alloc, "file")
+    program?.subcommand(command?)
+}
+
+/// The command with one argument more.
+fn with_argument<'a>(
+    command: Result<Command<'a>, AllocError>,
+    argument: Arg<'a>,
+) -> Result<Command<'a>, AllocError>
+    ensures { (app : App) (rule : Rule) → IfOk command.entry (IsBuilt app) → (rule_of argument.entry ≡ rule) × (argument.entry.global ≡ false)
+        → IfOk result (IsBuilt (with_rule app rule)) }
+{
+    command?.arg(argument)
+}
+
+/// An argument that has to be there and that help calls by this name.
+fn positional<'a>(alloc: Global, id: &'a str, name: &'a str, help: &'a str) -> Arg<'a>
+    ensures { (rule_of result ≡ positional id.entry.now) × (result.global ≡ false) }
+{
+    Arg::new(alloc, id)
         .required(true)
-        .value_name("FILE")
-        .help("A file with a scenario in TOML, or - for standard input")
+        .value_name(name)
+        .help(help)
+}
+
+/// An option whose value help calls by this name.
+fn option<'a>(alloc: Global, id: &'a str, name: &'a str, help: &'a str) -> Arg<'a>
+    ensures { (rule_of result ≡ option id.entry.now) × (result.global ≡ false) }
+{
+    Arg::new(alloc, id).long(id).value_name(name).help(help)
+}
+
+/// A flag.
+fn flag<'a>(alloc: Global, id: &'a str, help: &'a str) -> Arg<'a>
+    ensures { (rule_of result ≡ flag id.entry.now) × (result.global ≡ false) }
+{
+    Arg::new(alloc, id)
+        .long(id)
+        .action(ArgAction::SetTrue)
+        .help(help)
 }

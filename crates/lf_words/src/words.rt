@@ -3,11 +3,12 @@
 ghost use Rattle.std.specs.Prelude.{◌≡◌, ◌≢◌, ◌↔◌, ◌⊎◌, ℕ, [], ◌∷◌, map, option_map, codes, false, true};
 ghost use Rattle.std.specs.Prelude.{Some, MatchOption, IsTrue, IfOk, IsErrAnd, MatchResult};
 ghost use Rattle.std.specs.String.{string_bytes};
-ghost use Rattle.clap.specs.Words.{first_of, found_of, kind_of, rows_of, subcommand_rows_of};
+ghost use Rattle.clap.specs.Words.{fault_of, first_of, found_of, kind_of, rows_of, subcommand_of, subcommand_rows_of};
+ghost use Rattle.lf_words.specs.Commands.{program};
 ghost use Rattle.lf_words.specs.Plain.{asks_help, asks_version, is_plain_command, is_unknown};
 ghost use Rattle.lf_words.specs.Statuses.{exit_status, goes_to_error};
-ghost use Rattle.lf_words.specs.Words.{AreNamed, Asks, IsAnswer, IsAskedBy, IsAskedIn, IsPartOf, IsPlainly, IsRefusal, IsToldFor, is_set, shares_input};
-ghost use Rattle.lf_words.specs.Words.{IsWorkers, workers_of};
+ghost use Rattle.lf_words.specs.Words.{Answers, AreNamed, Asks, IsAnswer, IsAskedBy, IsAskedIn, IsPartOf, IsPlainly, IsRefusal, IsToldFor};
+ghost use Rattle.lf_words.specs.Words.{IsWorkers, is_set, shares_input, workers_of};
 
 use crate::commands::program;
 use crate::{Asked, Unasked};
@@ -41,20 +42,39 @@ pub fn asked(alloc: Global, words: &[String]) -> Result<Asked, Unasked>
         (λ a. Asks (map string_bytes words.now) a × (shares_input a ≡ false)) (IsRefusal (map string_bytes words.now)) }
 {
     if words.is_empty() {
-        return Ok(search_of_input(alloc)?);
+        search_of_input(alloc)
+    } else {
+        read(alloc, words)
     }
-    match program(alloc)?.try_get_matches_from(words) {
-        Ok(matches) => match command(alloc, words, &matches)? {
-            Some(asked) => possible(asked),
-            None => Err(unread(alloc)?),
+}
+
+/// What words ask for, as `clap` reads them.
+fn read(alloc: Global, words: &[String]) -> Result<Asked, Unasked>
+    ensures { Answers (map string_bytes words.now) result }
+{
+    match program(alloc) {
+        Ok(program) => match program.try_get_matches_from(words) {
+            Ok(matches) => taken(alloc, words, &matches),
+            Err(error) => Err(refused(alloc, &error).unwrap_or(Unasked::Memory)),
         },
-        Err(error) => Err(refused(alloc, &error)?),
+        Err(_) => Err(Unasked::Memory),
+    }
+}
+
+/// What words ask for that `clap` takes, from its matches.
+fn taken(alloc: Global, words: &[String], matches: &ArgMatches<'_>) -> Result<Asked, Unasked>
+    ensures { subcommand_rows_of matches.now ≡ subcommand_of program (map string_bytes words.now)
+        → fault_of program (map string_bytes words.now) ≡ [] → Answers (map string_bytes words.now) result }
+{
+    match command(alloc, words, matches)? {
+        Some(asked) => possible(asked),
+        None => Err(unread(alloc)?),
     }
 }
 
 /// The search of the scenario on standard input, which no words ask for.
-fn search_of_input(alloc: Global) -> Result<Asked, AllocError>
-    ensures plain { IfOk result (IsPlainly (codes "search" ∷ codes "-" ∷ [])) }
+fn search_of_input(alloc: Global) -> Result<Asked, Unasked>
+    ensures plain { MatchResult result (IsPlainly (codes "search" ∷ codes "-" ∷ [])) (λ u. u ≡ Unasked.Memory) }
     ensures workers { IfOk result (λ a. IsWorkers (workers_of a)) }
 {
     Ok(Asked::Search {

@@ -1,0 +1,4 @@
+use Rattle.lf_words.proofs.commands.run.Goals as goal
+
+pub returns : goal.returns
+returns c = c.with_argument.ensures _ _ c.of_file-command.ensures c.positional-faults.ensures
