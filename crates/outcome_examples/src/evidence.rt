@@ -4,7 +4,7 @@
 ghost use Rattle.lf_sim.specs.Settings.{IsRun, world_of};
 
 use crate::formulas::formula;
-use crate::texts::{agrees, columns, number, numbers, setting, words};
+use crate::texts::{agrees, columns, number, reach, setting, words};
 use lf_faults::FaultSet;
 use lf_outcome::{Formula, Point, Reach, atoms, depth, evidence, holds, holds_within};
 use lf_protocols::{Fact, Protocol};
@@ -15,37 +15,37 @@ use std::alloc::Global;
 /// many atoms it has; `rests`, the points on which it rests, or `none` where it is false; `within`, a reach, and whether it is true within it.
 const FORMULAS: &str = concat!(
     // No parts, and atoms, some of which speak of no point of the run.
-    "retry 2 1|3 0 0 1 0 1 0 0|is|all 0|true|1|0\n",
-    "retry 2 1|3 0 0 1 0 1 0 0|is|any 0|false|1|0\n",
-    "retry 2 1|3 0 0 1 0 1 0 0|is|down 0 1|false|1|1\n",
-    "retry 2 1|3 0 0 1 0 1 0 0|is|shows 0 1 has|true|1|1\n",
-    "retry 2 1|3 0 0 1 0 1 0 0|is|down 0 3|false|1|1\n",
-    "retry 2 1|3 0 0 1 0 1 0 0|is|shows 0 3 has|true|1|1\n",
-    "retry 2 1|3 0 0 1 0 1 0 0|is|down 0 0|true|1|1\n",
-    "retry 2 1|3 0 0 1 0 1 0 0|is|shows 0 0 has|false|1|1\n",
-    "retry 2 1|3 0 0 1 0 1 0 0|is|down 0 4|true|1|1\n",
-    "retry 2 1|3 0 0 1 0 1 0 0|is|shows 0 4 has|false|1|1\n",
-    "retry 2 1|3 0 0 1 0 1 0 0|is|down 2 1|true|1|1\n",
-    "retry 2 1|3 0 0 1 0 1 0 0|is|shows 2 1 has|false|1|1\n",
-    "retry 2 1|3 0 0 1 0 1 0 0|is|down 4294967295 4294967295|true|1|1\n",
-    "retry 2 1|3 0 0 1 0 1 0 0|is|shows 4294967295 4294967295 has|false|1|1\n",
+    "retry 2 1|3 0 0 1 0 1 1 0 0|is|all 0|true|1|0\n",
+    "retry 2 1|3 0 0 1 0 1 1 0 0|is|any 0|false|1|0\n",
+    "retry 2 1|3 0 0 1 0 1 1 0 0|is|down 0 1|false|1|1\n",
+    "retry 2 1|3 0 0 1 0 1 1 0 0|is|shows 0 1 has|true|1|1\n",
+    "retry 2 1|3 0 0 1 0 1 1 0 0|is|down 0 3|false|1|1\n",
+    "retry 2 1|3 0 0 1 0 1 1 0 0|is|shows 0 3 has|true|1|1\n",
+    "retry 2 1|3 0 0 1 0 1 1 0 0|is|down 0 0|true|1|1\n",
+    "retry 2 1|3 0 0 1 0 1 1 0 0|is|shows 0 0 has|false|1|1\n",
+    "retry 2 1|3 0 0 1 0 1 1 0 0|is|down 0 4|true|1|1\n",
+    "retry 2 1|3 0 0 1 0 1 1 0 0|is|shows 0 4 has|false|1|1\n",
+    "retry 2 1|3 0 0 1 0 1 1 0 0|is|down 2 1|true|1|1\n",
+    "retry 2 1|3 0 0 1 0 1 1 0 0|is|shows 2 1 has|false|1|1\n",
+    "retry 2 1|3 0 0 1 0 1 1 0 0|is|down 4294967295 4294967295|true|1|1\n",
+    "retry 2 1|3 0 0 1 0 1 1 0 0|is|shows 4294967295 4294967295 has|false|1|1\n",
     // The first part that is true.
-    "retry 3 1|4 3 0 2 0 1 0 0|rests|shows 1 2 lacks,shows 1 2 has,any 2,shows 0 1 has,all 2|1 2,0 1,\n",
+    "retry 3 1|4 3 0 2 0 1 1 0 0|rests|shows 1 2 lacks,shows 1 2 has,any 2,shows 0 1 has,all 2|1 2,0 1,\n",
     // The first of two true parts, and a point named twice.
-    "retry 3 1|4 3 0 2 0 1 0 0|rests|shows 2 3 has,shows 1 2 has,any 2,shows 2 3 has,all 2|2 3,2 3,\n",
+    "retry 3 1|4 3 0 2 0 1 1 0 0|rests|shows 2 3 has,shows 1 2 has,any 2,shows 2 3 has,all 2|2 3,2 3,\n",
     // Nothing is needed.
-    "retry 3 1|4 3 0 2 0 1 0 0|rests|all 0,shows 0 1 has,any 2|\n",
+    "retry 3 1|4 3 0 2 0 1 1 0 0|rests|all 0,shows 0 1 has,any 2|\n",
     // A node that is not up has no point.
-    "retry 3 1|4 3 0 2 0 1 0 0|rests|down 0 5,shows 0 4 has,all 2|0 4,\n",
+    "retry 3 1|4 3 0 2 0 1 1 0 0|rests|down 0 5,shows 0 4 has,all 2|0 4,\n",
     // A false formula.
-    "retry 3 1|4 3 0 2 0 1 0 0|rests|shows 0 1 has,shows 1 1 has,all 2|none\n",
+    "retry 3 1|4 3 0 2 0 1 1 0 0|rests|shows 0 1 has,shows 1 1 has,all 2|none\n",
     // A fact past the reach counts as not shown.
-    "retry 3 1|4 3 0 2 0 1 0 0|within|shows 1 3 has|0 3 0|true\n",
-    "retry 3 1|4 3 0 2 0 1 0 0|within|down 1 5|0 3 0|true\n",
-    "retry 3 1|4 3 0 2 0 1 0 0|within|shows 1 3 has|4 2 4|false\n",
-    "retry 3 1|4 3 0 2 0 1 0 0|within|down 1 5|4 2 4|true\n",
-    "retry 3 1|4 3 0 2 0 1 0 0|within|shows 1 3 has|0 4 0|true\n",
-    "retry 3 1|4 3 0 2 0 1 0 0|within|down 1 5|0 4 0|true\n",
+    "retry 3 1|4 3 0 2 0 1 1 0 0|within|shows 1 3 has|0 3 0|true\n",
+    "retry 3 1|4 3 0 2 0 1 1 0 0|within|down 1 5|0 3 0|true\n",
+    "retry 3 1|4 3 0 2 0 1 1 0 0|within|shows 1 3 has|4 2 4|false\n",
+    "retry 3 1|4 3 0 2 0 1 1 0 0|within|down 1 5|4 2 4|true\n",
+    "retry 3 1|4 3 0 2 0 1 1 0 0|within|shows 1 3 has|0 4 0|true\n",
+    "retry 3 1|4 3 0 2 0 1 1 0 0|within|down 1 5|0 4 0|true\n",
 );
 
 /// Whether the points are those of a text: each a node and a step, with a comma behind it.
@@ -113,11 +113,7 @@ fn is_within(
     requires { IsRun (world_of setting.now) run.now }
 {
     let (steps, truth) = columns(text);
-    let mut list = [0; 9];
-    if numbers(steps, &mut list) != Some(3) {
-        return false;
-    }
-    match Reach::new(&list[..3]) {
+    match reach(steps) {
         Some(reach) => is_word(holds_within(setting, formula, run, &reach), truth),
         None => false,
     }
@@ -139,7 +135,26 @@ fn is_judged(
         && number(many) == Some(atoms(formula))
 }
 
-/// Whether of the formula of a row is found in the run what the row says.
+/// Whether of the formula is found in the run without faults what the text says.
+fn is_found(
+    alloc: Global,
+    setting: &Setting<Protocol>,
+    formula: &Formula<Fact>,
+    what: &str,
+    text: &str,
+) -> bool {
+    match run(alloc, setting, &FaultSet::empty()) {
+        Ok(run) => match what {
+            "is" => is_judged(setting, &run, formula, text),
+            "rests" => rests_on(alloc, setting, &run, formula, text),
+            "within" => is_within(setting, &run, formula, text),
+            _ => false,
+        },
+        Err(_) => false,
+    }
+}
+
+/// Whether of the formula of a row is found what the row says.
 fn row_is_found(alloc: Global, row: &str) -> bool {
     let (protocol, rest) = columns(row);
     let (numbers, rest) = columns(rest);
@@ -148,17 +163,9 @@ fn row_is_found(alloc: Global, row: &str) -> bool {
     let Some(setting) = setting(protocol, numbers) else {
         return false;
     };
-    let Some(formula) = formula(alloc, text) else {
-        return false;
-    };
-    match run(alloc, &setting, &FaultSet::empty()) {
-        Ok(run) => match what {
-            "is" => is_judged(&setting, &run, &formula, expected),
-            "rests" => rests_on(alloc, &setting, &run, &formula, expected),
-            "within" => is_within(&setting, &run, &formula, expected),
-            _ => false,
-        },
-        Err(_) => false,
+    match formula(alloc, text) {
+        Some(formula) => is_found(alloc, &setting, &formula, what, expected),
+        None => false,
     }
 }
 

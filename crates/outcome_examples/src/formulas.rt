@@ -61,14 +61,24 @@ fn last(alloc: Global, formulas: &mut Vec<Formula<Fact>>, count: u32) -> Option<
     Some(Listed::from_vec(parts))
 }
 
+/// Puts the formula of an item behind the others, or tells that it is none.
+fn is_put(alloc: Global, formulas: &mut Vec<Formula<Fact>>, text: &str) -> bool {
+    let (name, rest) = words(text);
+    let (first, rest) = words(rest);
+    let Some(first) = number(first) else {
+        return false;
+    };
+    match item(alloc, formulas, name, first, rest) {
+        Some(found) => formulas.push(found).is_ok(),
+        None => false,
+    }
+}
+
 /// The formula of a list, in which the parts of each `all` and `any` stand before it.
 pub(crate) fn formula(alloc: Global, text: &str) -> Option<Formula<Fact>> {
     let mut formulas = Vec::new(alloc);
-    for words_of_item in text.split(',') {
-        let (name, rest) = words(words_of_item);
-        let (first, rest) = words(rest);
-        let found = item(alloc, &mut formulas, name, number(first)?, rest)?;
-        if formulas.push(found).is_err() {
+    for item in text.split(',') {
+        if !is_put(alloc, &mut formulas, item) {
             return None;
         }
     }

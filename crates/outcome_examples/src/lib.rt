@@ -1,10 +1,13 @@
-//! Worked examples of outcomes: runs told line by line, and formulas with their truth, size and evidence. Besides, lists of faults,
-//! and names of outcomes.
+//! Worked examples of outcomes, evidence and reaches: runs told line by line, formulas with their truth, size and evidence, and the reaches
+//! and required edges of small scenarios, by hand and beside a plain search over all reaches and all faults. Besides, the light-cone law
+//! at a run, lists of faults, and names of outcomes.
 //!
 //! A table of examples is one text, a line for each, in which `|` parts the columns, `,` the items of a list, and blanks the
 //! words. A formula stands behind its parts: `all 2` is of the two formulas before it.
 #![tactic(auto)]
 
+#[cfg(test)]
+mod cones;
 #[cfg(test)]
 mod evidence;
 #[cfg(test)]
@@ -12,11 +15,17 @@ mod fewest;
 #[cfg(test)]
 mod formulas;
 #[cfg(test)]
+mod law;
+#[cfg(test)]
 mod listed;
+#[cfg(test)]
+mod plain;
 #[cfg(test)]
 mod reaches;
 #[cfg(test)]
 mod runs;
+#[cfg(test)]
+mod searched;
 #[cfg(test)]
 mod sizes;
 #[cfg(test)]

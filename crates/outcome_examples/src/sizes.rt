@@ -21,6 +21,17 @@ fn compared(alloc: Global, text: &str, by_hand: &Formula<Fact>) -> Option<(bool,
     }
 }
 
+/// Whether each of these outcomes has another formula than this one.
+fn are_others(alloc: Global, others: &str, by_hand: &Formula<Fact>) -> bool {
+    for other in others.split(',') {
+        match compared(alloc, other, by_hand) {
+            Some((false, _, _)) => {}
+            _ => return false,
+        }
+    }
+    true
+}
+
 /// Whether the outcome of a row has the formula that it says, which is so deep and has so many atoms, and the others have another.
 fn is_formula(alloc: Global, row: &str) -> bool {
     let (head, rest) = columns(row);
@@ -30,16 +41,13 @@ fn is_formula(alloc: Global, row: &str) -> bool {
     let (Some(deep), Some(many)) = (number(deep), number(many)) else {
         return false;
     };
-    let Some(by_hand) = formula(alloc, text) else {
-        return false;
-    };
-    for other in others.split(',') {
-        match compared(alloc, other, &by_hand) {
-            Some((false, _, _)) => {}
-            _ => return false,
+    match formula(alloc, text) {
+        Some(by_hand) => {
+            are_others(alloc, others, &by_hand)
+                && compared(alloc, head, &by_hand) == Some((true, deep, many))
         }
+        None => false,
     }
-    compared(alloc, head, &by_hand) == Some((true, deep, many))
 }
 
 /// Outcomes, of which three speak of all nodes and two of the nodes 0 to 2: each with how deep its formula is, how many atoms it

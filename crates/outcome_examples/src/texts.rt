@@ -2,7 +2,7 @@
 
 use lf_faults::FaultSpec;
 use lf_latency::{Links, Network};
-use lf_outcome::Outcome;
+use lf_outcome::{Outcome, Reach};
 use lf_protocols::Protocol;
 use lf_sim::{Machine, Setting};
 use std::process::Abort;
@@ -40,6 +40,13 @@ pub(crate) fn numbers(text: &str, list: &mut [u32; 9]) -> Option<usize> {
     Some(count)
 }
 
+/// The reach of these last steps.
+pub(crate) fn reach(text: &str) -> Option<Reach> {
+    let mut list = [0; 9];
+    let count = numbers(text, &mut list)?;
+    Reach::new(list.get(..count)?)
+}
+
 /// The protocol of a name, a number of nodes, tries or a patience, and where node 1 votes no, `yn`.
 pub(crate) fn protocol(text: &str) -> Option<Protocol> {
     let (name, rest) = words(text);
@@ -70,13 +77,13 @@ pub(crate) fn outcome(word: &str) -> Option<Outcome> {
     }
 }
 
-/// The setting of a protocol and eight numbers: the last step, the last step of an omission, the greatest numbers of crashes
-/// and of faults, the greatest number of pauses and their length, and the spread and the byte of the seed of the network, in
-/// which each note takes a step at least.
+/// The setting of a protocol and nine numbers: the last step, the last step of an omission, the greatest numbers of crashes
+/// and of faults, the greatest number of pauses and their length, and of the network the fewest steps that a note takes, how
+/// many more it may take, and the byte of the seed.
 pub(crate) fn setting(text: &str, bounds: &str) -> Option<Setting<Protocol>> {
     let protocol = protocol(text)?;
     let mut list = [0; 9];
-    if numbers(bounds, &mut list)? != 8 {
+    if numbers(bounds, &mut list)? != 9 {
         return None;
     }
     let [
@@ -86,14 +93,14 @@ pub(crate) fn setting(text: &str, bounds: &str) -> Option<Setting<Protocol>> {
         budget,
         pauses,
         pause_length,
+        least,
         spread,
         seed,
-        _,
     ] = list;
     let nodes = protocol.nodes();
     let bounds = FaultSpec::new(nodes, horizon, last_omission, crashes, budget)?;
     let bounds = bounds.with_pauses(pauses, pause_length)?;
-    let links = Links::new(nodes, 1, spread.min(15));
+    let links = Links::new(nodes, least.clamp(1, 16), spread.min(15));
     let seed = [seed.min(255) as u8; 32];
     let network = Network::new(seed, links, nodes, bounds.horizon());
     Setting::new(protocol, network, bounds)

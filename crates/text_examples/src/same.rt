@@ -1,17 +1,6 @@
-//! Equality of trees, and how deep they are, written apart from the crate of trees; and how a row of a table is taken apart and compared.
+//! Equality of trees, and how deep they are, written apart from the crate of trees.
 
 use lf_tree::{Node, Tree};
-use std::process::Abort;
-
-/// What is found at the row is what it says. Each comparison ends here: an assertion is dear to prove.
-pub(crate) fn agrees(rt: &impl Abort, truth: bool, row: &str) {
-    assert!(rt; truth, "at {row}");
-}
-
-/// The columns before and behind the first `|`.
-pub(crate) fn columns(line: &str) -> (&str, &str) {
-    line.split_once('|').unwrap_or((line, ""))
-}
 
 /// Whether two trees are equal.
 pub(crate) fn are_same(one: &Tree, other: &Tree) -> bool {

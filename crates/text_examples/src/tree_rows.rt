@@ -3,7 +3,8 @@
 //! A tree is told by its answer, which is `null` or faults with `,` between them, and by its nodes, each before its kids, with `;`
 //! between them. A branch is told by how many kids it has, its reach and its edges, with `:` between them.
 
-use crate::same::{agrees, are_same, columns};
+use crate::rows::{agrees, columns, number};
+use crate::same::are_same;
 use lf_faults::{Fault, FaultSet, read_fault};
 use lf_outcome::Reach;
 use lf_tree::{Edges, Kids, Node, Row, Tree, count, read_tree, rows, text_length, to_text};
@@ -73,49 +74,60 @@ fn reach(text: &str) -> Option<Reach> {
     let mut count = 0_usize;
     for word in text.split(',') {
         if let Some(step) = steps.get_mut(count) {
-            *step = word.parse::<u32>().ok()?;
+            *step = number(word)?;
             count = count.saturating_add(1);
         }
     }
     Reach::new(steps.get(..count)?)
 }
 
-/// Takes out the last nodes, so many and the last first.
-fn taken(alloc: Global, nodes: &mut Vec<Node>, count: u32) -> Result<Kids, AllocError> {
+/// Takes out the last nodes, so many and the last first. Fewer where there are no more.
+pub(crate) fn taken(
+    alloc: Global,
+    nodes: &mut Vec<Node>,
+    count: u32,
+) -> Result<Vec<Node>, AllocError> {
     let mut kids = Vec::new(alloc);
     for _ in 0..count {
         if let Some(kid) = nodes.pop() {
             kids.push(kid)?;
         }
     }
-    Ok(Kids::from_vec(kids))
+    Ok(kids)
 }
 
 /// The branch of a word, whose kids are taken out of the nodes. A leaf where the word is of no branch.
 fn branch(alloc: Global, nodes: &mut Vec<Node>, word: &str) -> Result<Node, AllocError> {
     let (count, rest) = fields(word);
     let (steps, edges) = fields(rest);
-    let kids = taken(alloc, nodes, count.parse::<u32>().unwrap_or(0))?;
+    let edges = faults(alloc, edges)?;
+    let kids = taken(alloc, nodes, number(count).unwrap_or(0))?;
     match reach(steps) {
         Some(reach) => Ok(Node::Branch {
             reach,
-            edges: Edges::from_vec(faults(alloc, edges)?),
-            kids,
+            edges: Edges::from_vec(edges),
+            kids: Kids::from_vec(kids),
         }),
         None => Ok(Node::Misses),
     }
+}
+
+/// Puts the node of a word behind the others, of which a branch takes its kids.
+fn put(alloc: Global, nodes: &mut Vec<Node>, word: &str) -> Result<(), AllocError> {
+    let node = match word {
+        "misses" => Node::Misses,
+        "reaches" => Node::Reaches,
+        word => branch(alloc, nodes, word)?,
+    };
+    nodes.push(node)?;
+    Ok(())
 }
 
 /// The root of nodes that are told by words.
 fn root(alloc: Global, words: &str) -> Result<Node, AllocError> {
     let mut nodes = Vec::new(alloc);
     for word in words.rsplit(';') {
-        let node = match word {
-            "misses" => Node::Misses,
-            "reaches" => Node::Reaches,
-            word => branch(alloc, &mut nodes, word)?,
-        };
-        nodes.push(node)?;
+        put(alloc, &mut nodes, word)?;
     }
     Ok(nodes.pop().unwrap_or(Node::Misses))
 }
@@ -224,12 +236,14 @@ fn has_a_million(alloc: Global, tree: &Tree) -> bool {
     let Ok(rows) = rows(alloc, tree) else {
         return false;
     };
-    let Some(last) = rows.last() else {
-        return false;
-    };
-    rows.len() == 1_000_001
-        && (last.parent, last.kid, last.depth) == (Some(0), 999_999, 1)
-        && (count(tree), text_length(tree)) == (1_000_001, 16_000_069)
+    match rows.last() {
+        Some(last) => {
+            rows.len() == 1_000_001
+                && (last.parent, last.kid, last.depth) == (Some(0), 999_999, 1)
+                && (count(tree), text_length(tree)) == (1_000_001, 16_000_069)
+        }
+        None => false,
+    }
 }
 
 #[test]

@@ -1,7 +1,7 @@
 //! Outcomes that are lists, and those that have a name.
 
-use crate::texts::{agrees, row_is_told};
-use crate::told::{number, words};
+use crate::rows::{number, words};
+use crate::texts::are_told;
 use lf_list::Listed;
 use lf_outcome::{Formula, Outcome, atoms, depth, named, same};
 use lf_protocols::Fact;
@@ -139,7 +139,5 @@ const LISTS: &str = concat!(
 
 #[test]
 fn lists_are_read_as_formulas_or_refused(rt: HostRuntime) {
-    for row in LISTS.lines() {
-        agrees(&rt, row_is_told(rt.alloc(), row), row);
-    }
+    are_told(&rt, rt.alloc(), LISTS);
 }

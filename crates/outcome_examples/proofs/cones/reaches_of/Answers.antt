@@ -1,7 +1,7 @@
 use Rattle.std.proofs.Common.{sym, ◌∙◌}
 use Rattle.lf_sim.specs.Settings.{world_of, set_of}
-use Rattle.cone_examples.proofs.OnePoint.{point-up}
-use Rattle.cone_examples.proofs.reaches.reaches_of.Goals as goal
+use Rattle.outcome_examples.proofs.OnePoint.{point-up}
+use Rattle.outcome_examples.proofs.cones.reaches_of.Goals as goal
 
 pub cone-requires-clause-up : goal.cone-requires-clause-up
 cone-requires-clause-up c =

@@ -2,12 +2,13 @@
 
 ghost use Rattle.lf_sim.specs.Settings.{IsRun, world_of};
 
-use crate::texts::{agrees, are_named, columns, number, reach, set, setting, words};
+use crate::texts::{agrees, columns, number, reach, setting, words};
 use lf_cone::{cone, edges, is_closed, put_edges, sharp};
-use lf_faults::Fault;
+use lf_faults::{Fault, read_fault};
 use lf_outcome::{Point, Reach};
 use lf_protocols::Protocol;
 use lf_sim::{Run, Setting, run};
+use lf_trace::read_faults;
 use std::alloc::Global;
 
 /// The cone and the sharp reach of one point, where its node is up.
@@ -58,6 +59,19 @@ pub(crate) fn has_edges(
     }
 }
 
+/// Whether the text names these faults, each with a comma behind it.
+fn are_named(faults: &[Fault], text: &str) -> bool {
+    let mut rest = text;
+    for fault in faults {
+        let (item, behind) = rest.split_once(',').unwrap_or((rest, ""));
+        if read_fault(item) != Some(*fault) {
+            return false;
+        }
+        rest = behind;
+    }
+    rest.is_empty()
+}
+
 /// Whether the reach of the text has the edges that the text says. They are put in place of what a list held, and a list of their own
 /// is the same.
 fn are_put(
@@ -71,7 +85,7 @@ fn are_put(
 {
     let (steps, rest) = columns(text);
     let (excluded, expected) = columns(rest);
-    let (Some(reach), Some(excluded)) = (reach(steps), set(excluded)) else {
+    let (Some(reach), Some(excluded)) = (reach(steps), read_faults(excluded)) else {
         return false;
     };
     let excluded = excluded.items();
@@ -131,7 +145,7 @@ fn row_is_found(alloc: Global, row: &str, held: &mut Vec<Fault>) -> bool {
     let (numbers, rest) = columns(rest);
     let (faults, rest) = columns(rest);
     let (what, text) = columns(rest);
-    let (Some(setting), Some(faults)) = (setting(protocol, numbers), set(faults)) else {
+    let (Some(setting), Some(faults)) = (setting(protocol, numbers), read_faults(faults)) else {
         return false;
     };
     match run(alloc, &setting, &faults) {

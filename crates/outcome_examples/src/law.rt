@@ -1,10 +1,11 @@
 //! The light-cone law at a run, with no premise left.
 
-use crate::texts::{agrees, set, setting};
+use crate::texts::{agrees, setting};
 use lf_cone::{agree, sharp};
 use lf_faults::{FaultSet, admits};
 use lf_outcome::{Formula, Outcome, evidence, holds, named};
 use lf_sim::{Machine, Setting, run};
+use lf_trace::read_faults;
 use std::alloc::{AllocError, Global};
 
 /// Whether a set reaches an outcome, by the law at the set itself, where its run is made, and the sharp reach of its evidence
@@ -31,7 +32,7 @@ fn reaches_by_law<M: Machine>(
 fn omission_reaches(alloc: Global) -> bool {
     let (Some(setting), Some(set)) = (
         setting("redundant 3 4", "4 2 1 2 0 1 1 0 0"),
-        set("omit 0>1 @1"),
+        read_faults("omit 0>1 @1"),
     ) else {
         return false;
     };

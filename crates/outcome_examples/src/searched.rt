@@ -2,13 +2,14 @@
 
 ghost use Rattle.lf_sim.specs.Settings.{IsRun, world_of};
 
+use crate::cones::{has_edges, reaches_of};
 use crate::plain;
-use crate::reaches::{has_edges, reaches_of};
-use crate::texts::{agrees, set, setting};
+use crate::texts::{agrees, setting};
 use lf_cone::is_closed;
 use lf_outcome::Reach;
 use lf_protocols::Protocol;
 use lf_sim::{Run, Setting, run};
+use lf_trace::read_faults;
 use std::alloc::Global;
 use std::process::Abort;
 
@@ -119,7 +120,7 @@ fn reaches_are_plain(alloc: Global, setting: &Setting<Protocol>, run: &Run<Proto
 
 /// Whether the run of the row's set is as the plain search finds.
 fn is_plain(alloc: Global, setting: &Setting<Protocol>, row: &str) -> bool {
-    let Some(faults) = set(row) else {
+    let Some(faults) = read_faults(row) else {
         return false;
     };
     match run(alloc, setting, &faults) {

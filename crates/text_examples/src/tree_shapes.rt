@@ -1,34 +1,36 @@
 //! Trees of all shapes.
 
-use crate::same::{agrees, are_same, depth};
+use crate::rows::agrees;
+use crate::same::{are_same, depth};
+use crate::tree_rows::taken;
 use lf_faults::{Fault, FaultSet};
 use lf_outcome::Reach;
 use lf_tree::{Edges, Kids, Node, Tree, TreeFault, read_tree, to_text};
 use std::alloc::{AllocError, Global};
 
-/// A branch of the last nodes, at most two, which are taken out. Its edges and its reach go by how many nodes are left.
-fn branch(alloc: Global, count: u32, nodes: &mut Vec<Node>) -> Result<Node, AllocError> {
-    let second = if count > 1 { nodes.pop() } else { None };
-    let first = if count > 0 { nodes.pop() } else { None };
-    let mut kids = Vec::new(alloc);
-    if let Some(kid) = first {
-        kids.push(kid)?;
-    }
-    if let Some(kid) = second {
-        kids.push(kid)?;
-    }
+/// The edges of a branch, by how many kids it has and how many nodes are left.
+fn edges(alloc: Global, count: u32, left: usize) -> Result<Vec<Fault>, AllocError> {
     let mut edges = Vec::new(alloc);
     if let Some(edge) = Fault::omit(0, 1, count.saturating_add(7))
-        && nodes.len() != 1
+        && left != 1
     {
         edges.push(edge)?;
     }
     if let Some(edge) = Fault::pause(count, 48)
-        && nodes.len() == 2
+        && left == 2
     {
         edges.push(edge)?;
     }
-    Ok(with_reach(nodes.len(), edges, kids))
+    Ok(edges)
+}
+
+/// A branch of the last nodes, at most two, which are taken out. Its edges and its reach go by how many nodes are left.
+fn branch(alloc: Global, count: u32, nodes: &mut Vec<Node>) -> Result<Node, AllocError> {
+    let left = nodes.len().saturating_sub(count as usize);
+    let edges = edges(alloc, count, left)?;
+    let mut kids = taken(alloc, nodes, count)?;
+    kids.reverse();
+    Ok(with_reach(left, edges, kids))
 }
 
 /// The branch with one of two reaches.
@@ -48,18 +50,24 @@ fn with_reach(left: usize, edges: Vec<Fault>, kids: Vec<Node>) -> Node {
     }
 }
 
-/// The tree that a word of so many digits spells, from its last digit on: 0 and 1 put a leaf on a stack, and 2, 3 and 4 a
-/// branch in place of its last none, one or two nodes. Each tree whose branches have at most two kids is spelled by a word.
+/// Puts what a digit stands for on the stack: 0 and 1 a leaf, and 2, 3 and 4 a branch in place of its last none, one or two nodes.
+fn put(alloc: Global, nodes: &mut Vec<Node>, digit: u32) -> Result<(), AllocError> {
+    let node = match digit {
+        0 => Node::Misses,
+        1 => Node::Reaches,
+        digit => branch(alloc, digit.saturating_sub(2), nodes)?,
+    };
+    nodes.push(node)?;
+    Ok(())
+}
+
+/// The tree that a word of so many digits spells, from its last digit on. Each tree whose branches have at most two kids is spelled by
+/// a word.
 fn spelled(alloc: Global, word: u32, digits: u32) -> Result<Node, AllocError> {
     let mut nodes = Vec::new(alloc);
     let mut rest = word;
     for _ in 0..digits {
-        let node = match rest % 5 {
-            0 => Node::Misses,
-            1 => Node::Reaches,
-            digit => branch(alloc, digit - 2, &mut nodes)?,
-        };
-        nodes.push(node)?;
+        put(alloc, &mut nodes, rest % 5)?;
         rest /= 5;
     }
     Ok(nodes.pop().unwrap_or(Node::Misses))

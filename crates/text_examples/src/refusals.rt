@@ -1,6 +1,7 @@
 //! Texts that are refused, and the words of refusals.
 
-use crate::texts::{agrees, row_is_told};
+use crate::rows::agrees;
+use crate::texts::are_told;
 use lf_scenario::{Key, ScenarioError};
 use std::alloc::Global;
 
@@ -76,9 +77,7 @@ const REFUSED: &str = concat!(
 
 #[test]
 fn texts_are_refused(rt: HostRuntime) {
-    for row in REFUSED.lines() {
-        agrees(&rt, row_is_told(rt.alloc(), row), row);
-    }
+    are_told(&rt, rt.alloc(), REFUSED);
 }
 
 /// Whether the refusal is told in these words.
@@ -93,7 +92,7 @@ fn is_told_as(alloc: Global, refusal: ScenarioError, words: &str) -> bool {
 fn refusals_are_told_in_words(rt: HostRuntime) {
     let out_of_range = ScenarioError::OutOfRange(Key::Nodes);
     let missing = ScenarioError::Missing(Key::Protocol);
-    let are_told = is_told_as(
+    let have_words = is_told_as(
         rt.alloc(),
         out_of_range,
         "a number of `nodes` is out of range: it takes a whole number from 2 to 8",
@@ -109,5 +108,5 @@ fn refusals_are_told_in_words(rt: HostRuntime) {
         ScenarioError::NoDocument,
         "the text is not TOML",
     );
-    agrees(&rt, are_told, "refusals in words");
+    agrees(&rt, have_words, "refusals in words");
 }

@@ -1,20 +1,11 @@
-//! What is read of a text.
+//! What is read of the text of a scenario.
 
 use crate::formulas::{is_formula, is_promised};
+use crate::rows::{number, words};
 use crate::texts::SCENARIO;
 use lf_latency::Network;
 use lf_scenario::{Scenario, ScenarioError, read};
 use std::alloc::{AllocError, Global};
-
-/// The number that a word writes.
-pub(crate) fn number(word: &str) -> Option<u32> {
-    word.parse::<u32>().ok()
-}
-
-/// The words before and behind the first blank.
-pub(crate) fn words(text: &str) -> (&str, &str) {
-    text.split_once(' ').unwrap_or((text, ""))
-}
 
 /// Whether this is found in the text's scenario, which is the same as itself, or the text is refused like this: by the number of the
 /// refusal and its key.

@@ -1,5 +1,6 @@
-//! The texts of examples, and how they are compared.
+//! The texts of scenarios, and how they are told.
 
+use crate::rows::{agrees, columns};
 use crate::told::is_told;
 use std::alloc::{AllocError, Global};
 use std::process::Abort;
@@ -34,16 +35,6 @@ const LATE: &str = concat!(
     "seed = \"0000000000000000000000000000000000000000000000000000000000000000\"\n",
     "protocol = \"retry\"\ntries = 2\noutcome = \"delivered\"\n",
 );
-
-/// What is found at the row is what it says. Each comparison ends here: an assertion is dear to prove.
-pub(crate) fn agrees(rt: &impl Abort, truth: bool, row: &str) {
-    assert!(rt; truth, "at {row}");
-}
-
-/// The columns before and behind the first `|`.
-pub(crate) fn columns(line: &str) -> (&str, &str) {
-    line.split_once('|').unwrap_or((line, ""))
-}
 
 /// Adds lines, of which all but the last end with `;`.
 fn push_lines(text: &mut String, lines: &str) -> Result<(), AllocError> {
@@ -80,10 +71,17 @@ pub(crate) fn push_changed(text: &mut String, key: &str, lines: &str) -> Result<
 }
 
 /// Whether the scenario with the lines of a row is read or refused as it says.
-pub(crate) fn row_is_told(alloc: Global, row: &str) -> bool {
+fn row_is_told(alloc: Global, row: &str) -> bool {
     let (key, rest) = columns(row);
     let (lines, rest) = columns(rest);
     let (what, expected) = columns(rest);
     let mut text = String::new(alloc);
     push_changed(&mut text, key, lines).is_ok() && is_told(alloc, text.as_bytes(), what, expected)
+}
+
+/// The scenarios with the lines of a table's rows are read or refused as these say.
+pub(crate) fn are_told(rt: &impl Abort, alloc: Global, table: &str) {
+    for row in table.lines() {
+        agrees(rt, row_is_told(alloc, row), row);
+    }
 }

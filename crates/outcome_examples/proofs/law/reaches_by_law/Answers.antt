@@ -1,7 +1,7 @@
 use Rattle.std.proofs.Common.{◌≡◌, subst}
 use Rattle.std.specs.Prelude.{Option, None, Some, IfSome}
 use Rattle.lf_outcome.specs.Evidence.{Covers}
-use Rattle.cone_examples.proofs.law.reaches_by_law.Goals as goal
+use Rattle.outcome_examples.proofs.law.reaches_by_law.Goals as goal
 
 -- what is known of points where there are some
 some_of : {X : Type 0} (found : Option X) (x : X) (P : X → Type 0) → found ≡ Some x → IfSome found P → P x

@@ -1,6 +1,7 @@
-//! Prefixes of a text, and texts that are long, deep or wide.
+//! Prefixes of a scenario's text, and texts that are long, deep or wide.
 
-use crate::texts::{SCENARIO, agrees, columns};
+use crate::rows::{agrees, columns, push_times};
+use crate::texts::SCENARIO;
 use crate::told::is_told;
 use lf_scenario::LONGEST;
 use std::alloc::{AllocError, Global};
@@ -51,14 +52,6 @@ fn an_unknown_key_comes_before_a_missing_one(rt: HostRuntime) {
         && is_told(rt.alloc(), b"colour = 1\n", "", "4")
         && is_told(rt.alloc(), b"nodes = 3\n# \xff", "", "2");
     agrees(&rt, are_refused, "short texts");
-}
-
-/// Adds a part so many times.
-fn push_times(text: &mut String, part: &str, times: usize) -> Result<(), AllocError> {
-    for _ in 0..times {
-        text.push_str(part)?;
-    }
-    Ok(())
 }
 
 /// Adds a start, an opening, a part so many times, a middle, an end so many times, and what is behind them.

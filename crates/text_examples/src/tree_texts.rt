@@ -1,6 +1,6 @@
-//! What is read of a text, and what is wrong with it first.
+//! What is read of the text of a certificate, and what is wrong with it first.
 
-use crate::same::{agrees, columns};
+use crate::rows::{agrees, columns, number, push_times};
 use lf_tree::{TreeFault, read_tree};
 use std::alloc::{AllocError, Global};
 
@@ -101,73 +101,56 @@ const TEXTS: &str = concat!(
 );
 
 /// The number of what is wrong with the bytes, or 0 where they are a tree's.
-fn number(alloc: Global, bytes: &[u8]) -> u32 {
+fn fault_number(alloc: Global, bytes: &[u8]) -> u32 {
     match read_tree(alloc, bytes) {
         Ok(_) => 0,
         Err(fault) => fault.number(),
     }
 }
 
-/// The text of an object with this answer, format and root.
-fn whole(alloc: Global, parts: &str) -> Result<String, AllocError> {
+/// Adds an object with this answer, format and root.
+fn push_whole(text: &mut String, parts: &str) -> Result<(), AllocError> {
     let (answer, rest) = columns(parts);
     let (format, root) = columns(rest);
-    format!(in alloc; "{{\"answer\":{answer},\"format\":{format},\"root\":{root}}}")
+    write!(
+        text,
+        "{{\"answer\":{answer},\"format\":{format},\"root\":{root}}}"
+    )
 }
 
-/// The text of a tree of one branch with these edges, kids and reach.
-fn branch(alloc: Global, parts: &str) -> Result<String, AllocError> {
+/// Adds a tree of one branch with these edges, kids and reach.
+fn push_branch(text: &mut String, parts: &str) -> Result<(), AllocError> {
     let (edges, rest) = columns(parts);
     let (kids, reach) = columns(rest);
-    format!(in alloc;
+    write!(
+        text,
         "{{\"answer\":null,\"format\":1,\"root\":{{\"edges\":{edges},\"kids\":{kids},\"reach\":{reach}}}}}"
     )
 }
 
-/// Adds a part so many times.
-fn push_times(text: &mut String, part: &str, times: u32) -> Result<(), AllocError> {
-    for _ in 0..times {
-        text.push_str(part)?;
-    }
-    Ok(())
-}
-
-/// The text of a tree of so many branches, one in the other, with a leaf in the last.
-fn nested(alloc: Global, branches: u32) -> Result<String, AllocError> {
-    let mut text = String::new(alloc);
+/// Adds a tree of so many branches, one in the other, with a leaf in the last.
+fn push_nested(text: &mut String, branches: usize) -> Result<(), AllocError> {
     text.push_str("{\"answer\":null,\"format\":1,\"root\":")?;
-    push_times(
-        &mut text,
-        "{\"edges\":[\"crash 0 @1\"],\"kids\":[",
-        branches,
-    )?;
+    push_times(text, "{\"edges\":[\"crash 0 @1\"],\"kids\":[", branches)?;
     text.push_str("{\"misses\":true}")?;
-    push_times(&mut text, "],\"reach\":[1,1]}", branches)?;
-    text.push('}')?;
-    Ok(text)
+    push_times(text, "],\"reach\":[1,1]}", branches)?;
+    text.push('}')
 }
 
-/// A text of so many blanks.
-fn blanks(alloc: Global, count: u32) -> Result<String, AllocError> {
-    let mut text = String::new(alloc);
-    push_times(&mut text, " ", count)?;
-    Ok(text)
+/// The number that a text is, or 0 where it is none.
+fn times(text: &str) -> usize {
+    number(text).unwrap_or(0) as usize
 }
 
-/// The number that a text is.
-fn times(text: &str) -> u32 {
-    text.parse::<u32>().unwrap_or(0)
-}
-
-/// The text that a row tells of by what it is and by its parts.
-fn text_of(alloc: Global, what: &str, parts: &str) -> Result<String, AllocError> {
+/// Adds the text that a row tells of by what it is and by its parts.
+fn push_text(text: &mut String, what: &str, parts: &str) -> Result<(), AllocError> {
     match what {
-        "tree" => whole(alloc, parts),
-        "branch" => branch(alloc, parts),
-        "nested" => nested(alloc, times(parts)),
-        "blanks" => blanks(alloc, times(parts)),
-        "line" => format!(in alloc; "{parts}\n"),
-        _ => String::from_str(alloc, parts),
+        "tree" => push_whole(text, parts),
+        "branch" => push_branch(text, parts),
+        "nested" => push_nested(text, times(parts)),
+        "blanks" => push_times(text, " ", times(parts)),
+        "line" => write!(text, "{parts}\n"),
+        _ => text.push_str(parts),
     }
 }
 
@@ -175,10 +158,9 @@ fn text_of(alloc: Global, what: &str, parts: &str) -> Result<String, AllocError>
 fn is_judged(alloc: Global, row: &str) -> bool {
     let (wanted, rest) = columns(row);
     let (what, parts) = columns(rest);
-    match text_of(alloc, what, parts) {
-        Ok(text) => wanted.parse::<u32>() == Ok(number(alloc, text.as_bytes())),
-        Err(_) => false,
-    }
+    let mut text = String::new(alloc);
+    push_text(&mut text, what, parts).is_ok()
+        && number(wanted) == Some(fault_number(alloc, text.as_bytes()))
 }
 
 #[test]
@@ -195,7 +177,7 @@ const ONE_BRANCH: &str =
 /// Whether no proper prefix of the bytes is JSON.
 fn has_no_prefix(alloc: Global, bytes: &[u8]) -> bool {
     for length in 0..bytes.len() {
-        if number(alloc, &bytes[..length]) != 2 {
+        if fault_number(alloc, &bytes[..length]) != 2 {
             return false;
         }
     }
@@ -206,8 +188,8 @@ fn has_no_prefix(alloc: Global, bytes: &[u8]) -> bool {
 fn prefixes_and_bytes_that_are_not_utf_8_are_no_json(rt: HostRuntime) {
     let bytes = b"{\"answer\":null,\"format\":1,\"root\":{\"misses\":true},\"\xff\":0}";
     let are_no_json = has_no_prefix(rt.alloc(), ONE_BRANCH.as_bytes())
-        && number(rt.alloc(), bytes) == 2
-        && number(rt.alloc(), b"\xff") == 2;
+        && fault_number(rt.alloc(), bytes) == 2
+        && fault_number(rt.alloc(), b"\xff") == 2;
     agrees(&rt, are_no_json, "prefixes and bytes");
 }
 

@@ -1,6 +1,7 @@
 //! Texts that are read, and what is read of them.
 
-use crate::texts::{agrees, push_changed, row_is_told};
+use crate::rows::agrees;
+use crate::texts::{are_told, push_changed};
 use crate::told::is_told;
 use lf_scenario::scenarios_are_one;
 use std::alloc::AllocError;
@@ -32,9 +33,7 @@ const READ: &str = concat!(
 
 #[test]
 fn scenarios_are_read(rt: HostRuntime) {
-    for row in READ.lines() {
-        agrees(&rt, row_is_told(rt.alloc(), row), row);
-    }
+    are_told(&rt, rt.alloc(), READ);
 }
 
 /// Lines of scenarios whose protocols wait: the protocol and the outcome that are read of them, or how they are refused.
@@ -78,9 +77,7 @@ const PATIENT: &str = concat!(
 
 #[test]
 fn votes_and_patience_are_read_or_refused(rt: HostRuntime) {
-    for row in PATIENT.lines() {
-        agrees(&rt, row_is_told(rt.alloc(), row), row);
-    }
+    are_told(&rt, rt.alloc(), PATIENT);
 }
 
 /// Another text of the scenario, and changes of it that make it another one.
@@ -105,9 +102,7 @@ const SAME: &str = concat!(
 #[test]
 fn scenarios_are_the_same_whatever_their_texts_and_each_value_makes_another(rt: HostRuntime) {
     scenarios_are_one();
-    for row in SAME.lines() {
-        agrees(&rt, row_is_told(rt.alloc(), row), row);
-    }
+    are_told(&rt, rt.alloc(), SAME);
 }
 
 /// Adds the scenario among eight nodes, with a table for each link.
@@ -142,9 +137,9 @@ const ALL_DELAYS: &str = concat!(
 #[test]
 fn all_links_are_read_at_once_and_a_link_behind_them_is_refused(rt: HostRuntime) {
     let mut text = String::new(rt.alloc());
-    let are_told = push_all_links(&mut text).is_ok()
+    let are_read = push_all_links(&mut text).is_ok()
         && is_told(rt.alloc(), text.as_bytes(), "delays", ALL_DELAYS)
         && text.push_str("[[links]]\nfrom = 7\nto = 6\n").is_ok()
         && is_told(rt.alloc(), text.as_bytes(), "", "8 links");
-    agrees(&rt, are_told, "all links");
+    agrees(&rt, are_read, "all links");
 }

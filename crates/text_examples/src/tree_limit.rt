@@ -1,6 +1,7 @@
-//! A text as long as may be, and one that is longer by a byte.
+//! The text of a certificate as long as may be, and one that is longer by a byte.
 
-use crate::same::{agrees, are_same};
+use crate::rows::agrees;
+use crate::same::are_same;
 use lf_faults::Fault;
 use lf_outcome::Reach;
 use lf_tree::{Edges, Kids, Node, Tree, TreeFault, read_tree, text_length, to_text};
