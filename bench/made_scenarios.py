@@ -2,7 +2,7 @@
 """Makes small scenarios, of which a plain search runs at most 700 sets: always the same for one seed.
 
     made_scenarios.py SEED COUNT [PROTOCOL]     prints so many, of all protocols or of one, with a line `~` after each
-    made_scenarios.py SEED COUNT --rows FILE    prints so many of each protocol as tables for crates/merged_examples/src/made.rt
+    made_scenarios.py SEED COUNT --rows FILE    prints so many of each protocol as tables for crates/search_examples/src/made.rt
 
 FILE has the answers to the scenarios of SEED, a line each. Of these are taken, for each protocol, the first ones that some set of faults
 defeats, the empty set left out, and a few of the others:

@@ -1,10 +1,11 @@
 //! A small search by hand.
 
-ghost use Rattle.std.specs.Prelude.{◌≡◌, ℕ, ◌<◌, IsTrue, OnOk};
+ghost use Rattle.std.specs.Prelude.{◌≡◌, ℕ, ◌<◌, IsTrue, OnSome};
 ghost use Rattle.lf_marks.specs.Marks.{mark_at};
 ghost use Rattle.lf_marks.specs.Steps.{IsMarked, IsUnmarked};
 ghost use Rattle.lf_marks.specs.Steps as mark;
 
+use crate::texts::agrees;
 use lf_faults::Fault;
 use lf_list::Listed;
 use lf_marks::{Answer, Claimable, Counts, Grown, Marks, Steps};
@@ -13,18 +14,22 @@ use lf_tree::Node;
 use std::alloc::Global;
 use std::marker::Brand;
 use std::sync::ledger::{Blank, Ledger};
-use std::test::Fail;
 
 /// A branch with two kids.
-fn two_kids(alloc: Global) -> Result<Answer, Fail> {
-    let reach = Reach::new(&[3, 3]).ok_or("no reach")?;
-    let lost = Fault::omit(0, 1, 1).ok_or("no omission")?;
-    let crash = Fault::crash(0, 1).ok_or("no crash")?;
-    let edges = vec![in alloc; lost, crash]?;
+fn two_kids(alloc: Global) -> Option<Answer> {
+    let reach = Reach::new(&[3, 3])?;
+    let lost = Fault::omit(0, 1, 1)?;
+    let crash = Fault::crash(0, 1)?;
+    let Ok(edges) = vec![in alloc; lost, crash] else {
+        return None;
+    };
     if edges.len() > 65_535 {
-        return Err(Fail::from("too many edges"));
+        return None;
     }
-    Ok(Answer::Branch(Grown::new(alloc, reach, Listed::from_vec(edges))?))
+    match Grown::new(alloc, reach, Listed::from_vec(edges)) {
+        Ok(grown) => Some(Answer::Branch(grown)),
+        Err(_) => None,
+    }
 }
 
 /// Whether so many sets are open, claimed, answered, and wait.
@@ -48,50 +53,44 @@ fn is_done(marks: &Marks) -> bool
 }
 
 /// Takes an open set, where no other is claimed, and tells its path.
-fn take(marks: &mut Marks, ticket: u64) -> Result<Vec<usize>, Fail>
-    ensures { OnOk result (IsMarked (mark_at marks.new) (mark.Claimed ticket)) }
+fn take(marks: &mut Marks, ticket: u64) -> Option<Vec<usize>>
+    ensures { OnSome result (IsMarked (mark_at marks.new) (mark.Claimed ticket)) }
 {
     take_by::<Brand>(marks, ticket, Blank::new(1))
 }
 
 /// The same, with steps of its own.
-fn take_by<L: Ledger>(marks: &mut Marks, ticket: u64, blank: Blank) -> Result<Vec<usize>, Fail>
+fn take_by<L: Ledger>(marks: &mut Marks, ticket: u64, blank: Blank) -> Option<Vec<usize>>
     requires name { blank.name ≡ L.name }
     requires parts { blank.parts ≡ L.parts }
     requires some { 0 < blank.parts }
-    ensures { OnOk result (IsMarked (mark_at marks.new) (mark.Claimed ticket)) }
+    ensures { OnSome result (IsMarked (mark_at marks.new) (mark.Claimed ticket)) }
 {
     if marks.counts().claimed > 0 {
-        return Err(Fail::from("a set is claimed"));
+        return None;
     }
     let mut steps = Steps::<L>::new(blank);
-    let Claimable { path, room } = marks.find_open(&mut steps)?.ok_or("no set is open")?;
+    let Ok(Some(Claimable { path, room })) = marks.find_open(&mut steps) else {
+        return None;
+    };
     marks.claim(ticket, room, &mut steps);
-    Ok(path)
+    Some(path)
 }
 
 /// Takes a set and answers it, where no other is claimed, and tells its path.
-fn work(marks: &mut Marks, ticket: u64, answer: Answer) -> Result<Vec<usize>, Fail> {
+fn work(marks: &mut Marks, ticket: u64, answer: Answer) -> Option<Vec<usize>> {
     let path = take(marks, ticket)?;
     marks.answer(ticket, answer);
-    Ok(path)
+    Some(path)
 }
 
-/// Lowers the level of a small tree.
-fn lower(marks: &mut Marks) -> Result<(), Fail> {
+/// Lowers the level of a small tree. Tells whether it may be lowered.
+fn lower(marks: &mut Marks) -> bool {
     if !is_done(marks) || marks.counts().waiting > 9 || marks.level() > 9 {
-        return Err(Fail::from("the level may not be lowered"));
+        return false;
     }
     marks.go_down();
-    Ok(())
-}
-
-/// The tree of nodes.
-fn tree_of(marks: Marks) -> Result<Node, Fail> {
-    if !is_done(&marks) {
-        return Err(Fail::from("a set is open or claimed"));
-    }
-    Ok(marks.into_nodes())
+    true
 }
 
 /// Whether a path is that of a kid of the root.
@@ -99,7 +98,7 @@ fn is_kid(path: &[usize], kid: usize) -> bool {
     path.len() == 1 && path[0] == kid
 }
 
-/// Whether a node is a branch with two leaves, of which the second alone misses.
+/// Whether the node of a tree is a branch with two leaves, of which the second alone misses.
 fn is_grown(node: &Node) -> bool {
     let Node::Branch { kids, .. } = node else {
         return false;
@@ -108,33 +107,70 @@ fn is_grown(node: &Node) -> bool {
     kids.len() == 2 && matches!(&kids[0], Node::Reaches) && matches!(&kids[1], Node::Misses)
 }
 
-#[test]
-fn answers_the_root(rt: HostRuntime) -> Result<(), Fail> {
-    let alloc = rt.alloc();
-    let mut marks = Marks::new(alloc)?;
-    assert!(rt; are(marks.counts(), 1, 0, 0, 0));
-    let root = take(&mut marks, 1)?;
-    assert!(rt; root.is_empty());
-    assert!(rt; marks.is_claimed_at(1, &[]));
-    assert!(rt; marks.has_claim(1));
-    marks.answer(1, two_kids(alloc)?);
-    assert!(rt; are(marks.counts(), 0, 0, 1, 2));
-    assert!(rt; marks.branch_at(&[]).is_some());
-    assert!(rt; marks.branch_at(&[0]).is_none());
-    Ok(())
+/// Whether the root of a new tree is taken and answered, and the tree shows it.
+fn answers_root(marks: &mut Marks, answer: Answer) -> bool {
+    let is_open = are(marks.counts(), 1, 0, 0, 0);
+    let Some(root) = take(marks, 1) else {
+        return false;
+    };
+    let is_taken = root.is_empty() && marks.is_claimed_at(1, &[]) && marks.has_claim(1);
+    marks.answer(1, answer);
+    is_open
+        && is_taken
+        && are(marks.counts(), 0, 0, 1, 2)
+        && marks.branch_at(&[]).is_some()
+        && marks.branch_at(&[0]).is_none()
+}
+
+/// The same, of a tree of its own.
+fn root_is_answered(alloc: Global) -> bool {
+    match (Marks::new(alloc), two_kids(alloc)) {
+        (Ok(mut marks), Some(answer)) => answers_root(&mut marks, answer),
+        _ => false,
+    }
 }
 
 #[test]
-fn answers_two_levels(rt: HostRuntime) -> Result<(), Fail> {
-    let alloc = rt.alloc();
-    let mut marks = Marks::new(alloc)?;
-    let _root = work(&mut marks, 1, two_kids(alloc)?)?;
-    lower(&mut marks)?;
-    let _first = work(&mut marks, 2, two_kids(alloc)?)?;
-    let second = work(&mut marks, 3, Answer::Misses)?;
-    assert!(rt; is_kid(second.as_slice(), 1));
-    let missing = marks.missing()?;
-    assert!(rt; missing.len() == 1 && is_kid(missing[0].as_slice(), 1));
-    assert!(rt; is_grown(&tree_of(marks)?));
-    Ok(())
+fn answers_the_root(rt: HostRuntime) {
+    agrees(&rt, root_is_answered(rt.alloc()), "the root");
+}
+
+/// Whether the set that is taken third is the second kid, which then misses.
+fn second_misses(marks: &mut Marks) -> bool {
+    match work(marks, 3, Answer::Misses) {
+        Some(second) => is_kid(second.as_slice(), 1),
+        None => false,
+    }
+}
+
+/// Whether the second kid alone is told to miss.
+fn is_missing(marks: &Marks) -> bool {
+    match marks.missing() {
+        Ok(missing) => missing.len() == 1 && is_kid(missing[0].as_slice(), 1),
+        Err(_) => false,
+    }
+}
+
+/// Whether the root and its kids are answered, and the tree of nodes shows it.
+fn grows(marks: Marks, root: Answer, first: Answer) -> bool {
+    let mut marks = marks;
+    let are_answered = work(&mut marks, 1, root).is_some()
+        && lower(&mut marks)
+        && work(&mut marks, 2, first).is_some()
+        && second_misses(&mut marks)
+        && is_missing(&marks);
+    are_answered && is_done(&marks) && is_grown(&marks.into_nodes())
+}
+
+/// The same, of a tree of its own.
+fn two_levels_are_answered(alloc: Global) -> bool {
+    match (Marks::new(alloc), two_kids(alloc), two_kids(alloc)) {
+        (Ok(marks), Some(root), Some(first)) => grows(marks, root, first),
+        _ => false,
+    }
+}
+
+#[test]
+fn answers_two_levels(rt: HostRuntime) {
+    agrees(&rt, two_levels_are_answered(rt.alloc()), "two levels");
 }

@@ -1,39 +1,73 @@
 //! One set that reaches, and the one beneath it, which misses.
 
+use crate::texts::{agrees, scenario};
 use lf_faults::{Fault, FaultSet};
-use lf_scenario::read;
-use lf_work::{Job, work};
+use lf_scenario::Scenario;
+use lf_work::{Finding, Job, work};
+use std::alloc::Global;
 use std::sync::Arc;
-use std::test::Fail;
 
-/// One try of node 0 is to be delivered, and one omission may be.
-const SCENARIO: &str = concat!(
-    "nodes = 2\nhorizon = 3\nlast_omission = 1\ncrashes = 0\nbudget = 1\n",
-    "protocol = \"retry\"\ntries = 1\noutcome = \"delivered\"\n",
-);
+/// What is found of a set.
+fn found(
+    alloc: Global,
+    scenario: &Arc<Scenario>,
+    set: FaultSet,
+    path: Vec<usize>,
+    ticket: u64,
+) -> Option<Finding> {
+    match Arc::try_clone(scenario) {
+        Ok(shared) => work(&Job::new(shared, set, Vec::new(alloc), path, ticket)).ok(),
+        Err(_) => None,
+    }
+}
+
+/// Whether the empty set, with ticket 7, reaches within three steps, and this fault alone may change that.
+fn reaches(found: Option<Finding>, fault: Fault) -> bool {
+    let Some(root) = found else {
+        return false;
+    };
+    match root.branch() {
+        Some((reach, edges)) => {
+            reach.items() == [3, 3].as_slice()
+                && edges == [fault].as_slice()
+                && !root.misses()
+                && root.ticket() == 7
+        }
+        None => false,
+    }
+}
+
+/// Whether the first kid misses.
+fn misses(found: Option<Finding>) -> bool {
+    match found {
+        Some(kid) => kid.misses() && kid.branch().is_none() && kid.path() == [0].as_slice(),
+        None => false,
+    }
+}
+
+/// Whether the empty set reaches, and the one of the fault beneath it misses.
+fn are_worked(alloc: Global, scenario: &Arc<Scenario>, fault: Fault) -> bool {
+    let empty = FaultSet::empty();
+    let (Some(larger), Ok(path)) = (empty.insert(fault), vec![in alloc; 0]) else {
+        return false;
+    };
+    reaches(found(alloc, scenario, empty, Vec::new(alloc), 7), fault)
+        && misses(found(alloc, scenario, larger, path, 8))
+}
+
+/// The same, where one try of node 0 is to be delivered, and one omission may be.
+fn try_is_worked(alloc: Global) -> bool {
+    let lines = "tries = 1;outcome = \"delivered\"";
+    match (
+        scenario(alloc, "retry", "2 3 1 0 1", lines),
+        Fault::omit(0, 1, 1),
+    ) {
+        (Some(scenario), Some(lost)) => are_worked(alloc, &scenario, lost),
+        _ => false,
+    }
+}
 
 #[test]
-fn works_the_empty_set_and_the_one_beneath_it(rt: HostRuntime) -> Result<(), Fail> {
-    let alloc = rt.alloc();
-    let read = read(alloc, SCENARIO.as_bytes()).map_err(|_| "no scenario")?;
-    let scenario = Arc::new(alloc, read).map_err(|_| "no memory")?;
-    let lost = Fault::omit(0, 1, 1).ok_or("no omission")?;
-    let empty = FaultSet::empty();
-    let first = Job::new(
-        Arc::try_clone(&scenario)?,
-        empty,
-        Vec::new(alloc),
-        Vec::new(alloc),
-        7,
-    );
-    let root = work(&first)?;
-    let (reach, edges) = root.branch().ok_or("no branch")?;
-    let is_branch = reach.items() == [3, 3].as_slice() && edges == [lost].as_slice();
-    assert!(rt; is_branch && !root.misses() && root.ticket() == 7);
-    let larger = empty.insert(lost).ok_or("no set")?;
-    let path = vec![in alloc; 0]?;
-    let second = Job::new(scenario, larger, Vec::new(alloc), path, 8);
-    let kid = work(&second)?;
-    assert!(rt; kid.misses() && kid.branch().is_none() && kid.path() == [0].as_slice());
-    Ok(())
+fn works_the_empty_set_and_the_one_beneath_it(rt: HostRuntime) {
+    agrees(&rt, try_is_worked(rt.alloc()), "one try");
 }

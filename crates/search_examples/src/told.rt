@@ -1,71 +1,23 @@
-//! The texts of examples, and how they are compared.
+//! What several workers find, as a text.
 
+use crate::texts::push_faults;
 use lf_book::{Book, Deepened};
 use lf_check::{Verdict, check};
-use lf_faults::{FaultSet, fault_text};
-use lf_pool::{PoolError, Solved, SolvedAll};
-use lf_scenario::{Scenario, read};
+use lf_faults::FaultSet;
+use lf_pool::{Gate, NoGate, PoolError, Solved, SolvedAll, solve, solve_all};
+use lf_scenario::Scenario;
 use lf_tree::{Tree, to_text};
 use std::alloc::{AllocError, Global};
-use std::process::Abort;
-use std::sync::Arc;
-
-/// The keys that each scenario of a table has first.
-const BOUNDS: &str = "nodes horizon last_omission crashes budget";
-
-/// What is found at the row is what it says. Each comparison ends here: an assertion is dear to prove.
-pub(crate) fn agrees(rt: &impl Abort, truth: bool, row: &str) {
-    assert!(rt; truth, "at {row}");
-}
-
-/// Whether a text is made, and is the wanted one.
-pub(crate) fn is_text(made: Option<String>, wanted: &str) -> bool {
-    match made {
-        Some(text) => text.as_str() == wanted,
-        None => false,
-    }
-}
-
-/// The columns before and behind the first `|`.
-pub(crate) fn columns(line: &str) -> (&str, &str) {
-    line.split_once('|').unwrap_or((line, ""))
-}
-
-/// Adds a line for each bound, and further lines, of which all but the last end with `;`.
-fn push_lines(text: &mut String, numbers: &str, lines: &str) -> Result<(), AllocError> {
-    for (key, number) in BOUNDS.split(' ').zip(numbers.split(' ')) {
-        write!(text, "{key} = {number}\n")?;
-    }
-    for c in lines.chars() {
-        text.push(if c == ';' { '\n' } else { c })?;
-    }
-    text.push('\n')
-}
-
-/// The scenario of the numbers of its bounds and further lines. None where it is refused.
-pub(crate) fn scenario(alloc: Global, numbers: &str, lines: &str) -> Option<Arc<Scenario>> {
-    let mut text = String::new(alloc);
-    if push_lines(&mut text, numbers, lines).is_err() {
-        return None;
-    }
-    match read(alloc, text.as_bytes()) {
-        Ok(scenario) => Arc::new(alloc, scenario).ok(),
-        Err(_) => None,
-    }
-}
+use std::rt::Clock;
+use std::sync::{Arc, Wait};
+use std::thread::Threads;
 
 /// Adds the faults of a set, joined by commas. Of the empty set it adds `-`.
 fn push_set(alloc: Global, text: &mut String, set: &FaultSet) -> Result<(), AllocError> {
     if set.is_empty() {
         return text.push('-');
     }
-    let mut gap = "";
-    for fault in set.items() {
-        text.push_str(gap)?;
-        text.push_str(fault_text(alloc, fault)?.as_str())?;
-        gap = ",";
-    }
-    Ok(())
+    push_faults(alloc, text, set, "", ",")
 }
 
 /// Adds sets, each behind `;`.
@@ -157,11 +109,7 @@ fn all(
 }
 
 /// What a search answered: the answer, how many sets were run, and the tree. None where a tree isn't accepted, or a book isn't full.
-pub(crate) fn told(
-    alloc: Global,
-    scenario: &Scenario,
-    solved: Result<Solved, PoolError>,
-) -> Option<String> {
+fn told(alloc: Global, scenario: &Scenario, solved: Result<Solved, PoolError>) -> Option<String> {
     match solved {
         Ok(Solved::Answer { set, tree, runs }) => answer(alloc, scenario, &set, &tree, runs),
         Ok(Solved::Full(book)) => full(alloc, book),
@@ -170,7 +118,7 @@ pub(crate) fn told(
 }
 
 /// What a search for all least sets answered: the sets, how many sets were run, and the tree. None as above.
-pub(crate) fn told_all(
+fn told_all(
     alloc: Global,
     scenario: &Scenario,
     solved: Result<SolvedAll, PoolError>,
@@ -182,4 +130,35 @@ pub(crate) fn told_all(
         Ok(SolvedAll::Full(book)) => full(alloc, book),
         Err(refused) => error(alloc, &refused),
     }
+}
+
+/// What so many workers find with a gate. None as above.
+pub(crate) fn found<R: Threads + Wait + Clock + Sync, G: Gate>(
+    rt: &R,
+    alloc: Global,
+    scenario: &Arc<Scenario>,
+    workers: u32,
+    gate: &G,
+) -> Option<String> {
+    let Ok(shared) = Arc::try_clone(scenario) else {
+        return None;
+    };
+    told(alloc, scenario, solve(rt, alloc, shared, workers, gate))
+}
+
+/// All least sets that so many workers find. None as above.
+pub(crate) fn found_all(
+    rt: &(impl Threads + Wait + Clock + Sync),
+    alloc: Global,
+    scenario: &Arc<Scenario>,
+    workers: u32,
+) -> Option<String> {
+    let Ok(shared) = Arc::try_clone(scenario) else {
+        return None;
+    };
+    told_all(
+        alloc,
+        scenario,
+        solve_all(rt, alloc, shared, workers, &NoGate),
+    )
 }

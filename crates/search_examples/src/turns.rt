@@ -2,7 +2,7 @@
 
 ghost use Rattle.std.specs.Prelude.{◌≡◌, ◌+◌};
 
-use crate::texts::{agrees, columns, is_text, scenario};
+use crate::texts::{agrees, asked, is_text};
 use lf_pool::{Gate, NoGate, Share, SharedBook, Turn};
 use lf_scenario::Scenario;
 use std::alloc::{AllocError, Global};
@@ -44,35 +44,42 @@ fn turns<L: Ledger, R: Wait + Clock>(
     };
     let mut text = String::new(alloc);
     let (own, _last) = shares.as_mut_slice().split_at_mut(1);
+    let mut is_told = true;
     for share in own.iter_mut() {
-        if push_turns(&mut text, rt, &shared, share).is_err() {
-            return None;
-        }
+        is_told = is_told && push_turns(&mut text, rt, &shared, share).is_ok();
     }
     let (book, sum) = shared.gather(shares);
-    match write!(text, "{sum} {}", book.answered()) {
-        Ok(()) => Some(text),
-        Err(_) => None,
+    if is_told && write!(text, "{sum} {}", book.answered()).is_ok() {
+        Some(text)
+    } else {
+        None
     }
 }
 
 /// A scenario, and what the turns of its only worker do, each with how many sets it has filed then.
 const TURNS: &str = concat!(
-    "3 4 3 0 2|protocol = \"retry\";tries = 1;outcome = \"delivered\"|",
+    "retry|3 4 3 0 2|tries = 1;outcome = \"delivered\"|",
     "Filed 1; Deepened(Down) 1; Filed 2; Filed 3; Deepened(Answer) 3; Finished 3; 3 3\n",
-    "3 4 3 0 3|protocol = \"retry\";tries = 3;outcome = \"delivered\";max_sets = 5|Filed 1; Full { count: 6 } 1; 1 1\n",
-    "2 1 0 0 0|protocol = \"retry\";tries = 1;outcome = \"delivered\"|Filed 1; Deepened(Answer) 1; Finished 1; 1 1\n",
+    "retry|3 4 3 0 3|tries = 3;outcome = \"delivered\";max_sets = 5|Filed 1; Full { count: 6 } 1; 1 1\n",
+    "retry|2 1 0 0 0|tries = 1;outcome = \"delivered\"|Filed 1; Deepened(Answer) 1; Finished 1; 1 1\n",
 );
+
+/// Whether the turns of a row's only worker do what it says.
+fn row_turns<R: Wait + Clock>(rt: &R, alloc: Global, row: &str) -> bool {
+    match asked(alloc, row) {
+        Some((scenario, wanted)) => {
+            is_text(
+                turns::<Brand, R>(rt, alloc, Blank::new(2), scenario),
+                wanted,
+            )
+        }
+        None => false,
+    }
+}
 
 #[test]
 fn turns_of_one_worker(rt: HostRuntime) {
     for row in TURNS.lines() {
-        let (numbers, rest) = columns(row);
-        let (lines, wanted) = columns(rest);
-        let found = match scenario(rt.alloc(), numbers, lines) {
-            Some(scenario) => turns::<Brand, HostRuntime>(&rt, rt.alloc(), Blank::new(2), scenario),
-            None => None,
-        };
-        agrees(&rt, is_text(found, wanted), row);
+        agrees(&rt, row_turns(&rt, rt.alloc(), row), row);
     }
 }

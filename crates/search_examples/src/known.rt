@@ -1,7 +1,7 @@
 //! Scenarios whose answers are known.
 
-use crate::texts::{answers, tells};
-use std::test::Fail;
+use crate::merged::{answers, row_tells};
+use crate::texts::agrees;
 
 /// One lost note is enough; what is sent past the last omission arrives; each of three tries has to be lost; a lost note and a crash;
 /// values that are sent on; a second try that comes too late; no fault is needed; delays of a seed; a slow link.
@@ -25,8 +25,8 @@ const DELIVERED: &str = concat!(
 );
 
 #[test]
-fn deliveries(rt: HostRuntime) -> Result<(), Fail> {
-    answers(&rt, rt.alloc(), DELIVERED)
+fn deliveries(rt: HostRuntime) {
+    answers(&rt, rt.alloc(), DELIVERED);
 }
 
 /// A crash blocks; one lost note splits; crashes alone don't; a backup takes over too early, by lost beats or by a pause; a write that was
@@ -42,8 +42,8 @@ const COMMITS_AND_BACKUPS: &str = concat!(
 );
 
 #[test]
-fn commits_and_backups(rt: HostRuntime) -> Result<(), Fail> {
-    answers(&rt, rt.alloc(), COMMITS_AND_BACKUPS)
+fn commits_and_backups(rt: HostRuntime) {
+    answers(&rt, rt.alloc(), COMMITS_AND_BACKUPS);
 }
 
 /// No part misses, and no part reaches; one node's fact; a node that is down is excused; a claim; an earlier step; the first of two sets; one
@@ -62,8 +62,8 @@ const FORMULAS: &str = concat!(
 );
 
 #[test]
-fn formulas(rt: HostRuntime) -> Result<(), Fail> {
-    answers(&rt, rt.alloc(), FORMULAS)
+fn formulas(rt: HostRuntime) {
+    answers(&rt, rt.alloc(), FORMULAS);
 }
 
 /// The files of `examples/` that aren't among those above: `blocked_commit`, `paused_sender` and the same with `redundant`, and `guided`.
@@ -77,14 +77,14 @@ const FILES: &str = concat!(
 );
 
 #[test]
-fn files_of_examples(rt: HostRuntime) -> Result<(), Fail> {
-    answers(&rt, rt.alloc(), FILES)
+fn files_of_examples(rt: HostRuntime) {
+    answers(&rt, rt.alloc(), FILES);
 }
 
 /// A primary and its backup among eight nodes, with 515,503,517 allowed sets.
-const LARGE: &str = "primary_backup|8 24 23 1 3|patience = 6;outcome = \"one_primary\"|none 3\n";
+const LARGE: &str = "primary_backup|8 24 23 1 3|patience = 6;outcome = \"one_primary\"|none 3";
 
 #[test]
-fn more_sets_than_can_be_run(rt: HostRuntime) -> Result<(), Fail> {
-    tells(&rt, rt.alloc(), LARGE)
+fn more_sets_than_can_be_run(rt: HostRuntime) {
+    agrees(&rt, row_tells(rt.alloc(), LARGE), LARGE);
 }

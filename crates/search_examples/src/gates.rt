@@ -2,8 +2,9 @@
 
 ghost use Rattle.std.specs.Prelude.{IfOk};
 
-use crate::texts::{agrees, columns, is_text, scenario, told};
-use lf_pool::{Gate, NoGate, solve};
+use crate::texts::{agrees, asked, columns, is_text};
+use crate::told::found;
+use lf_pool::{Gate, NoGate};
 use lf_scenario::Scenario;
 use lf_work::{Finding, Job, Spent, work_reusing};
 use std::alloc::{AllocError, Global};
@@ -52,23 +53,9 @@ impl Gate for Meeting {
 
 /// A scenario, so many workers, the last ticket that they meet at, and how many sets they run.
 const MEETINGS: &str = concat!(
-    "3 4 3 0 2|protocol = \"retry\";tries = 1;outcome = \"delivered\"|2|3|3\n",
-    "3 6 2 0 2|protocol = \"primary_backup\";patience = 3;outcome = [\"shows\", 2, 6, \"unclaimed\"]|3|4|7\n",
+    "retry|3 4 3 0 2|tries = 1;outcome = \"delivered\"|2|3|3\n",
+    "primary_backup|3 6 2 0 2|patience = 3;outcome = [\"shows\", 2, 6, \"unclaimed\"]|3|4|7\n",
 );
-
-/// What so many workers find with a gate.
-fn found<R: Threads + Wait + Clock + Sync, G: Gate>(
-    rt: &R,
-    alloc: Global,
-    scenario: &Arc<Scenario>,
-    workers: u32,
-    gate: &G,
-) -> Option<String> {
-    let Ok(shared) = Arc::try_clone(scenario) else {
-        return None;
-    };
-    told(alloc, scenario, solve(rt, alloc, shared, workers, gate))
-}
 
 /// Whether so many workers meet at a gate, and run so many sets.
 fn meet(
@@ -87,10 +74,13 @@ fn meet(
     runs == wanted && gate.came.load(SeqCst) && !gate.missed.load(SeqCst)
 }
 
-/// Whether the workers of a row work at once, and run so many sets.
-fn row_meets(rt: &(impl Threads + Wait + Clock + Sync), alloc: Global, row: &str) -> bool {
-    let (numbers, rest) = columns(row);
-    let (lines, rest) = columns(rest);
+/// Whether the workers of a row's last columns work at once, and run so many sets.
+fn columns_meet(
+    rt: &(impl Threads + Wait + Clock + Sync),
+    alloc: Global,
+    scenario: &Arc<Scenario>,
+    rest: &str,
+) -> bool {
     let (workers, rest) = columns(rest);
     let (last, wanted) = columns(rest);
     let (Ok(workers), Ok(last)) = (workers.parse::<u32>(), last.parse::<u64>()) else {
@@ -101,8 +91,13 @@ fn row_meets(rt: &(impl Threads + Wait + Clock + Sync), alloc: Global, row: &str
         came: AtomicBool::new(false),
         missed: AtomicBool::new(false),
     };
-    match scenario(alloc, numbers, lines) {
-        Some(scenario) => meet(rt, alloc, &scenario, workers, &gate, wanted),
+    meet(rt, alloc, scenario, workers, &gate, wanted)
+}
+
+/// Whether the workers of a row work at once, and run so many sets.
+fn row_meets(rt: &(impl Threads + Wait + Clock + Sync), alloc: Global, row: &str) -> bool {
+    match asked(alloc, row) {
+        Some((scenario, rest)) => columns_meet(rt, alloc, &scenario, rest),
         None => false,
     }
 }
@@ -168,8 +163,7 @@ fn is_found_without(
 
 /// Whether what a row's workers find, wherever a call of their gate finds no memory, is what one worker finds with ample memory.
 fn row_is_found(rt: &(impl Threads + Wait + Clock + Sync), alloc: Global, row: &str) -> bool {
-    let (numbers, lines) = columns(row);
-    let Some(scenario) = scenario(alloc, numbers, lines) else {
+    let Some((scenario, _)) = asked(alloc, row) else {
         return false;
     };
     match found(rt, alloc, &scenario, 1, &NoGate) {
@@ -180,8 +174,8 @@ fn row_is_found(rt: &(impl Threads + Wait + Clock + Sync), alloc: Global, row: &
 
 /// Scenarios whose search runs a few sets, and more.
 const SMALL: &str = concat!(
-    "3 4 3 0 2|protocol = \"retry\";tries = 1;outcome = \"delivered\"\n",
-    "3 6 2 0 2|protocol = \"primary_backup\";patience = 3;outcome = \"one_primary\"\n",
+    "retry|3 4 3 0 2|tries = 1;outcome = \"delivered\"\n",
+    "primary_backup|3 6 2 0 2|patience = 3;outcome = \"one_primary\"\n",
 );
 
 #[test]
