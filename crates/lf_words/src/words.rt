@@ -107,11 +107,14 @@ fn command(
     ensures { IfOk result (IsAnswer (IsAskedIn (map string_bytes words.now)
         (subcommand_rows_of matches.now))) }
 {
-    match matches.subcommand() {
-        Some((name, rest)) if name == "search" => search(alloc, words, rest),
-        Some((name, rest)) if name == "run" => run(alloc, words, rest),
-        Some((name, rest)) if name == "check" => check(alloc, words, rest),
-        Some((name, rest)) if name == "answer" => answer(alloc, words, rest),
+    let Some((name, rest)) = matches.subcommand() else {
+        return Ok(None);
+    };
+    match name {
+        "search" => search(alloc, words, rest),
+        "run" => run(alloc, words, rest),
+        "check" => check(alloc, words, rest),
+        "answer" => answer(alloc, words, rest),
         _ => Ok(None),
     }
 }
