@@ -1,7 +1,8 @@
 -- The reply to a text, and to the bytes at its front.
 use Rattle.std.proofs.Common.{◌≡◌, ℕ, ◌+◌, ◌<◌, ◌≤◌, List, length, not, take, refl, sym, ap, ◌∙◌, subst, inl, inr, arith, string_bytes}
-use Rattle.std.specs.Prelude.{◌⊎◌, Option, None, Some, IfSome, Result, Ok, Err, IfErr, slice_get}
+use Rattle.std.specs.Prelude.{◌⊎◌, Option, None, Some, IfSome, Result, Ok, Err, IfOk, IfErr, slice_get}
 use Rattle.std.specs.Io.KnownBytes.{Appends}
+use Rattle.std.specs.Result.{result_or}
 use Rattle.std.proofs.lemmas.Bool.{cases_lt}
 use Rattle.std.proofs.lemmas.List.{take_all, length-take}
 use Rattle.lf_alone.specs.Ends.{IsNeverFull}
@@ -25,13 +26,15 @@ use Rattle.lf_tree.specs.declared.fault.TreeFault.TheVariants as tree
 use Rattle.lf_tree.specs.FirstFaults.{IsFirstFault}
 use Rattle.lf_tree.specs.Texts.{most_bytes}
 use Rattle.leastfault.specs.declared.answering.Found.{Found}
+use Rattle.leastfault.specs.declared.answering.Reply.{Reply}
 use Rattle.leastfault.specs.declared.answering.Wanted.{Wanted}
 use Rattle.leastfault.specs.declared.answering.Wanted.TheVariants as wanted
 use Rattle.leastfault.specs.Answers.{AreLeastSets, IsAnswer, reaches_in}
+use Rattle.leastfault.specs.Made.{IsFound, IsMade}
 use Rattle.leastfault.specs.Searches.{IsFoundFor}
 use Rattle.leastfault.specs.Reports.{all_report, check_status, judgement, no_set_line, report, run_status, search_status}
 use Rattle.leastfault.specs.Replies.{IsAnswerReply, IsCheckReply, IsReplyWith, IsRunReply, RepliesCheck, RepliesRefusal, ToBoth, ToHeld, WrotePart, WroteReply}
-use Rattle.leastfault.specs.Replies.{HandsOut, IsSearchedWith, IsTreeFor, IsTreeText, RepliesAll, RepliesAnswer, RepliesFull, RepliesReport, reports_of}
+use Rattle.leastfault.specs.Replies.{HandsOut, IsSearchedWith, IsTreeFor, RepliesAll, RepliesAnswer, RepliesFull, RepliesReport, RepliesVerdict, reports_of}
 use Rattle.leastfault.proofs.LeastSets.{first_of_least}
 
 -- the reply of a search, from what it came to for the scenario
@@ -140,13 +143,10 @@ pub run_of_set : (words text reply : List ℕ) (status : ℕ) (s : Scenario) (se
 run_of_set words text reply status s set reads chosen is ends = inr (s, reads, inr (set, chosen.0, chosen.1, is, ends))
 
 -- the reply of a check, by the verdict
-pub check_of_verdict : (text certificate reply : List ℕ) (status : ℕ) (s : Scenario) (t : Tree) (v : Verdict) → IsText s text × IsTreeText t certificate
-    → IsVerdict (world_of s.setting) s.setting.spec s.formula t v → reply ≡ judgement v → status ≡ check_status v
-    → IsCheckReply text certificate reply status
-check_of_verdict text certificate reply status s t verdicts.Yes given accepted is ends =
-    inr (s, given.0, inr (t, given.1, inl (accepted, is, ends)))
-check_of_verdict text certificate reply status s t (verdicts.No why path) given fault is ends =
-    inr (s, given.0, inr (t, given.1, inr (why, path.items, fault, is, ends)))
+pub reply_of_verdict : (s : Scenario) (t : Tree) (v : Verdict) (reply : List ℕ) (status : ℕ) → IsVerdict (world_of s.setting) s.setting.spec s.formula t v
+    → reply ≡ judgement v → status ≡ check_status v → RepliesVerdict (world_of s.setting) s.setting.spec s.formula t reply status
+reply_of_verdict s t verdicts.Yes reply status accepted is ends = inl (accepted, is, ends)
+reply_of_verdict s t (verdicts.No why path) reply status fault is ends = inr (why, path.items, fault, is, ends)
 
 -- past the longest text, the bytes at the front say all
 module _ (held reply : List ℕ) (status : ℕ) where
@@ -261,6 +261,37 @@ module _ (IsReply : List ℕ → ℕ → Type 0) (old new : Option (List ℕ)) (
 
   pub wrote_part : ((n : ℕ) × (n < length reply) × Appends old new (take n reply)) → WrotePart IsReply old new
   wrote_part some = (reply, status, some.0, is, some.1, some.2)
+
+-- the reply that was made is what was said of it
+pub made_reply : {E : Type 0} (made : Result Reply E) (P : List ℕ → ℕ → Type 0) → IfOk made (λ r. P (string_bytes r.text) r.status)
+    → (reply : List ℕ) (status : ℕ) → IsMade made reply status → P reply status
+made_reply (Ok r) P is reply status told = subst (P reply) told.1 (subst (λ text. P text r.status) told.0 is)
+made_reply (Err e) P is reply status told = absurd told
+
+-- and so what was found
+pub found_reply : {E : Type 0} (found : Result Found E) (P : Option Tree → List ℕ → ℕ → Type 0)
+    → IfOk found (λ f. P f.tree (string_bytes f.reply.text) f.reply.status)
+    → (tree : Option Tree) (reply : List ℕ) (status : ℕ) → IsFound found tree reply status → P tree reply status
+found_reply (Ok f) P is tree reply status told =
+    subst (P tree reply) told.2 (subst (λ text. P tree text f.reply.status) told.1
+    (subst (λ t. P t (string_bytes f.reply.text) f.reply.status) told.0 is))
+found_reply (Err e) P is tree reply status told = absurd told
+
+-- with another error, what is said of the value stays
+pub ok_or : {T E D : Type 0} (one : Result T E) (other : Result T D) (d : D) (P : T → Type 0) → other ≡ result_or one (Err d) → IfOk one P → IfOk other P
+ok_or one other d P is told = subst (λ r. IfOk r P) (sym is) (ok_of one d P told)
+  where
+    ok_of : {T E D : Type 0} (one : Result T E) (d : D) (P : T → Type 0) → IfOk one P → IfOk (result_or one (Err d)) P
+    ok_of (Ok x) d P told = told
+    ok_of (Err e) d P told = tt
+
+-- what was written of replies of one kind was written of those of each wider kind
+module _ (P Q : List ℕ → ℕ → Type 0) (old new : Option (List ℕ)) (wider : (reply : List ℕ) (status : ℕ) → P reply status → Q reply status) where
+  pub wrote_wider : (status : ℕ) → WroteReply P old new status → WroteReply Q old new status
+  wrote_wider status wrote = (wrote.0, wider wrote.0 status wrote.1, wrote.2)
+
+  pub part_wider : WrotePart P old new → WrotePart Q old new
+  part_wider wrote = (wrote.0, wrote.1, wrote.2, wider wrote.0 wrote.1 wrote.3, wrote.4, wrote.5)
 
 -- of two facts of what a source held the first
 pub first_told : (held : Option (List ℕ)) (P Q : List ℕ → Type 0) → IfSome held (λ h. P h × Q h) → IfSome held P

@@ -1,5 +1,5 @@
 pub mod Answers
 pub mod Reports
 pub mod Replies
-pub mod Given
 pub mod Searches
+pub mod Made

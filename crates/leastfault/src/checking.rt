@@ -1,8 +1,8 @@
 //! The replies of a check, before they are written.
 
 ghost use Rattle.std.specs.Prelude.{◌≡◌, ◌≢◌, string_bytes, IfOk};
-ghost use Rattle.leastfault.specs.Given.{IsGiven};
-ghost use Rattle.leastfault.specs.Replies.{IsCheckReply};
+ghost use Rattle.lf_sim.specs.Settings.{world_of};
+ghost use Rattle.leastfault.specs.Replies.{IsCheckReply, RepliesCheck, RepliesVerdict};
 ghost use Rattle.leastfault.specs.Reports.{check_status, judgement, tree_refusal};
 
 use crate::answering::{Reply, refused};
@@ -14,15 +14,6 @@ use lf_watch::Watch;
 use std::alloc::{AllocError, Global};
 use std::thread::Threads;
 
-/// What a check is given.
-#[derive(Drop)]
-pub(crate) enum Given {
-    /// A tree to be judged for a scenario.
-    Both { scenario: Scenario, tree: Tree },
-    /// The reply, since one of the texts is refused.
-    Refused(Reply),
-}
-
 /// The reply of a check to the texts of a scenario and of a tree.
 pub(crate) fn check_reply(
     alloc: Global,
@@ -32,13 +23,37 @@ pub(crate) fn check_reply(
     ensures { IfOk result (λ reply.
         IsCheckReply text.now certificate.now (string_bytes reply.text) reply.status) }
 {
-    match read_both(alloc, text, certificate)? {
-        Given::Both { scenario, tree } => judged(alloc, &check(alloc, &scenario, &tree)?),
-        Given::Refused(reply) => Ok(reply),
+    match read(alloc, text) {
+        Ok(scenario) => check_tree(alloc, &scenario, certificate),
+        Err(error) => refused(alloc, error),
     }
 }
 
-/// The same, where the tree is judged in as many threads as there are processors.
+/// The reply of a check to the text of a tree for a scenario.
+fn check_tree(alloc: Global, scenario: &Scenario, certificate: &[u8]) -> Result<Reply, AllocError>
+    ensures { IfOk result (λ reply.
+        RepliesCheck scenario.now certificate.now (string_bytes reply.text) reply.status) }
+{
+    match read_tree(alloc, certificate) {
+        Ok(tree) => {
+            types_are_kept(&tree);
+            judge(alloc, scenario, &tree)
+        }
+        Err(fault) => tree_refused(alloc, fault),
+    }
+}
+
+/// The reply of a check to a tree for a scenario.
+fn judge(alloc: Global, scenario: &Scenario, tree: &Tree) -> Result<Reply, AllocError>
+    ensures { IfOk result (λ reply.
+        RepliesVerdict (world_of scenario.now.setting) scenario.now.setting.spec scenario.now.formula tree.now
+        (string_bytes reply.text) reply.status) }
+{
+    let verdict = check(alloc, scenario, tree)?;
+    judged(alloc, &verdict)
+}
+
+/// The same as `check_reply`, where the tree is judged in as many threads as there are processors.
 pub(crate) fn check_reply_rows<V: Watch>(
     rt: &(impl Threads + Sync),
     alloc: Global,
@@ -49,34 +64,50 @@ pub(crate) fn check_reply_rows<V: Watch>(
     ensures { IfOk result (λ reply.
         IsCheckReply text.now certificate.now (string_bytes reply.text) reply.status) }
 {
-    match read_both(alloc, text, certificate)? {
-        Given::Both { scenario, tree } => {
-            let verdict = check_rows_watched(rt, alloc, &scenario, &tree, watch)?;
-            judged(alloc, &verdict)
-        }
-        Given::Refused(reply) => Ok(reply),
+    match read(alloc, text) {
+        Ok(scenario) => check_tree_rows(rt, alloc, &scenario, certificate, watch),
+        Err(error) => refused(alloc, error),
     }
 }
 
-/// The scenario and the tree of two texts, or the reply to the first that is refused.
-pub(crate) fn read_both(alloc: Global, text: &[u8], certificate: &[u8]) -> Result<Given, AllocError>
-    ensures { IfOk result (IsGiven text.now certificate.now) }
+/// The same as `check_tree`, in so many threads.
+fn check_tree_rows<V: Watch>(
+    rt: &(impl Threads + Sync),
+    alloc: Global,
+    scenario: &Scenario,
+    certificate: &[u8],
+    watch: &V,
+) -> Result<Reply, AllocError>
+    ensures { IfOk result (λ reply.
+        RepliesCheck scenario.now certificate.now (string_bytes reply.text) reply.status) }
 {
-    let scenario = match read(alloc, text) {
-        Ok(scenario) => scenario,
-        Err(error) => return Ok(Given::Refused(refused(alloc, error)?)),
-    };
     match read_tree(alloc, certificate) {
         Ok(tree) => {
             types_are_kept(&tree);
-            Ok(Given::Both { scenario, tree })
+            judge_rows(rt, alloc, scenario, &tree, watch)
         }
-        Err(fault) => Ok(Given::Refused(tree_refused(alloc, fault)?)),
+        Err(fault) => tree_refused(alloc, fault),
     }
 }
 
+/// The same as `judge`, in so many threads.
+fn judge_rows<V: Watch>(
+    rt: &(impl Threads + Sync),
+    alloc: Global,
+    scenario: &Scenario,
+    tree: &Tree,
+    watch: &V,
+) -> Result<Reply, AllocError>
+    ensures { IfOk result (λ reply.
+        RepliesVerdict (world_of scenario.now.setting) scenario.now.setting.spec scenario.now.formula tree.now
+        (string_bytes reply.text) reply.status) }
+{
+    let verdict = check_rows_watched(rt, alloc, scenario, tree, watch)?;
+    judged(alloc, &verdict)
+}
+
 /// The reply that tells a verdict.
-pub(crate) fn judged(alloc: Global, verdict: &Verdict) -> Result<Reply, AllocError>
+fn judged(alloc: Global, verdict: &Verdict) -> Result<Reply, AllocError>
     ensures { IfOk result (λ reply.
         (string_bytes reply.text ≡ judgement verdict.now) × (reply.status ≡ check_status verdict.now)) }
 {

@@ -6,16 +6,17 @@ ghost use Rattle.lf_scenario.specs.Limits.{longest};
 ghost use Rattle.lf_tree.specs.Texts.{most_bytes};
 ghost use Rattle.leastfault.specs.Replies.{IsAllReply, IsAnswerReply, IsCheckReply, IsRunReply, IsSearchReply};
 ghost use Rattle.leastfault.specs.Replies.{IsSearched, IsSearchedAll};
+ghost use Rattle.leastfault.specs.Made.{IsFound, IsFoundReply, IsMade};
 ghost use Rattle.leastfault.specs.Replies.{ToBoth, ToHeld, TookAtMost, WrotePart, WroteReply, tells_read, tells_write};
 
-use crate::answering::{Reply, Wanted, run_reply};
+use crate::answering::{Found, Reply, Wanted, run_reply};
 use crate::checking::check_reply;
 use crate::watched::{answer_watched, check_watched, search_watched, shared_watched};
 use lf_scenario::LONGEST;
 use lf_streams::{ReadFault, Sink, Source, read_up_to, write_all};
 use lf_tree::Tree;
 use lf_watch::NoWatch;
-use std::alloc::Global;
+use std::alloc::{AllocError, Global};
 use std::rt::Clock;
 use std::sync::Wait;
 use std::thread::Threads;
@@ -49,6 +50,13 @@ pub struct Searched {
     pub status: u8,
     /// The certificate of the answer, where there is one: the tree of the search.
     pub tree: Option<Tree>,
+}
+
+/// The texts of a scenario and of a tree.
+#[derive(Drop)]
+pub(crate) struct Texts {
+    pub(crate) scenario: Vec<u8>,
+    pub(crate) tree: Vec<u8>,
 }
 
 /// Reads a scenario, searches it, and writes the report of its answer, or the line of its refusal, or that a level of the search has
@@ -230,10 +238,7 @@ pub fn run_bytes<R: Source, W: Sink>(
     ensures taken { TookAtMost (longest + 1) (R.left reader.old) (R.left reader.new) }
 {
     let text = read_text(alloc, reader, LONGEST)?;
-    let Ok(reply) = run_reply(alloc, text.as_slice(), faults) else {
-        return Err(BytesFault::Memory);
-    };
-    send(writer, &reply)
+    send_made(writer, run_reply(alloc, text.as_slice(), faults))
 }
 
 /// Reads a scenario and the text of a tree, judges the tree for the scenario, and writes the line of the verdict: `yes`, or
@@ -270,12 +275,11 @@ pub fn check_bytes<R: Source, S: Source, W: Sink>(
     ensures taken { TookAtMost (longest + 1) (R.left scenario_reader.old) (R.left scenario_reader.new) }
     ensures taken_too { TookAtMost (most_bytes + 1) (S.left tree_reader.old) (S.left tree_reader.new) }
 {
-    let text = read_text(alloc, scenario_reader, LONGEST)?;
-    let certificate = read_text(alloc, tree_reader, LONGEST_TREE)?;
-    let Ok(reply) = check_reply(alloc, text.as_slice(), certificate.as_slice()) else {
-        return Err(BytesFault::Memory);
-    };
-    send(writer, &reply)
+    let texts = read_texts(alloc, scenario_reader, tree_reader)?;
+    send_made(
+        writer,
+        check_reply(alloc, texts.scenario.as_slice(), texts.tree.as_slice()),
+    )
 }
 
 /// The same as `check_bytes`, where the tree is judged in as many threads as there are processors.
@@ -328,8 +332,71 @@ pub(crate) fn read_text<R: Source>(
     }
 }
 
+/// What the sources of a scenario and of a tree hold, or as much of it as tells that it is longer than a text may be.
+pub(crate) fn read_texts<R: Source, S: Source>(
+    alloc: Global,
+    scenario_reader: &mut R,
+    tree_reader: &mut S,
+) -> Result<Texts, BytesFault>
+    requires scenario { R.has_failed scenario_reader.old ≡ false }
+    requires tree { S.has_failed tree_reader.old ≡ false }
+    ensures scenario { IfOk result (λ texts.
+        IfSome (R.left scenario_reader.old) (λ held. texts.scenario.items ≡ take (longest + 1) held)) }
+    ensures tree { IfOk result (λ texts.
+        IfSome (S.left tree_reader.old) (λ held. texts.tree.items ≡ take (most_bytes + 1) held)) }
+    ensures fault { IfErr result (λ e. e ≢ BytesFault.Write) }
+    ensures sources { (R.has_failed scenario_reader.new || S.has_failed tree_reader.new) ≡ tells_read result }
+    ensures taken { TookAtMost (longest + 1) (R.left scenario_reader.old) (R.left scenario_reader.new) }
+    ensures taken_too { TookAtMost (most_bytes + 1) (S.left tree_reader.old) (S.left tree_reader.new) }
+{
+    let scenario = read_text(alloc, scenario_reader, LONGEST)?;
+    let tree = read_text(alloc, tree_reader, LONGEST_TREE)?;
+    Ok(Texts { scenario, tree })
+}
+
+/// Writes a reply, and answers its status; `Memory` where none was made.
+pub(crate) fn send_made<W: Sink>(
+    writer: &mut W,
+    made: Result<Reply, AllocError>,
+) -> Result<u8, BytesFault>
+    requires { W.has_failed writer.old ≡ false }
+    ensures reply { IfOk result (WroteReply (IsMade made) (W.written writer.old) (W.written writer.new)) }
+    ensures part { result ≡ Err BytesFault.Write → WrotePart (IsMade made) (W.written writer.old) (W.written writer.new) }
+    ensures unwritten { IfErr result (λ e. e ≢ BytesFault.Write → writer.new ≡ writer.old) }
+    ensures source { tells_read result ≡ false }
+    ensures sink { W.has_failed writer.new ≡ tells_write result }
+{
+    match made {
+        Ok(reply) => send(writer, &reply),
+        Err(_) => Err(BytesFault::Memory),
+    }
+}
+
+/// Writes the reply of a search, and answers its status and the tree that is handed out with it; the fault where none was found.
+pub(crate) fn send_found<W: Sink>(
+    writer: &mut W,
+    found: Result<Found, BytesFault>,
+) -> Result<Searched, BytesFault>
+    requires writer { W.has_failed writer.old ≡ false }
+    requires fault { IfErr found (λ e. (e ≢ BytesFault.Read) × (e ≢ BytesFault.Write)) }
+    ensures reply { IfOk result (λ searched.
+        WroteReply (IsFound found searched.tree) (W.written writer.old) (W.written writer.new) searched.status) }
+    ensures part { result ≡ Err BytesFault.Write →
+        WrotePart (IsFoundReply found) (W.written writer.old) (W.written writer.new) }
+    ensures unwritten { IfErr result (λ e. e ≢ BytesFault.Write → writer.new ≡ writer.old) }
+    ensures source { tells_read result ≡ false }
+    ensures sink { W.has_failed writer.new ≡ tells_write result }
+{
+    let found = found?;
+    let status = send(writer, &found.reply)?;
+    Ok(Searched {
+        status,
+        tree: found.tree,
+    })
+}
+
 /// Writes a reply, and answers its status.
-pub(crate) fn send<W: Sink>(writer: &mut W, reply: &Reply) -> Result<u8, BytesFault>
+fn send<W: Sink>(writer: &mut W, reply: &Reply) -> Result<u8, BytesFault>
     requires { W.has_failed writer.old ≡ false }
     ensures whole { IfOk result (λ status. (status ≡ reply.now.status)
         × Appends (W.written writer.old) (W.written writer.new) (string_bytes reply.now.text)) }

@@ -2,6 +2,7 @@
 
 ghost use Rattle.std.specs.Prelude.{◌≡◌, ◌++◌, IfOk, codes, string_bytes};
 ghost use Rattle.std.specs.Fmt.{decimal};
+ghost use Rattle.lf_faults.specs.Texts.{spelling};
 ghost use Rattle.lf_trace.specs.Lines.{line};
 ghost use Rattle.leastfault.specs.Reports.{all_report, dotted, fault_lines, full_line, judgement, more_text, path_text, refusal, report};
 ghost use Rattle.leastfault.specs.Reports.{set_lines, set_text, tree_refusal};
@@ -61,7 +62,7 @@ fn push_set(alloc: Global, faults: &[Fault], text: &mut String) -> Result<(), Al
     match faults.split_first() {
         None => text.push('-'),
         Some((first, rest)) => {
-            text.push_str(fault_text(alloc, first)?.as_str())?;
+            push_fault(alloc, first, text)?;
             push_more(alloc, rest, text)
         }
     }
@@ -73,9 +74,16 @@ fn push_more(alloc: Global, faults: &[Fault], text: &mut String) -> Result<(), A
 {
     'faults: for fault in faults {
         text.push(',')?;
-        text.push_str(fault_text(alloc, fault)?.as_str())?;
+        push_fault(alloc, fault, text)?;
     }
     Ok(())
+}
+
+/// Adds the text of a fault.
+fn push_fault(alloc: Global, fault: &Fault, text: &mut String) -> Result<(), AllocError>
+    ensures { IfOk result (λ _. string_bytes text.new ≡ string_bytes text.old ++ spelling fault.now) }
+{
+    text.push_str(fault_text(alloc, fault)?.as_str())
 }
 
 /// The line of a level that is too full: `full LEVEL COUNT`, with the number of faults of its sets and the number of these.
@@ -90,7 +98,7 @@ fn push_faults(alloc: Global, set: &FaultSet, text: &mut String) -> Result<(), A
     ensures { IfOk result (λ _. string_bytes text.new ≡ string_bytes text.old ++ fault_lines set.now) }
 {
     'faults: for fault in set.items() {
-        text.push_str(fault_text(alloc, fault)?.as_str())?;
+        push_fault(alloc, fault, text)?;
         text.push('\n')?;
     }
     Ok(())
@@ -129,32 +137,39 @@ pub fn judgement(alloc: Global, verdict: &Verdict) -> Result<String, AllocError>
         Verdict::Yes => String::from_str(alloc, "yes\n"),
         Verdict::No { reason, path } => {
             let mut text = format!(in alloc; "no {} ", reason.number())?;
-            push_path(alloc, path.as_slice(), &mut text)?;
-            text.push('\n')?;
+            push_path_line(path.as_slice(), &mut text)?;
             Ok(text)
         }
     }
 }
 
+/// Adds a way from the root, and ends the line.
+fn push_path_line(path: &[usize], text: &mut String) -> Result<(), AllocError>
+    ensures { IfOk result (λ _. string_bytes text.new ≡ string_bytes text.old ++ line (path_text path.now)) }
+{
+    push_path(path, text)?;
+    text.push('\n')
+}
+
 /// Adds a way from the root: the places of kids, from 0, with a dot between any two, or `-` for the root itself.
-fn push_path(alloc: Global, path: &[usize], text: &mut String) -> Result<(), AllocError>
+fn push_path(path: &[usize], text: &mut String) -> Result<(), AllocError>
     ensures { IfOk result (λ _. string_bytes text.new ≡ string_bytes text.old ++ path_text path.now) }
 {
     match path.split_first() {
         None => text.push('-'),
         Some((first, rest)) => {
-            text.push_str(format!(in alloc; "{first}")?.as_str())?;
-            push_dotted(alloc, rest, text)
+            write!(text, "{first}")?;
+            push_dotted(rest, text)
         }
     }
 }
 
 /// Adds the places, each after a dot.
-fn push_dotted(alloc: Global, path: &[usize], text: &mut String) -> Result<(), AllocError>
+fn push_dotted(path: &[usize], text: &mut String) -> Result<(), AllocError>
     ensures { IfOk result (λ _. string_bytes text.new ≡ string_bytes text.old ++ dotted path.now) }
 {
     'places: for place in path {
-        text.push_str(format!(in alloc; ".{place}")?.as_str())?;
+        write!(text, ".{place}")?;
     }
     Ok(())
 }

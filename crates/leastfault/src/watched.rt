@@ -8,7 +8,7 @@ ghost use Rattle.leastfault.specs.Replies.{ToBoth, ToHeld, TookAtMost, WrotePart
 
 use crate::answering::{Wanted, answer_reply, search_reply};
 use crate::checking::check_reply_rows;
-use crate::engine::{BytesFault, LONGEST_TREE, Searched, read_text, send};
+use crate::engine::{BytesFault, Searched, read_text, read_texts, send_found, send_made};
 use crate::workers::shared_reply;
 use lf_scenario::LONGEST;
 use lf_streams::{Sink, Source};
@@ -39,14 +39,8 @@ pub fn search_watched<R: Source, W: Sink, V: Watch>(
     ensures taken { TookAtMost (longest + 1) (R.left reader.old) (R.left reader.new) }
 {
     let text = read_text(alloc, reader, LONGEST)?;
-    let Ok(found) = search_reply(alloc, wanted, text.as_slice(), watch) else {
-        return Err(BytesFault::Memory);
-    };
-    let status = send(writer, &found.reply)?;
-    Ok(Searched {
-        status,
-        tree: found.tree,
-    })
+    let found = search_reply(alloc, wanted, text.as_slice(), watch);
+    send_found(writer, found.or(Err(BytesFault::Memory)))
 }
 
 /// The same as `search_shared` where the answer is wanted, and as `all_shared` where all least sets are, with a watch that is told how
@@ -72,12 +66,8 @@ pub fn shared_watched<T: Threads + Wait + Clock + Sync, R: Source, W: Sink, V: W
     ensures taken { TookAtMost (longest + 1) (R.left reader.old) (R.left reader.new) }
 {
     let text = read_text(alloc, reader, LONGEST)?;
-    let found = shared_reply(rt, alloc, wanted, workers, text.as_slice(), watch)?;
-    let status = send(writer, &found.reply)?;
-    Ok(Searched {
-        status,
-        tree: found.tree,
-    })
+    let found = shared_reply(rt, alloc, wanted, workers, text.as_slice(), watch);
+    send_found(writer, found)
 }
 
 /// The same as `answer_bytes`, with a watch that is told how far the answer has come.
@@ -103,10 +93,7 @@ pub fn answer_watched<R: Source, W: Sink, V: Watch>(
     ensures taken { TookAtMost (longest + 1) (R.left reader.old) (R.left reader.new) }
 {
     let text = read_text(alloc, reader, LONGEST)?;
-    let Ok(reply) = answer_reply(alloc, text.as_slice(), watch) else {
-        return Err(BytesFault::Memory);
-    };
-    send(writer, &reply)
+    send_made(writer, answer_reply(alloc, text.as_slice(), watch))
 }
 
 /// The same as `check_bytes_rows`, with a watch that is told how far the check has come.
@@ -137,11 +124,10 @@ pub fn check_watched<R: Source, S: Source, W: Sink, V: Watch>(
     ensures taken { TookAtMost (longest + 1) (R.left scenario_reader.old) (R.left scenario_reader.new) }
     ensures taken_too { TookAtMost (most_bytes + 1) (S.left tree_reader.old) (S.left tree_reader.new) }
 {
-    let text = read_text(alloc, scenario_reader, LONGEST)?;
-    let certificate = read_text(alloc, tree_reader, LONGEST_TREE)?;
-    let Ok(reply) = check_reply_rows(rt, alloc, text.as_slice(), certificate.as_slice(), watch)
-    else {
-        return Err(BytesFault::Memory);
-    };
-    send(writer, &reply)
+    let texts = read_texts(alloc, scenario_reader, tree_reader)?;
+    let (text, certificate) = (texts.scenario.as_slice(), texts.tree.as_slice());
+    send_made(
+        writer,
+        check_reply_rows(rt, alloc, text, certificate, watch),
+    )
 }

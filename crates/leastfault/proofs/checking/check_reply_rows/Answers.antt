@@ -1,18 +1,23 @@
-use Rattle.std.proofs.Common.{◌≡◌, string_bytes, subst}
+use Rattle.std.proofs.Common.{◌≡◌, ◌≢◌, inl, inr, string_bytes}
 use Rattle.std.proofs.lemmas.Result.{IfOk-weaker}
-use Rattle.leastfault.specs.Given.{IsGiven}
-use Rattle.leastfault.specs.Replies.{IsCheckReply}
-use Rattle.leastfault.specs.Reports.{check_status, judgement}
-use Rattle.leastfault.proofs.ReplyLemmas.{check_of_verdict}
+use Rattle.lf_scenario.specs.declared.error.ScenarioError.{ScenarioError}
+use Rattle.leastfault.specs.Replies.{IsCheckReply, RepliesCheck}
+use Rattle.leastfault.specs.Reports.{refusal}
 use Rattle.leastfault.proofs.checking.check_reply_rows.Goals as goal
 
-pub returns-in_ok-verdict-in-Both : goal.returns-in_ok-verdict-in-Both
-returns-in_ok-verdict-in-Both g c =
-    let text = c.args.text.now in
-    let certificate = c.args.certificate.now in
-    let verdict = c.in_ok-verdict-in-Both.verdict in
-    IfOk-weaker c.judged.result (λ reply. (string_bytes reply.text ≡ judgement verdict) × (reply.status ≡ check_status verdict))
-    (λ reply. IsCheckReply text certificate (string_bytes reply.text) reply.status)
-    (λ reply told. check_of_verdict text certificate (string_bytes reply.text) reply.status c.in-Both.scenario c.in-Both.tree verdict
-    (subst (IsGiven text certificate) c.in-Both.is c.in_ok-scenario.ensures) c.in_ok-verdict-in-Both.ensures told.0 told.1)
-    c.judged.ensures
+pub returns-in-Ok : goal.returns-in-Ok
+returns-in-Ok g c =
+    let s = c.in-Ok.scenario in
+    IfOk-weaker c.check_tree_rows.result (λ reply. RepliesCheck s c.args.certificate.now (string_bytes reply.text) reply.status)
+    (λ reply. IsCheckReply c.args.text.now c.args.certificate.now (string_bytes reply.text) reply.status)
+    (λ reply told. inr (s, c.in-Ok.ensures.reading, told))
+    c.check_tree_rows.ensures
+
+pub returns-in-Err : goal.returns-in-Err
+returns-in-Err g c =
+    let error = c.in-Err.error in
+    IfOk-weaker c.refused.result
+    (λ reply. (error ≢ ScenarioError.Memory) × (string_bytes reply.text ≡ refusal error) × (reply.status ≡ 2))
+    (λ reply. IsCheckReply c.args.text.now c.args.certificate.now (string_bytes reply.text) reply.status)
+    (λ reply told. inl (error, c.in-Err.ensures.reading told.0, told.1, told.2))
+    c.refused.ensures

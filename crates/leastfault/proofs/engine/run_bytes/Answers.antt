@@ -1,32 +1,33 @@
-use Rattle.std.proofs.Common.{◌≡◌, ◌<◌, length, take, ℕ, string_bytes}
-use Rattle.std.specs.Io.KnownBytes.{Appends}
+use Rattle.std.proofs.Common.{ℕ, List}
 use Rattle.std.proofs.lemmas.Result.{IfOk-weaker}
 use Rattle.lf_scenario.specs.Limits.{longest}
-use Rattle.leastfault.specs.declared.engine.BytesFault.TheVariants as faults
+use Rattle.leastfault.specs.Made.{IsMade}
 use Rattle.leastfault.specs.Replies.{IsRunReply, ToHeld, WroteReply}
-use Rattle.leastfault.proofs.ReplyLemmas.{known_of, run_by_front, to_held, wrote_part, wrote_reply}
+use Rattle.leastfault.proofs.ReplyLemmas.{made_reply, part_wider, run_by_front, to_held, wrote_wider}
 use Rattle.leastfault.proofs.engine.run_bytes.Goals as goal
 
 pub returns-clause-reply : goal.returns-clause-reply
 returns-clause-reply g c =
     let held = g.R.Source.left c.args.reader.now in
     let old = g.W.Sink.written c.args.writer.now in
-    let new = g.W.Sink.written c.send.new.writer in
-    let reply = string_bytes c.in-Ok.reply.text in
-    let is = to_held longest (IsRunReply c.args.faults.now) (run_by_front c.args.faults.now) held c.in_ok-text.text.items c.as_slice.result.now
-    reply c.in-Ok.reply.status c.in_ok-text.ensures.text c.as_slice.ensures.value c.in-Ok.ensures in
-    IfOk-weaker c.send.result (λ status. (status ≡ c.in-Ok.reply.status) × Appends old new reply)
-    (WroteReply (ToHeld (IsRunReply c.args.faults.now) held) old new)
-    (λ status told. wrote_reply (ToHeld (IsRunReply c.args.faults.now) held) old new reply c.in-Ok.reply.status is status told.0 told.1)
-    c.send.ensures.whole
+    let new = g.W.Sink.written c.send_made.new.writer in
+    let made = c.run_reply.result in
+    let Replies = IsRunReply c.args.faults.now in
+    let wider = λ (reply : List ℕ) (status : ℕ) (told : IsMade made reply status).
+    to_held longest Replies (run_by_front c.args.faults.now) held c.in_ok-text.text.items c.as_slice.result.now reply status c.in_ok-text.ensures.text c.as_slice.ensures.value
+    (made_reply made (Replies c.as_slice.result.now) c.run_reply.ensures reply status told) in
+    IfOk-weaker c.send_made.result (WroteReply (IsMade made) old new) (WroteReply (ToHeld Replies held) old new)
+    (wrote_wider (IsMade made) (ToHeld Replies held) old new wider)
+    c.send_made.ensures.reply
 
 pub returns-clause-part : goal.returns-clause-part
 returns-clause-part g c fault =
     let held = g.R.Source.left c.args.reader.now in
     let old = g.W.Sink.written c.args.writer.now in
-    let new = g.W.Sink.written c.send.new.writer in
-    let reply = string_bytes c.in-Ok.reply.text in
-    let is = to_held longest (IsRunReply c.args.faults.now) (run_by_front c.args.faults.now) held c.in_ok-text.text.items c.as_slice.result.now
-    reply c.in-Ok.reply.status c.in_ok-text.ensures.text c.as_slice.ensures.value c.in-Ok.ensures in
-    wrote_part (ToHeld (IsRunReply c.args.faults.now) held) old new reply c.in-Ok.reply.status is
-    (known_of c.send.result faults.Write ((n : ℕ) × (n < length reply) × Appends old new (take n reply)) c.send.ensures.part fault)
+    let new = g.W.Sink.written c.send_made.new.writer in
+    let made = c.run_reply.result in
+    let Replies = IsRunReply c.args.faults.now in
+    let wider = λ (reply : List ℕ) (status : ℕ) (told : IsMade made reply status).
+    to_held longest Replies (run_by_front c.args.faults.now) held c.in_ok-text.text.items c.as_slice.result.now reply status c.in_ok-text.ensures.text c.as_slice.ensures.value
+    (made_reply made (Replies c.as_slice.result.now) c.run_reply.ensures reply status told) in
+    part_wider (IsMade made) (ToHeld Replies held) old new wider (c.send_made.ensures.part fault)

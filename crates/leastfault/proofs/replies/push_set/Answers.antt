@@ -5,12 +5,12 @@ use Rattle.leastfault.specs.Reports.{more_text, set_text}
 use Rattle.leastfault.proofs.SetTexts.{set_text_more}
 use Rattle.leastfault.proofs.replies.push_set.Goals as goal
 
-pub returns-in_ok-push_str-in-Some : goal.returns-in_ok-push_str-in-Some
-returns-in_ok-push_str-in-Some c =
+pub returns-in_ok-push_fault-in-Some : goal.returns-in_ok-push_fault-in-Some
+returns-in_ok-push_fault-in-Some c =
     let f = c.in-Some.first.now in
     let fs = c.in-Some.rest.now in
     let old = string_bytes c.args.text.now in
-    let between = string_bytes c.push_str.new.self in
+    let between = string_bytes c.push_fault.new.text in
     let new = string_bytes c.push_more.new.text in
     let faults : c.args.faults.now ≡ f ∷ fs = search rules in
     let first : between ≡ old ++ spelling f = search rules in

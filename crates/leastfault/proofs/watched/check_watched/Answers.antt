@@ -1,9 +1,8 @@
-use Rattle.std.proofs.Common.{◌≡◌, ◌<◌, length, take, ℕ, string_bytes}
-use Rattle.std.specs.Io.KnownBytes.{Appends}
+use Rattle.std.proofs.Common.{ℕ, List}
 use Rattle.std.proofs.lemmas.Result.{IfOk-weaker}
-use Rattle.leastfault.specs.declared.engine.BytesFault.TheVariants as faults
+use Rattle.leastfault.specs.Made.{IsMade}
 use Rattle.leastfault.specs.Replies.{IsCheckReply, ToBoth, WroteReply}
-use Rattle.leastfault.proofs.ReplyLemmas.{known_of, to_both, wrote_part, wrote_reply}
+use Rattle.leastfault.proofs.ReplyLemmas.{made_reply, part_wider, to_both, wrote_wider}
 use Rattle.leastfault.proofs.watched.check_watched.Goals as goal
 
 pub returns-clause-reply : goal.returns-clause-reply
@@ -11,25 +10,27 @@ returns-clause-reply g c =
     let held = g.R.Source.left c.args.scenario_reader.now in
     let other = g.S.Source.left c.args.tree_reader.now in
     let old = g.W.Sink.written c.args.writer.now in
-    let new = g.W.Sink.written c.send.new.writer in
-    let reply = string_bytes c.in-Ok.reply.text in
-    let is = to_both held other c.in_ok-text.text.items c.as_slice.result.now c.in_ok-certificate.certificate.items c.as_slice-2.result.now
-    reply c.in-Ok.reply.status c.in_ok-text.ensures.text c.as_slice.ensures.value c.in_ok-certificate.ensures.text c.as_slice-2.ensures.value
-    c.in-Ok.ensures in
-    IfOk-weaker c.send.result (λ status. (status ≡ c.in-Ok.reply.status) × Appends old new reply)
-    (WroteReply (ToBoth IsCheckReply held other) old new)
-    (λ status told. wrote_reply (ToBoth IsCheckReply held other) old new reply c.in-Ok.reply.status is status told.0 told.1)
-    c.send.ensures.whole
+    let new = g.W.Sink.written c.send_made.new.writer in
+    let made = c.check_reply_rows.result in
+    let texts = c.in_ok-texts.texts in
+    let wider = λ (reply : List ℕ) (status : ℕ) (told : IsMade made reply status).
+    to_both held other texts.scenario.items c.as_slice-text.result.now texts.tree.items c.as_slice-certificate.result.now reply status
+    c.in_ok-texts.ensures.scenario c.as_slice-text.ensures.value c.in_ok-texts.ensures.tree c.as_slice-certificate.ensures.value
+    (made_reply made (IsCheckReply c.as_slice-text.result.now c.as_slice-certificate.result.now) c.check_reply_rows.ensures reply status told) in
+    IfOk-weaker c.send_made.result (WroteReply (IsMade made) old new) (WroteReply (ToBoth IsCheckReply held other) old new)
+    (wrote_wider (IsMade made) (ToBoth IsCheckReply held other) old new wider)
+    c.send_made.ensures.reply
 
 pub returns-clause-part : goal.returns-clause-part
 returns-clause-part g c fault =
     let held = g.R.Source.left c.args.scenario_reader.now in
     let other = g.S.Source.left c.args.tree_reader.now in
     let old = g.W.Sink.written c.args.writer.now in
-    let new = g.W.Sink.written c.send.new.writer in
-    let reply = string_bytes c.in-Ok.reply.text in
-    let is = to_both held other c.in_ok-text.text.items c.as_slice.result.now c.in_ok-certificate.certificate.items c.as_slice-2.result.now
-    reply c.in-Ok.reply.status c.in_ok-text.ensures.text c.as_slice.ensures.value c.in_ok-certificate.ensures.text c.as_slice-2.ensures.value
-    c.in-Ok.ensures in
-    wrote_part (ToBoth IsCheckReply held other) old new reply c.in-Ok.reply.status is
-    (known_of c.send.result faults.Write ((n : ℕ) × (n < length reply) × Appends old new (take n reply)) c.send.ensures.part fault)
+    let new = g.W.Sink.written c.send_made.new.writer in
+    let made = c.check_reply_rows.result in
+    let texts = c.in_ok-texts.texts in
+    let wider = λ (reply : List ℕ) (status : ℕ) (told : IsMade made reply status).
+    to_both held other texts.scenario.items c.as_slice-text.result.now texts.tree.items c.as_slice-certificate.result.now reply status
+    c.in_ok-texts.ensures.scenario c.as_slice-text.ensures.value c.in_ok-texts.ensures.tree c.as_slice-certificate.ensures.value
+    (made_reply made (IsCheckReply c.as_slice-text.result.now c.as_slice-certificate.result.now) c.check_reply_rows.ensures reply status told) in
+    part_wider (IsMade made) (ToBoth IsCheckReply held other) old new wider (c.send_made.ensures.part fault)
