@@ -27,7 +27,7 @@ use std::alloc::{AllocError, Global};
 use std::sync::Arc;
 
 /// A reply, before it is written.
-#[derive(Debug, Drop)]
+#[derive(Drop)]
 pub(crate) struct Reply {
     pub(crate) text: String,
     pub(crate) status: u8,
