@@ -1,9 +1,9 @@
 //! Made lists of events, of which a book and the model make the same.
 
 use crate::model::Model;
-use crate::searches::{End, is_accepted, plain_least, search};
+use crate::searches::{End, is_accepted, plain_least, refusal_number, search};
 use crate::texts::{agrees, begun, columns, scenario};
-use lf_book::{Book, Deepened, Event, Job, Reply, Taken, work};
+use lf_book::{Book, Deepened, Event, Job, Reply, Taken};
 use lf_scenario::Scenario;
 use lf_tree::{read_tree, to_text};
 use std::alloc::Global;
@@ -60,21 +60,23 @@ impl Scenarios {
     fn of(alloc: Global, row: &str) -> Option<Scenarios> {
         let (numbers, rest) = columns(row);
         let (lines, most) = columns(rest);
-        Some(Scenarios {
-            own: bounded(alloc, numbers, lines, most)?,
-            equal: bounded(alloc, numbers, lines, most)?,
-            other: bounded(alloc, numbers, lines, "99999")?,
-        })
+        match (
+            bounded(alloc, numbers, lines, most),
+            bounded(alloc, numbers, lines, most),
+            bounded(alloc, numbers, lines, "99999"),
+        ) {
+            (Some(own), Some(equal), Some(other)) => Some(Scenarios { own, equal, other }),
+            _ => None,
+        }
     }
 
     /// One of them, by a number.
-    fn one(&self, number: u64) -> Option<Arc<Scenario>> {
-        let scenario = match number {
+    fn one(&self, number: u64) -> &Arc<Scenario> {
+        match number {
             0 => &self.other,
             1 => &self.equal,
             _ => &self.own,
-        };
-        Arc::try_clone(scenario).ok()
+        }
     }
 }
 
@@ -93,9 +95,8 @@ struct Play<'a> {
 impl<'a> Play<'a> {
     /// A new book.
     fn begin(alloc: Global, scenarios: &'a Scenarios) -> Option<Play<'a>> {
-        let book = begun(alloc, &scenarios.own)?;
-        match Model::begin(alloc) {
-            Ok(model) => Some(Play {
+        match (begun(alloc, &scenarios.own), Model::begin(alloc)) {
+            (Some(book), Ok(model)) => Some(Play {
                 alloc,
                 scenarios,
                 book,
@@ -104,7 +105,7 @@ impl<'a> Play<'a> {
                 events: Vec::new(alloc),
                 replies: Vec::new(alloc),
             }),
-            Err(_) => None,
+            _ => None,
         }
     }
 
@@ -113,39 +114,21 @@ impl<'a> Play<'a> {
         let Ok(taken) = self.book.take() else {
             return None;
         };
-        if !self.model.may_give(&taken) {
-            return None;
+        let reply = self.model.take(&taken)?;
+        if let Taken::Job(job) = taken {
+            self.jobs.push(job).ok()?;
         }
-        match taken {
-            Taken::Busy => Some(Reply::Busy),
-            Taken::LevelDone => Some(Reply::LevelDone),
-            Taken::Finished => Some(Reply::Finished),
-            Taken::Spent => Some(Reply::Spent),
-            Taken::Job(job) => {
-                let ticket = job.ticket();
-                match self.jobs.push(job) {
-                    Ok(()) => Some(Reply::Took(ticket)),
-                    Err(_) => None,
-                }
-            }
-        }
+        Some(reply)
     }
 
     /// What the finding of a job is replied.
     fn file(&mut self, job: &Job) -> Option<Reply> {
         let own = &self.scenarios.own;
         let is_same = job.scenario().same(own);
-        let Ok(wanted) = self.model.file(self.alloc, own, job, is_same) else {
-            return None;
-        };
-        let Ok(finding) = work(job) else {
-            return None;
-        };
-        match self.book.file(finding) {
-            Ok(()) if wanted == 0 => Some(Reply::Filed),
-            Err((refusal, back)) if refusal.number() == wanted && back.ticket() == job.ticket() => {
-                Some(Reply::Refused(wanted))
-            }
+        let wanted = self.model.file(self.alloc, own, job, is_same);
+        match (refusal_number(&mut self.book, job), wanted) {
+            (Some(0), Ok(0)) => Some(Reply::Filed),
+            (Some(found), Ok(wanted)) if found == wanted => Some(Reply::Refused(found)),
             _ => None,
         }
     }
@@ -212,7 +195,7 @@ impl<'a> Play<'a> {
             Some(place) if numbers.below(4) > 0 => place,
             _ => known,
         };
-        let scenario = self.scenarios.one(numbers.below(5))?;
+        let scenario = self.scenarios.one(numbers.below(5));
         let change = numbers.below(10);
         self.model.job(self.alloc, scenario, place, ticket, change)
     }
@@ -239,6 +222,16 @@ impl<'a> Play<'a> {
                 self.book.counts() == self.model.counts() && self.replies.push(reply).is_ok()
             }
             None => false,
+        }
+    }
+
+    /// What a made list comes to. None where the book and the model differ in it.
+    fn through(alloc: Global, scenarios: &'a Scenarios, list: u64) -> Option<Play<'a>> {
+        let mut play = Play::begin(alloc, scenarios)?;
+        if play.goes_through(list) {
+            Some(play)
+        } else {
+            None
         }
     }
 
@@ -323,10 +316,10 @@ fn is_right(alloc: Global, scenario: &Scenario, end: &End, text: &[u8]) -> bool 
         return false;
     };
     match end {
-        End::Answer(answer) => {
+        Ok(answer) => {
             answer.as_ref() == least.as_slice().first() && is_read(alloc, scenario, text)
         }
-        End::Full(_) => text.is_empty(),
+        Err(_) => text.is_empty(),
     }
 }
 
@@ -374,34 +367,30 @@ impl Case {
             None => false,
         }
     }
+}
 
-    /// The bits of the replies to a made list. None where the book and the model differ, or the search comes to another end after it.
-    fn met(&self, alloc: Global, list: u64) -> Option<u32> {
-        let mut play = Play::begin(alloc, &self.scenarios)?;
-        if !play.goes_through(list) {
-            return None;
-        }
-        let met = bits(play.replies.as_slice());
-        let Play { book, .. } = play;
-        if self.ends(alloc, book) {
-            Some(met)
-        } else {
-            None
-        }
+/// The bits of the replies to a made list. None where there is no case, where the book and the model differ, or where the search comes to
+/// another end after the list.
+fn met(alloc: Global, case: &Option<Case>, list: u64) -> Option<u32> {
+    let case = case.as_ref()?;
+    let play = Play::through(alloc, &case.scenarios, list)?;
+    let met = bits(play.replies.as_slice());
+    let Play { book, .. } = play;
+    if case.ends(alloc, book) {
+        Some(met)
+    } else {
+        None
     }
 }
 
 /// The made lists of a scenario: whatever they did, the search comes to the same end, with the same tree.
 fn lists_agree(rt: &impl Abort, alloc: Global, lists: u64, row: &str) -> u32 {
     let case = Case::of(alloc, row);
-    agrees(rt, case.is_some(), row);
     let mut bits = 0;
-    if let Some(case) = case {
-        for list in 0..lists {
-            let met = case.met(alloc, list);
-            assert!(rt; met.is_some(), "list {list} of {row}");
-            bits |= met.unwrap_or(0);
-        }
+    for list in 0..lists {
+        let met = met(alloc, &case, list);
+        assert!(rt; met.is_some(), "list {list} of {row}");
+        bits |= met.unwrap_or(0);
     }
     bits
 }

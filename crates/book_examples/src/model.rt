@@ -2,7 +2,7 @@
 
 ghost use Rattle.lf_sim.specs.Settings.{IsRun, world_of};
 
-use lf_book::{Counts, Deepened, Job, Taken};
+use lf_book::{Counts, Deepened, Job, Reply, Taken};
 use lf_cone::{edges, sharp};
 use lf_faults::{Fault, FaultSet, FaultSpec};
 use lf_outcome::{Formula, evidence, holds};
@@ -69,16 +69,23 @@ pub(crate) struct Model {
     finished: bool,
 }
 
-/// The faults that are required beneath a run's set. None where it misses.
+/// The faults that are required beneath a run's set, which has so many. None where it misses.
 fn required_of(
     alloc: Global,
     setting: &Setting<Protocol>,
     formula: &Formula<Fact>,
     played: &Run<Protocol>,
+    size: usize,
     excluded: &[Fault],
 ) -> Result<Option<Vec<Fault>>, AllocError>
     requires { IsRun (world_of setting.now) played.now }
 {
+    if !holds(setting, formula, played) {
+        return Ok(None);
+    }
+    if size >= setting.spec.budget() as usize {
+        return Ok(Some(Vec::new(alloc)));
+    }
     let Some(points) = evidence(alloc, setting, formula, played)? else {
         return Ok(None);
     };
@@ -98,13 +105,7 @@ fn required(
 ) -> Result<Option<Vec<Fault>>, AllocError> {
     let (setting, formula) = (scenario.setting(), scenario.formula());
     let played = run(alloc, setting, set)?;
-    if !holds(setting, formula, &played) {
-        Ok(None)
-    } else if set.len() >= setting.spec.budget() as usize {
-        Ok(Some(Vec::new(alloc)))
-    } else {
-        required_of(alloc, setting, formula, &played, excluded)
-    }
+    required_of(alloc, setting, formula, &played, set.len(), excluded)
 }
 
 /// The path of a set, with a change of it or none.
@@ -131,7 +132,7 @@ fn changed_exclusions(alloc: Global, known: &Known, change: u64) -> Result<Vec<F
     Ok(changed)
 }
 
-/// A kid of a job's set, which waits, at its place among the edges. The edges before its own are excluded.
+/// A kid of a job's set, which waits, at its place among the edges. The edges before its own are excluded too.
 fn kid(
     alloc: Global,
     job: &Job,
@@ -141,10 +142,12 @@ fn kid(
 ) -> Result<Known, AllocError> {
     let mut path = job.path().to_vec(alloc)?;
     path.push(place)?;
+    let mut excluded = job.excluded().to_vec(alloc)?;
+    excluded.extend_from_slice(before)?;
     Ok(Known {
         path,
         faults: job.set().insert(*edge).unwrap_or(job.set()),
-        excluded: before.to_vec(alloc)?,
+        excluded,
         mark: Mark::Waiting,
     })
 }
@@ -158,7 +161,8 @@ impl Model {
             excluded: Vec::new(alloc),
             mark: Mark::Open,
         };
-        let sets = vec![in alloc; root]?;
+        let mut sets = Vec::new(alloc);
+        sets.push(root)?;
         Ok(Model {
             sets,
             level: 0,
@@ -172,7 +176,7 @@ impl Model {
     pub(crate) fn job(
         &self,
         alloc: Global,
-        scenario: Arc<Scenario>,
+        scenario: &Arc<Scenario>,
         place: usize,
         ticket: u64,
         change: u64,
@@ -186,8 +190,11 @@ impl Model {
         let Ok(path) = changed_path(alloc, known.path.as_slice(), change) else {
             return None;
         };
-        match changed_exclusions(alloc, known, change) {
-            Ok(excluded) => Some(Job::new(scenario, set, excluded, path, ticket)),
+        let Ok(excluded) = changed_exclusions(alloc, known, change) else {
+            return None;
+        };
+        match Arc::try_clone(scenario) {
+            Ok(shared) => Some(Job::new(shared, set, excluded, path, ticket)),
             Err(_) => None,
         }
     }
@@ -206,16 +213,26 @@ impl Model {
         counts
     }
 
-    /// Whether a take may give this. The set of a job is claimed then.
-    pub(crate) fn may_give(&mut self, taken: &Taken) -> bool {
+    /// What is replied where a take gives this. None where it may not. The set of a job is claimed then.
+    pub(crate) fn take(&mut self, taken: &Taken) -> Option<Reply> {
         let counts = self.counts();
-        match taken {
-            Taken::Finished => self.finished,
-            Taken::Busy => !self.finished && counts.ready == 0 && counts.claimed > 0,
-            Taken::LevelDone => !self.finished && counts.ready == 0 && counts.claimed == 0,
-            Taken::Spent => false,
-            Taken::Job(job) => !self.finished && job.ticket() == self.next && self.claims(job),
-        }
+        let (is_right, reply) = match taken {
+            Taken::Finished => (self.finished, Reply::Finished),
+            Taken::Busy => (
+                !self.finished && counts.ready == 0 && counts.claimed > 0,
+                Reply::Busy,
+            ),
+            Taken::LevelDone => (
+                !self.finished && counts.ready == 0 && counts.claimed == 0,
+                Reply::LevelDone,
+            ),
+            Taken::Spent => (false, Reply::Spent),
+            Taken::Job(job) => (
+                !self.finished && job.ticket() == self.next && self.claims(job),
+                Reply::Took(job.ticket()),
+            ),
+        };
+        if is_right { Some(reply) } else { None }
     }
 
     /// Whether a job is of an open set, which is claimed then.
@@ -242,19 +259,20 @@ impl Model {
 
     /// The number by which a job or its finding is refused, of this scenario or another, or 0. Then its set is marked.
     fn marks(&mut self, job: &Job, is_same: bool, mark: Mark) -> u32 {
-        for set in self.sets.as_mut_slice() {
-            if set.mark.is_claim_of(job.ticket()) {
-                if !is_same {
-                    return 2;
-                }
-                if !set.is_of(job) {
-                    return 3;
-                }
-                set.mark = mark;
-                return 0;
-            }
+        let Some(place) = self.claimed_by(job.ticket()) else {
+            return 1;
+        };
+        if !is_same {
+            return 2;
         }
-        1
+        let Some(set) = self.sets.as_mut_slice().get_mut(place) else {
+            return 3;
+        };
+        if !set.is_of(job) {
+            return 3;
+        }
+        set.mark = mark;
+        0
     }
 
     /// The number by which a finding is refused, or 0. Then its set is answered, and its kids wait.
@@ -277,11 +295,9 @@ impl Model {
 
     /// Puts the kids of a set, which wait. Beneath each the edges before its own are excluded.
     fn put_kids(&mut self, alloc: Global, job: &Job, edges: &[Fault]) -> Result<(), AllocError> {
-        let mut before = job.excluded().to_vec(alloc)?;
-        for (i, edge) in edges.iter().enumerate() {
-            self.sets
-                .push(kid(alloc, job, i, edge, before.as_slice())?)?;
-            before.push(*edge)?;
+        for (place, edge) in edges.iter().enumerate() {
+            let before = edges.get(..place).unwrap_or(edges);
+            self.sets.push(kid(alloc, job, place, edge, before)?)?;
         }
         Ok(())
     }

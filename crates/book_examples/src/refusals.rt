@@ -2,8 +2,9 @@
 
 ghost use Rattle.std.specs.Prelude.{◌≡◌, ◌<◌};
 
+use crate::searches::refusal_number;
 use crate::texts::{agrees, columns, counts_text, driven, events, is_text, scenario};
-use lf_book::{Book, Finding, Job, Steps, Taken, work};
+use lf_book::{Book, Job, Steps, Taken};
 use lf_scenario::Scenario;
 use std::alloc::Global;
 use std::marker::Brand;
@@ -33,31 +34,16 @@ fn taken(alloc: Global, tries: &str, words: &str) -> Option<(Book, Job)> {
     }
 }
 
-/// Whether a finding is of a job.
-fn is_of(finding: &Finding, job: &Job) -> bool {
-    finding.set() == job.set()
-        && finding.path() == job.path()
-        && finding.excluded() == job.excluded()
-}
-
-/// Whether a book says this of a finding: that it is filed, or the number of the refusal and the ticket of the finding that is handed back.
+/// Whether a book says this of the finding of a job, that it is filed, or the number of the refusal and the ticket of the finding that is
+/// handed back, and has these counts afterwards.
 fn says(alloc: Global, book: &mut Book, job: &Job, wanted: &str) -> bool {
-    let Ok(finding) = work(job) else {
-        return false;
-    };
-    match book.file(finding) {
-        Ok(()) => wanted == "filed",
-        Err((refusal, back)) => {
-            let said = format!(in alloc; "{} {}", refusal.number(), back.ticket());
-            is_of(&back, job) && is_text(said, wanted)
-        }
-    }
-}
-
-/// Whether a book says this of a finding, and has these counts afterwards.
-fn says_with_counts(alloc: Global, book: &mut Book, job: &Job, wanted: &str) -> bool {
     let (said, counts) = wanted.split_once(", ").unwrap_or((wanted, ""));
-    says(alloc, book, job, said) && is_text(counts_text(alloc, &book.counts()), counts)
+    let is_said = match refusal_number(book, job) {
+        Some(0) => said == "filed",
+        Some(number) => is_text(format!(in alloc; "{number} {}", job.ticket()), said),
+        None => false,
+    };
+    is_said && is_text(counts_text(alloc, &book.counts()), counts)
 }
 
 /// Of each row: the events of a book with one try, after which it takes a set; whether the finding is of a book with one try or with
@@ -74,20 +60,26 @@ const FINDINGS: &str = concat!(
     "t f:0 d|3|t g:0 t g:0|1 3, 1 1 1 0|1 3, 1 1 1 0\n",
 );
 
+/// Whether a book with one try, after events and a take, says to the finding of a job what it is to say, twice.
+fn is_said_twice(alloc: Global, words: &str, job: &Job, wanted: &str) -> bool {
+    let (first, second) = columns(wanted);
+    match taken(alloc, "1", words) {
+        Some((mut book, _own)) => {
+            says(alloc, &mut book, job, first) && says(alloc, &mut book, job, second)
+        }
+        None => false,
+    }
+}
+
 /// Whether a row's book says to a finding what it is to say, twice.
 fn row_is_said(alloc: Global, row: &str) -> bool {
     let (own, rest) = columns(row);
     let (tries, rest) = columns(rest);
-    let (others, rest) = columns(rest);
-    let (first, second) = columns(rest);
-    let Some((mut book, _job)) = taken(alloc, "1", own) else {
-        return false;
-    };
-    let Some((_other, job)) = taken(alloc, tries, others) else {
-        return false;
-    };
-    says_with_counts(alloc, &mut book, &job, first)
-        && says_with_counts(alloc, &mut book, &job, second)
+    let (others, wanted) = columns(rest);
+    match taken(alloc, tries, others) {
+        Some((_other, job)) => is_said_twice(alloc, own, &job, wanted),
+        None => false,
+    }
 }
 
 #[test]
@@ -103,10 +95,10 @@ fn takes_the_root<L: Ledger>(alloc: Global, blank: Blank) -> bool
     requires parts { blank.parts ≡ L.parts }
     requires some { 0 < blank.parts }
 {
-    let mut steps = Steps::<L>::new(blank);
     let Some(mut book) = driven_by(alloc, "1", "") else {
         return false;
     };
+    let mut steps = Steps::<L>::new(blank);
     match book.take_counted(&mut steps) {
         Ok(Taken::Job(job)) => job.ticket() == 1 && job.set().is_empty(),
         _ => false,

@@ -110,8 +110,8 @@ pub(crate) fn push_set(alloc: Global, text: &mut String, set: &FaultSet) -> Resu
     }
     let mut gap = "";
     for fault in set.items() {
-        text.push_str(gap)?;
-        text.push_str(fault_text(alloc, fault)?.as_str())?;
+        let fault = fault_text(alloc, fault)?;
+        write!(text, "{gap}{fault}")?;
         gap = ",";
     }
     Ok(())
