@@ -1,5 +1,6 @@
 mod LeastSets
 mod Limits
+mod LineTexts
 mod Listing
 mod ReplyLemmas
 mod Searching

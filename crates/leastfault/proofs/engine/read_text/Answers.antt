@@ -15,3 +15,6 @@ returns-in-Ok-clause-taken g c = c.read_up_to.ensures.taken
 
 pub returns-in-Err-Failed-clause-taken : goal.returns-in-Err-Failed-clause-taken
 returns-in-Err-Failed-clause-taken g c = c.read_up_to.ensures.taken
+
+pub returns-in-Err-Memory-clause-source : goal.returns-in-Err-Memory-clause-source
+returns-in-Err-Memory-clause-source g c = let is = rw c.in-Err-Memory.field-0-is at c.in-Err-Memory.ensures.failed in is

@@ -1,0 +1,4 @@
+use Rattle.leastfault.proofs.replies.full_line.Goals as goal
+
+pub returns : goal.returns
+returns c = c.format.ensures.ok
