@@ -1,25 +1,35 @@
 //! What to change where a level of a search is too full.
 
-use lf_scenario::{MOST_SETS, Scenario};
-use std::alloc::{AllocError, Global};
+use crate::hint::{Hint, Words};
+use lf_scenario::MOST_SETS;
 
-/// What to change where a search of the scenario ends since there are `count` sets of `level` faults, and what else may know its answer.
-/// The error is that memory has run out.
-pub fn full_hint(
-    alloc: Global,
-    scenario: &Scenario,
-    level: u32,
-    count: u64,
-) -> Result<String, AllocError> {
-    let most = scenario.max_sets();
+/// What to change where a search that keeps at most `most` sets gave this reply, and what else may know its answer. Nothing where
+/// the reply says of no level that it is too full.
+pub(crate) fn full_hint(most: u32, reply: &[u8]) -> Option<Hint> {
+    let (level, count) = full_level(reply)?;
     let below = level.saturating_sub(1);
-    let other = "or ask `leastfault answer`";
+    let room = room_for(count);
+    Some(Hint::of(format_args!(
+        "max_sets = {most}{} lower budget to {below}, or last_omission, crashes or pauses; or ask `leastfault answer`",
+        room.as_str()
+    )))
+}
+
+/// What may be done about the most sets that a search keeps, for a level with so many.
+fn room_for(count: u64) -> Words {
     if count <= u64::from(MOST_SETS) {
-        return format!(in alloc;
-            "max_sets = {most}: raise it to {count} at least, or lower budget to {below}, or last_omission, crashes or pauses; {other}"
-        );
+        Words::of(format_args!(": raise it to {count} at least, or"))
+    } else {
+        Words::of(format_args!(", and {count} sets are more than its most, {MOST_SETS}:"))
     }
-    format!(in alloc;
-        "max_sets = {most}, and {count} sets are more than its most, {MOST_SETS}: lower budget to {below}, or last_omission, crashes or pauses; {other}"
-    )
+}
+
+/// The level of faults that is too full and its number of sets, where a reply says so.
+fn full_level(reply: &[u8]) -> Option<(u32, u64)> {
+    let text = std::str::from_utf8(reply).unwrap_or("");
+    let (level, count) = text.strip_prefix("full ")?.trim_end().split_once(' ')?;
+    match (level.parse::<u32>(), count.parse::<u64>()) {
+        (Ok(level), Ok(count)) => Some((level, count)),
+        _ => None,
+    }
 }

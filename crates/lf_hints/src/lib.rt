@@ -8,17 +8,14 @@
 mod faults;
 mod formula;
 mod full;
+mod hint;
 mod links;
 mod nodes;
 mod place;
-mod quote;
 mod scenario;
 mod takes;
 mod texts;
 mod tree;
 
-pub use faults::faults_hint;
-pub use full::full_hint;
-pub use scenario::scenario_hint;
 pub use texts::{check_hint, run_hint, search_hint};
 pub use tree::tree_hint;

@@ -1,158 +1,123 @@
 //! What is wrong with the tables of links.
 
-use crate::quote::in_quotes;
-use crate::takes::{LEAST, SPREAD, number_at, quoted};
+use crate::hint::{Hint, Way, Words, item_of, onward, said};
+use crate::takes::{
+    LEAST, SPREAD, at, missing, number_at, numbers, other_key, other_kind, unfit, value_hint,
+    whole_at,
+};
 use lf_scenario::Key;
-use std::alloc::{AllocError, Global};
 use toml::{Table, Value};
 
+/// All whole numbers.
+const ANY: (i64, i64) = (i64::MIN, i64::MAX);
+
 /// What is wrong first with the links of a scenario.
-pub(crate) fn links_hint(alloc: Global, table: &Table) -> Result<String, AllocError> {
-    let last = number_at(table, Key::Nodes).saturating_sub(1);
-    match table.get(Key::Links.name()) {
-        Some(Value::Array(items)) => items_hint(alloc, items.as_slice(), last),
-        Some(value) => {
-            format!(in alloc;
-                "links = {}: a list of tables, each with from and to",
-                quoted(value).as_str()
+pub(crate) fn links_hint(table: &Table) -> Option<Hint> {
+    let nodes = (0, number_at(table, Key::Nodes).saturating_sub(1));
+    match at(table, Key::Links.name())? {
+        Value::Array(items) => {
+            other_kind(
+                Key::Links,
+                items.as_slice(),
+                "table",
+                "a table with from and to",
             )
+            .or(wrong_in_links(items.as_slice(), nodes))
         }
-        None => Ok(String::new(alloc)),
+        _ => value_hint(table, Key::Links),
     }
 }
 
-/// What is wrong first with a list of links, among nodes of which this is the last.
-fn items_hint(alloc: Global, items: &[Value], last: i64) -> Result<String, AllocError> {
-    for (i, item) in items.iter().enumerate() {
-        if !item.is_table() {
-            return format!(in alloc;
-                "links[{i}] = {}: a table with from and to",
-                quoted(item).as_str()
-            );
-        }
-    }
+/// What is wrong first with a list of links, among these nodes.
+fn wrong_in_links(items: &[Value], nodes: (i64, i64)) -> Option<Hint> {
     for (i, item) in items.iter().enumerate() {
         if let Value::Table(link) = item {
-            let hint = link_hint(alloc, items, i, link, last)?;
-            if !hint.is_empty() {
-                return Ok(hint);
+            let found = wrong_in_link(items, i, link, nodes);
+            if found.is_some() {
+                return found;
             }
         }
     }
-    Ok(String::new(alloc))
+    None
 }
 
-/// What is wrong first with the link at a place. Nothing where it is right.
-fn link_hint(
-    alloc: Global,
-    items: &[Value],
-    place: usize,
-    link: &Table,
-    last: i64,
-) -> Result<String, AllocError> {
-    for (name, _value) in link.iter() {
-        if !matches!(name.as_str(), "from" | "to" | "least" | "spread") {
-            return other_key_hint(alloc, place, name.as_str());
-        }
-    }
-    // What is missing or of the wrong kind comes before an end that is no node.
-    let ranges = [
-        ("from", i64::MIN, i64::MAX),
-        ("to", i64::MIN, i64::MAX),
-        ("least", LEAST.0, LEAST.1),
-        ("spread", SPREAD.0, SPREAD.1),
-        ("from", 0, last),
-        ("to", 0, last),
-    ];
-    for (name, low, high) in ranges {
-        if !is_right(link, name, low, high) {
-            return number_hint(alloc, place, link, name, last);
-        }
-    }
-    ends_hint(alloc, items, place, link)
+/// What is wrong first with the link at a place. What is missing or of the wrong kind comes before an end that is no node.
+fn wrong_in_link(items: &[Value], place: usize, link: &Table, nodes: (i64, i64)) -> Option<Hint> {
+    let way = item_of(Way::of("links"), place);
+    let node = numbers("a node", nodes);
+    wrong_in_keys(way, link)
+        .or(wrong_end(way, link, "from", ANY, node))
+        .or(wrong_end(way, link, "to", ANY, node))
+        .or(wrong_delay(way, link, "least", LEAST))
+        .or(wrong_delay(way, link, "spread", SPREAD))
+        .or(wrong_end(way, link, "from", nodes, node))
+        .or(wrong_end(way, link, "to", nodes, node))
+        .or(wrong_in_ends(items, place, link))
 }
 
-/// A key that links don't have.
-fn other_key_hint(alloc: Global, place: usize, name: &str) -> Result<String, AllocError> {
-    let quoted_name = in_quotes(name);
-    let found = quoted_name.as_str();
-    format!(in alloc;
-        "links[{place}], {found}: a link has from, to, least and spread; a key that stands after [[links]] belongs to that link"
+/// The first key that links don't have.
+fn wrong_in_keys(way: Way, link: &Table) -> Option<Hint> {
+    let name = other_key(link, "from, to, least, spread")?;
+    Some(Hint::of(format_args!(
+        "{}, {}: a link has from, to, least and spread; a key that stands after [[links]] belongs to that link",
+        way.as_str(),
+        name.as_str()
+    )))
+}
+
+/// What is wrong with an end of the link at a way, where it has to be of a range.
+fn wrong_end(way: Way, link: &Table, name: &str, range: (i64, i64), wanted: Words) -> Option<Hint> {
+    let way = onward(onward(way, "."), name);
+    match at(link, name) {
+        Some(value) => unfit(way, value, range, wanted.as_str()),
+        None => missing(way, wanted.as_str()),
+    }
+}
+
+/// What is wrong with the number at a key, where one stands there.
+fn wrong_delay(way: Way, link: &Table, name: &str, range: (i64, i64)) -> Option<Hint> {
+    let value = at(link, name)?;
+    let wanted = numbers("a whole number", range);
+    unfit(
+        onward(onward(way, "."), name),
+        value,
+        range,
+        wanted.as_str(),
     )
 }
 
-/// Whether a link has a number of this range at a key, or doesn't need it.
-fn is_right(link: &Table, name: &str, low: i64, high: i64) -> bool {
-    match link.get(name) {
-        Some(Value::Integer(number)) => low <= *number && *number <= high,
-        Some(_) => false,
-        None => name == "least" || name == "spread",
-    }
-}
-
-/// What stands at a key of the link at a place, and what may.
-fn number_hint(
-    alloc: Global,
-    place: usize,
-    link: &Table,
-    name: &str,
-    last: i64,
-) -> Result<String, AllocError> {
-    let (what, (low, high)) = match name {
-        "least" => ("a whole number", LEAST),
-        "spread" => ("a whole number", SPREAD),
-        _ => ("a node", (0, last)),
-    };
-    match link.get(name) {
-        Some(value) => {
-            format!(in alloc;
-                "links[{place}].{name} = {}: {what} from {low} to {high}",
-                quoted(value).as_str()
-            )
-        }
-        None => {
-            format!(in alloc; "links[{place}].{name} is missing: {what} from {low} to {high}")
-        }
-    }
-}
-
 /// What is wrong with the two ends of the link at a place, where both are nodes.
-fn ends_hint(
-    alloc: Global,
-    items: &[Value],
-    place: usize,
-    link: &Table,
-) -> Result<String, AllocError> {
-    let Some((from, to)) = ends_of(link) else {
-        return Ok(String::new(alloc));
-    };
+fn wrong_in_ends(items: &[Value], place: usize, link: &Table) -> Option<Hint> {
+    let (from, to) = ends_of(link)?;
+    let ends = Words::of(format_args!("links[{place}], from = {from} and to = {to}"));
     if from == to {
-        return format!(in alloc;
-            "links[{place}], from = {from} and to = {to}: two different nodes"
-        );
+        return Some(said(ends.as_str(), "two different nodes"));
     }
     match first_with(items, from, to) {
         Some(earlier) if earlier < place => {
-            format!(in alloc;
-                "links[{place}], from = {from} and to = {to}: links[{earlier}] is of these two already"
-            )
+            let words = Words::of(format_args!("links[{earlier}] is of these two already"));
+            Some(said(ends.as_str(), words.as_str()))
         }
-        _ => Ok(String::new(alloc)),
+        _ => None,
     }
 }
 
 /// The place of the first link with these ends.
 fn first_with(items: &[Value], from: i64, to: i64) -> Option<usize> {
-    items.iter().position(|item| match item {
-        Value::Table(link) => ends_of(link) == Some((from, to)),
-        _ => false,
-    })
+    for (i, item) in items.iter().enumerate() {
+        if let Value::Table(link) = item {
+            if ends_of(link) == Some((from, to)) {
+                return Some(i);
+            }
+        }
+    }
+    None
 }
 
 /// The two ends of a link, where they are numbers.
 fn ends_of(link: &Table) -> Option<(i64, i64)> {
-    match (link.get("from"), link.get("to")) {
-        (Some(Value::Integer(from)), Some(Value::Integer(to))) => Some((*from, *to)),
+    match (whole_at(link, "from"), whole_at(link, "to")) {
+        (Some(from), Some(to)) => Some((from, to)),
         _ => None,
     }
 }

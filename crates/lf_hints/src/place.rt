@@ -1,32 +1,9 @@
-//! Places in a text and in nested lists.
+//! Places in a text.
 
-use std::fmt::{Display, InlineText};
+use crate::hint::Hint;
 
-/// How many bytes of a way are told at most.
-const LONGEST_WAY: usize = 160;
-
-/// How many bytes one step of a way takes at most.
-const LONGEST_STEP: usize = 30;
-
-/// The way to a part of nested lists, such as `[1][2]`.
-pub(crate) type Way = InlineText<LONGEST_WAY>;
-
-/// The way with a step more.
-pub(crate) fn onward<T: Display + Drop>(way: Way, step: T) -> Way {
-    way.and(step, LONGEST_STEP)
-}
-
-/// Where a byte stands in a text.
-#[derive(Clone, Copy, Debug, PartialEq, Eq)]
-pub(crate) struct Place {
-    /// The line, from 1.
-    pub(crate) line: usize,
-    /// The character in the line, from 1.
-    pub(crate) column: usize,
-}
-
-/// The place behind the first `offset` bytes.
-pub(crate) fn place_at(text: &[u8], offset: usize) -> Place {
+/// What is told of the place behind the first `offset` bytes: its line and its character in that line, both from 1.
+pub(crate) fn said_at(text: &[u8], offset: usize, words: &str) -> Hint {
     let mut line: usize = 1;
     let mut column: usize = 1;
     for byte in text.iter().take(offset) {
@@ -37,5 +14,5 @@ pub(crate) fn place_at(text: &[u8], offset: usize) -> Place {
             column = column.saturating_add(1);
         }
     }
-    Place { line, column }
+    Hint::of(format_args!("line {line}, column {column}: {words}"))
 }

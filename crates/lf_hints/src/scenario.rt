@@ -1,16 +1,16 @@
 //! What is wrong with the text of a scenario.
 
 use crate::formula::formula_hint;
+use crate::hint::{Hint, Words, said, told};
 use crate::links::links_hint;
-use crate::place::{Place, place_at};
-use crate::quote::in_quotes;
-use crate::takes::{KEYS, protocols_with, quoted, takes, text_at};
+use crate::place::said_at;
+use crate::takes::{KEYS, at, other_key, other_kind, protocols_with, text_at, value_hint};
 use lf_scenario::{Key, LONGEST, ScenarioError};
 use std::alloc::{AllocError, Global};
 use toml::{Table, Value};
 
 /// What is wrong with a text that `lf_scenario`'s `read` refuses with this error. The error here is that memory has run out.
-pub fn scenario_hint(
+pub(crate) fn scenario_hint(
     alloc: Global,
     text: &[u8],
     error: ScenarioError,
@@ -21,7 +21,7 @@ pub fn scenario_hint(
         }
         ScenarioError::Memory => Err(AllocError),
         _ => match toml::table_from_slice(alloc, text) {
-            Ok(table) => table_hint(alloc, &table, error),
+            Ok(table) => told(alloc, table_hint(&table, error)),
             Err(fault) => toml_hint(alloc, text, &fault),
         },
     }
@@ -29,79 +29,46 @@ pub fn scenario_hint(
 
 /// Where a text is no TOML, and why.
 fn toml_hint(alloc: Global, text: &[u8], fault: &toml::de::Error) -> Result<String, AllocError> {
-    let Some(span) = fault.span() else {
-        return Err(AllocError);
-    };
-    let Place { line, column } = place_at(text, span.start);
-    format!(in alloc; "line {line}, column {column}: {}", fault.message())
+    match fault.span() {
+        Some(span) => told(alloc, Some(said_at(text, span.start, fault.message()))),
+        None => Err(AllocError),
+    }
 }
 
 /// What is wrong with a table.
-fn table_hint(alloc: Global, table: &Table, error: ScenarioError) -> Result<String, AllocError> {
+fn table_hint(table: &Table, error: ScenarioError) -> Option<Hint> {
     match error {
-        ScenarioError::UnknownKey => unknown_hint(alloc, table),
-        ScenarioError::OtherProtocol(key) => foreign_hint(alloc, table, key),
-        ScenarioError::Formula => formula_hint(alloc, table),
-        _ => match error.key() {
-            Some(Key::Links) => links_hint(alloc, table),
-            Some(Key::Votes) => votes_hint(alloc, table),
-            Some(key) => value_hint(alloc, table, key),
-            None => Ok(String::new(alloc)),
+        ScenarioError::UnknownKey => unknown_hint(table),
+        ScenarioError::OtherProtocol(key) => Some(foreign_hint(table, key)),
+        ScenarioError::Formula => formula_hint(table),
+        _ => match error.key()? {
+            Key::Links => links_hint(table),
+            Key::Votes => votes_hint(table),
+            key => value_hint(table, key),
         },
     }
 }
 
-/// What stands at a key, and what may.
-fn value_hint(alloc: Global, table: &Table, key: Key) -> Result<String, AllocError> {
-    let words = takes(alloc, table, key)?;
-    let name = key.name();
-    match table.get(name) {
-        None => format!(in alloc; "{name} is missing: {words}"),
-        Some(Value::String(seed)) if key == Key::Seed => {
-            let count = seed.as_str().chars().count();
-            format!(in alloc;
-                "{name} = {}: {words}, and these are {count} characters",
-                in_quotes(seed.as_str()).as_str()
-            )
-        }
-        Some(value) => format!(in alloc; "{name} = {}: {words}", quoted(value).as_str()),
-    }
-}
-
 /// The first key of the table that scenarios don't have.
-fn unknown_hint(alloc: Global, table: &Table) -> Result<String, AllocError> {
-    let mut text = String::new(alloc);
-    for (name, _value) in table.iter() {
-        if text.is_empty() && !KEYS.iter().any(|key| key.name() == name.as_str()) {
-            write!(
-                text,
-                "{}: no key of a scenario, which are",
-                in_quotes(name.as_str()).as_str()
-            )?;
-        }
-    }
-    for (i, key) in KEYS.iter().enumerate() {
-        let before = if i == 0 { "" } else { "," };
-        write!(text, "{before} {}", key.name())?;
-    }
-    Ok(text)
+fn unknown_hint(table: &Table) -> Option<Hint> {
+    let name = other_key(table, KEYS)?;
+    Some(Hint::of(format_args!("{}: no key of a scenario, which are {KEYS}", name.as_str())))
 }
 
 /// A key that this protocol doesn't have.
-fn foreign_hint(alloc: Global, table: &Table, key: Key) -> Result<String, AllocError> {
-    let name = key.name();
+fn foreign_hint(table: &Table, key: Key) -> Hint {
     let (protocol, owners) = (text_at(table, Key::Protocol), protocols_with(key));
-    format!(in alloc; "{name}: {protocol} has no such key; {owners} have it")
+    let words = Words::of(format_args!("{protocol} has no such key; {owners} have it"));
+    said(key.name(), words.as_str())
 }
 
 /// What is wrong with the votes: an item that is no truth value, or how many they are.
-fn votes_hint(alloc: Global, table: &Table) -> Result<String, AllocError> {
-    if let Some(Value::Array(items)) = table.get(Key::Votes.name()) {
-        for (i, item) in items.iter().enumerate() {
-            if !item.is_bool() {
-                return format!(in alloc; "votes[{i}] = {}: true or false", quoted(item).as_str());
-            }
+fn votes_hint(table: &Table) -> Option<Hint> {
+    let other = match at(table, Key::Votes.name()) {
+        Some(Value::Array(items)) => {
+            other_kind(Key::Votes, items.as_slice(), "boolean", "true or false")
         }
-    }
-    value_hint(alloc, table, Key::Votes)
+        _ => None,
+    };
+    other.or(value_hint(table, Key::Votes))
 }

@@ -1,9 +1,10 @@
 //! What is wrong with the text of a certificate.
 
-use crate::nodes::{Wrong, wrong_in_tree};
-use crate::place::{Place, place_at};
+use crate::hint::{Hint, told};
+use crate::nodes::wrong_in_tree;
+use crate::place::said_at;
 use lf_tree::TreeFault;
-use serde_json::Value;
+use serde_json::{Error, Value};
 use std::alloc::{AllocError, Global};
 
 /// The most bytes of a certificate's text.
@@ -20,34 +21,49 @@ pub fn tree_hint(alloc: Global, text: &[u8], fault: TreeFault) -> Result<String,
         TreeFault::Memory => Err(AllocError),
         _ => match Value::from_slice(alloc, text) {
             Ok(value) => value_hint(alloc, text, &value),
-            Err(fault) if fault.is_memory() => Err(AllocError),
-            Err(fault) => format!(in alloc; "{fault}"),
+            Err(error) => json_hint(alloc, error),
         },
     }
+}
+
+/// Where a text is no JSON, and why.
+fn json_hint(alloc: Global, error: Error) -> Result<String, AllocError> {
+    if error.is_memory() {
+        return Err(AllocError);
+    }
+    told(alloc, Some(Hint::of(error)))
 }
 
 /// What is wrong with a value that is no tree, or with how the tree is written.
 fn value_hint(alloc: Global, text: &[u8], value: &Value) -> Result<String, AllocError> {
     match wrong_in_tree(value) {
-        Some(Wrong { way, found, wanted }) => {
-            format!(in alloc; "{} = {}: {wanted}", way.as_str(), found.as_str())
+        None => {
+            let own = value.to_vec(alloc)?;
+            told(alloc, Some(spelling_hint(text, own.as_slice())))
         }
-        None => spelling_hint(alloc, text, value.to_vec(alloc)?.as_slice()),
+        found => told(alloc, found),
     }
 }
 
 /// Where a text differs from the one way of writing its tree.
-fn spelling_hint(alloc: Global, text: &[u8], own: &[u8]) -> Result<String, AllocError> {
-    let same = text
-        .iter()
-        .zip(own)
-        .take_while(|(byte, wanted)| byte == wanted)
-        .count();
+fn spelling_hint(text: &[u8], own: &[u8]) -> Hint {
+    let same = common(text, own);
     if same < text.len() || same < own.len() {
-        let Place { line, column } = place_at(text, same);
-        return format!(in alloc;
-            "line {line}, column {column}: not as a certificate is written, with its keys in order, and no blank, line feed or escape"
+        return said_at(
+            text,
+            same,
+            "not as a certificate is written, with its keys in order, and no blank, line feed or escape",
         );
     }
-    format!(in alloc; "format: 2 where a fault is a pause, and else 1")
+    Hint::of("format: 2 where a fault is a pause, and else 1")
+}
+
+/// With how many same bytes two texts begin.
+fn common(text: &[u8], own: &[u8]) -> usize {
+    for (i, byte) in text.iter().enumerate() {
+        if own.get(i) != Some(byte) {
+            return i;
+        }
+    }
+    text.len()
 }
