@@ -1,6 +1,6 @@
 //! What is wrong with the parts of a certificate.
 
-use crate::hint::{Hint, Quote, Way, item_of, onward, refusal};
+use crate::hint::{Hint, Quote, Way, Words, item_of, onward, refusal};
 use lf_faults::{Fault, read_fault};
 use serde_json::Value;
 
@@ -9,9 +9,6 @@ const TREE: &str = "an object with the keys answer, format and root, and no othe
 
 /// The most faults of an answer.
 const MOST_FAULTS: usize = 6;
-
-/// What an answer is.
-const ANSWER: &str = "null, or a list of at most 6 faults";
 
 /// What a fault is.
 const FAULT: &str = "a fault, such as \"omit 0>1 @2\", \"crash 0 @2\" or \"pause 0 @2\"";
@@ -25,20 +22,11 @@ const NODE: &str = "an object with the key misses alone, or with edges, kids and
 /// The most branches that may stand one in the other.
 const MOST_BRANCHES: u32 = 6;
 
-/// What stands beneath so many branches.
-const LEAF: &str = "a leaf, since 6 branches stand above it";
-
 /// The fewest and the most nodes of a run.
 const NODES: (usize, usize) = (2, 8);
 
-/// What the reach of a branch is.
-const REACH: &str = "a list of 2 to 8 numbers, one for each node";
-
 /// The last step of a run.
 const LAST_STEP: u64 = 48;
-
-/// What an item of a reach is: a step, or 0.
-const STEP: &str = "a whole number from 0 to 48";
 
 /// What is wrong first in a value that is to be a tree.
 pub(crate) fn wrong_in_tree(value: &Value) -> Option<Hint> {
@@ -84,7 +72,10 @@ fn wrong_in_answer(answer: &Value) -> Option<Hint> {
         Value::Array(items) if items.len() <= MOST_FAULTS => {
             wrong_in_faults(items.as_slice(), way).or(wrong_in_order(items.as_slice(), way))
         }
-        _ => refused(way, answer, ANSWER),
+        _ => {
+            let wanted = Words::of(format_args!("null, or a list of at most {MOST_FAULTS} faults"));
+            refused(way, answer, wanted.as_str())
+        }
     }
 }
 
@@ -161,12 +152,18 @@ fn wrong_above_kids(node: &Value, way: Way, room: u32) -> Option<Hint> {
 /// What is wrong first in a branch, but for what its kids are.
 fn wrong_in_branch(node: &Value, way: Way, room: u32) -> Option<Hint> {
     match three_of(node, ("edges", "reach", "kids")) {
-        Some(_) if room == 0 => refused(way, node, LEAF),
+        Some(_) if room == 0 => too_deep(node, way),
         Some((edges, reach, kids)) => wrong_in_edges(edges, onward(way, ".edges"))
             .or(wrong_in_reach(reach, onward(way, ".reach")))
             .or(wrong_in_list(kids, onward(way, ".kids"))),
         None => refused(way, node, NODE),
     }
+}
+
+/// That a branch stands where only a leaf may.
+fn too_deep(node: &Value, way: Way) -> Option<Hint> {
+    let wanted = Words::of(format_args!("a leaf, since {MOST_BRANCHES} branches stand above it"));
+    refused(way, node, wanted.as_str())
 }
 
 /// What is wrong with a leaf's value.
@@ -191,7 +188,13 @@ fn wrong_in_reach(reach: &Value, way: Way) -> Option<Hint> {
         Value::Array(items) if NODES.0 <= items.len() && items.len() <= NODES.1 => {
             wrong_in_steps(items.as_slice(), way)
         }
-        _ => refused(way, reach, REACH),
+        _ => {
+            let (fewest, most) = NODES;
+            let wanted = Words::of(format_args!(
+                "a list of {fewest} to {most} numbers, one for each node"
+            ));
+            refused(way, reach, wanted.as_str())
+        }
     }
 }
 
@@ -199,7 +202,8 @@ fn wrong_in_reach(reach: &Value, way: Way) -> Option<Hint> {
 fn wrong_in_steps(items: &[Value], way: Way) -> Option<Hint> {
     for (i, item) in items.iter().enumerate() {
         if item.as_u64().unwrap_or(u64::MAX) > LAST_STEP {
-            return refused(item_of(way, i), item, STEP);
+            let wanted = Words::of(format_args!("a whole number from 0 to {LAST_STEP}"));
+            return refused(item_of(way, i), item, wanted.as_str());
         }
     }
     None
