@@ -3,7 +3,7 @@ use mathlib.Core.Logic.{∥∥₁_elim, ∥∥₁_map, ∥∥₁_prop}
 use Rattle.std.proofs.Common.{◌≡◌, ℕ, ◌+◌, ◌<◌, refl, sym, ◌∙◌, subst, true, List}
 use Rattle.std.proofs.Math.Bool.{Bool-set}
 use Rattle.std.specs.Coded.{le_prop}
-use Rattle.std.specs.Prelude.{◌↔◌, Option, Some, IsSome, Result, Ok, Err, IfOk}
+use Rattle.std.specs.Prelude.{◌↔◌, Option, Some, IsSome, Result, Ok, Err, IfOk, IfErr}
 use Rattle.lf_faults.specs.declared.fault.Parts.{Parts}
 use Rattle.lf_faults.specs.declared.spec.Bounds.{Bounds}
 use Rattle.lf_sim.specs.Runs.{World}
@@ -102,6 +102,11 @@ left-refused s r workers same some error.Memory h = some
 left-refused s r workers same some (error.OtherScenario book) h = absurd h
 left-refused s r workers same some (error.Spent book) h =
     (some, record { scenario = same_on s r (scenario_of book) same h.scenario; spent = h.spent })
+
+pub end-refused : (s r : Scenario) (workers : ℕ) → AreSame s r → AreWorkers workers → (x : Result Ended PoolError) → IfErr x (IsLeft r)
+    → IfErr x (IsRefused s workers)
+end-refused s r workers same some (Ok end) h = h
+end-refused s r workers same some (Err e) h = left-refused s r workers same some e h
 
 -- what is full is full again: there is one such thing
 full_again : {Local Note Fact : Type 0} (w : World Local Note Fact) (b : Bounds) (formula : Formula Fact) (most k count : ℕ)

@@ -14,7 +14,8 @@ returns-clause-reply g c =
     let made = c.run_reply.result in
     let Replies = IsRunReply c.args.faults.now in
     let wider = λ (reply : List ℕ) (status : ℕ) (told : IsMade made reply status).
-    to_held longest Replies (run_by_front c.args.faults.now) held c.in_ok-text.text.items c.as_slice.result.now reply status c.in_ok-text.ensures.text c.as_slice.ensures.value
+    to_held longest Replies (run_by_front c.args.faults.now) held c.in_ok-text.text.items
+    c.as_slice.result.now reply status c.in_ok-text.ensures.text c.as_slice.ensures.value
     (made_reply made (Replies c.as_slice.result.now) c.run_reply.ensures reply status told) in
     IfOk-weaker c.send_made.result (WroteReply (IsMade made) old new) (WroteReply (ToHeld Replies held) old new)
     (wrote_wider (IsMade made) (ToHeld Replies held) old new wider)
@@ -28,6 +29,7 @@ returns-clause-part g c fault =
     let made = c.run_reply.result in
     let Replies = IsRunReply c.args.faults.now in
     let wider = λ (reply : List ℕ) (status : ℕ) (told : IsMade made reply status).
-    to_held longest Replies (run_by_front c.args.faults.now) held c.in_ok-text.text.items c.as_slice.result.now reply status c.in_ok-text.ensures.text c.as_slice.ensures.value
+    to_held longest Replies (run_by_front c.args.faults.now) held c.in_ok-text.text.items
+    c.as_slice.result.now reply status c.in_ok-text.ensures.text c.as_slice.ensures.value
     (made_reply made (Replies c.as_slice.result.now) c.run_reply.ensures reply status told) in
     part_wider (IsMade made) (ToHeld Replies held) old new wider (c.send_made.ensures.part fault)

@@ -1,7 +1,10 @@
-use Rattle.std.proofs.Common.{◌<◌, length, arith}
+use Rattle.std.proofs.Common.{◌<◌, length, arith, rules}
 use Rattle.std.proofs.lemmas.Bool.{false≢true}
 use Rattle.lf_faults.proofs.Allowing.{budget-from_allowed}
 use Rattle.lf_faults.proofs.allowed.with.Goals as goal
+
+pub returns-in-Some : goal.returns-in-Some
+returns-in-Some c = search rules
 
 pub returns-in-None : goal.returns-in-None
 returns-in-None c =

@@ -1,5 +1,5 @@
 use Rattle.std.proofs.Common.{rules, ◌≡◌, ◌++◌, [], ◌∷◌, length, take, refl, sym, ap, ◌∙◌, subst, arith}
-use Rattle.std.specs.Prelude.{IfOk}
+use Rattle.std.specs.Prelude.{IfOk, OnOk}
 use Rattle.std.specs.Option.{is_some, unwrap_or}
 use Rattle.std.proofs.lemmas.List.{append-nil}
 use Rattle.lf_sim.specs.Settings.{set_of, world_of}
@@ -26,6 +26,15 @@ gather-returns-in-Any-clause-found g t c =
     (rests_on-from_any (is_down w faults) (is_shown w faults) c.args.formula.now c.in-Any.parts c.as_slice-in-Any.result.now
     c.in-Any.is c.as_slice-in-Any.ensures)
     c.gather_first.ensures.found
+
+pub gather-returns-in-Any-clause-points : goal.gather-returns-in-Any-clause-points
+gather-returns-in-Any-clause-points g t c =
+    let w = world_of c.args.setting.now in
+    let faults = set_of c.args.run.now in
+    subst (λ o. OnOk c.gather_first.result (c.gather_first.new.points.items ≡ c.args.points.now.items ++ unwrap_or o []))
+    (rests_on-from_any (is_down w faults) (is_shown w faults) c.args.formula.now c.in-Any.parts c.as_slice-in-Any.result.now
+    c.in-Any.is c.as_slice-in-Any.ensures)
+    c.gather_first.ensures.points
 
 pub gather_all-all-init : goal.gather_all-all-init
 gather_all-all-init g t c =

@@ -1,6 +1,9 @@
-use Rattle.std.proofs.Common.{sym, ◌∙◌}
+use Rattle.std.proofs.Common.{rules, sym, ◌∙◌}
 use Rattle.lf_sim.proofs.EffectsLemmas.{woken-never}
 use Rattle.lf_sim.proofs.effects.Effects.wakes.Goals as goal
+
+pub returns-then-self-node : goal.returns-then-self-node
+returns-then-self-node c = search rules
 
 pub returns-else-self-node : goal.returns-else-self-node
 returns-else-self-node c =
