@@ -4,13 +4,13 @@
 # so that what the program does besides them falls out. Instructions repeat exactly, whatever else the machine does.
 # Wants the Rattle kit and valgrind.
 set -euo pipefail
-cd "$(dirname "$0")/../crates/bench_runs"
-rt run -- 1 run_reusing 0 >/dev/null
+cd "$(dirname "$0")/../crates/bench_searches"
+rt run -- runs 1 run_reusing 0 >/dev/null
 
 # the instructions of COUNT runs, in MODE (run, run_reusing or edges), under sets of FAULTS faults, with EXCLUDED faults
 # excluded from the edges
 count() {
-    valgrind --tool=callgrind --callgrind-out-file=/dev/null out/bench_runs "$1" "$2" "$3" "${4:-0}" 2>&1 | awk '/Collected/ { print $NF }'
+    valgrind --tool=callgrind --callgrind-out-file=/dev/null out/bench_searches runs "$1" "$2" "$3" "${4:-0}" 2>&1 | awk '/Collected/ { print $NF }'
 }
 
 few=20

@@ -1,17 +1,18 @@
-//! `checks COUNT runs|check|rows` grows the tree of a scenario's search, and then, as often as it is told, judges it or runs the sets of
-//! its nodes.
+//! `checks COUNT runs|check|rows` searches a scenario in one thread for its tree, and then, as often as it is told, judges it or runs the
+//! sets of its nodes. The status is 2 where a level is too full.
 //!
 //! It prints how many nodes the tree has, and a sum of what it finds. `check` judges the tree, `rows` judges it in several
 //! threads, and `runs` runs the set of each node once, in the memory of one run, with which judging is to be compared.
 
 use crate::running::runs;
 use crate::words::{Asked, Word};
+use lf_alone::{Ended, solve};
 use lf_check::{Verdict, check, check_rows};
 use lf_faults::FaultSet;
 use lf_scenario::Scenario;
 use lf_tree::{Node, Tree, count};
-use plain_trees::grown;
 use std::alloc::{AllocError, Global};
+use std::sync::Arc;
 use std::thread::Threads;
 
 /// Does what the words ask for, and prints what it finds. The answer is the status.
@@ -19,12 +20,25 @@ pub(crate) fn measure(
     rt: &HostRuntime,
     threads: &(impl Threads + Sync),
     asked: Asked,
-    scenario: &Scenario,
+    scenario: &Arc<Scenario>,
 ) -> Result<u8, AllocError> {
-    let tree = grown(rt.alloc(), scenario)?;
+    let Some(tree) = tree_of(rt.alloc(), scenario)? else {
+        return Ok(2);
+    };
     let total = measured(threads, rt.alloc(), asked, scenario, &tree)?;
     let _printed = println!(rt; "{} {total}", count(&tree)).is_ok();
     Ok(0)
+}
+
+/// The tree of a scenario's search. None where a level is too full.
+fn tree_of(alloc: Global, scenario: &Arc<Scenario>) -> Result<Option<Tree>, AllocError> {
+    match solve(alloc, Arc::try_clone(scenario)?)? {
+        Ended::Finished(book) => match book.into_tree() {
+            Ok(tree) => Ok(Some(tree)),
+            Err(_) => Ok(None),
+        },
+        Ended::Full { .. } => Ok(None),
+    }
 }
 
 /// The sum over so many times.

@@ -4,6 +4,7 @@
 //!     bench_searches books COUNT search|runs|plain|drive <SCENARIO
 //!     bench_searches checks COUNT runs|check|rows <SCENARIO
 //!     bench_searches pools WORKERS [shares] <SCENARIO
+//!     bench_searches runs COUNT run|run_reusing|edges FAULTS EXCLUDED
 //!     bench_searches trees COUNT write|read|json KIDS
 //!
 //! The first word names a module here, which says what is done.
@@ -18,6 +19,7 @@ mod checks;
 mod input;
 mod pools;
 mod running;
+mod runs;
 mod trees;
 mod words;
 
@@ -47,6 +49,7 @@ fn status(
     let asked = words::parsed(rt)?;
     match asked.module {
         Word::Answers => answers::measure(rt, asked),
+        Word::Runs => runs::measure(rt, asked),
         Word::Trees => trees::measure(rt, asked),
         Word::Books | Word::Checks | Word::Pools => match input::scenario(rt)? {
             Some(scenario) => status_of(rt, threads, asked, scenario),

@@ -13,7 +13,7 @@ use std::alloc::{AllocError, Global};
 
 /// Does what the words ask for, and prints what it finds. The answer is the status.
 pub(crate) fn measure(rt: &HostRuntime, asked: Asked) -> Result<u8, AllocError> {
-    let tree = tree(rt.alloc(), asked.kids)?;
+    let tree = tree(rt.alloc(), asked.size)?;
     match sum(rt.alloc(), asked, &tree) {
         Some(total) => {
             let _printed = println!(rt; "{total}").is_ok();

@@ -14,6 +14,9 @@ pub(crate) enum Word {
     Pools,
     Trees,
     Plain,
+    Run,
+    RunReusing,
+    Edges,
     Runs,
     Drive,
     Check,
@@ -34,8 +37,10 @@ pub(crate) struct Asked {
     pub(crate) count: u32,
     /// What is done there.
     pub(crate) way: Word,
-    /// The number after that, or 0.
-    pub(crate) kids: u32,
+    /// The number after that, or 0: how many kids a node has, or how many faults a set.
+    pub(crate) size: u32,
+    /// The number after that, or 0: how many faults are excluded.
+    pub(crate) excluded: u32,
 }
 
 /// What the command line asks for: no module where it can't be read.
@@ -47,7 +52,8 @@ pub(crate) fn parsed(rt: &HostRuntime) -> Result<Asked, AllocError> {
             module: Word::Other,
             count: 0,
             way: Word::Other,
-            kids: 0,
+            size: 0,
+            excluded: 0,
         }),
     }
 }
@@ -64,7 +70,8 @@ fn parsed_words(mut words: Args) -> Asked {
         module,
         count,
         way: named(words.next()),
-        kids: number(words.next()),
+        size: number(words.next()),
+        excluded: number(words.next()),
     }
 }
 
@@ -80,6 +87,9 @@ fn named(word: Option<String>) -> Word {
         "pools" => Word::Pools,
         "trees" => Word::Trees,
         "plain" => Word::Plain,
+        "run" => Word::Run,
+        "run_reusing" => Word::RunReusing,
+        "edges" => Word::Edges,
         "runs" => Word::Runs,
         "drive" => Word::Drive,
         "check" => Word::Check,

@@ -1,10 +1,10 @@
 //! Trees made by hand, and what they are judged as, in one thread and in several.
 
+use crate::growing::grown;
 use crate::texts::{agrees, columns, scenario};
 use lf_check::{Verdict, check, check_rows};
 use lf_scenario::Scenario;
 use lf_tree::{read_tree, to_text};
-use plain_trees::grown;
 use std::alloc::{AllocError, Global};
 use std::process::Abort;
 use std::thread::Threads;

@@ -3,12 +3,12 @@
 //! In each line of a table stand a scenario, in which `;` ends a line, and its answer: its faults with `,` between them, or `none`.
 
 use crate::changes::{DIFFER, judged, with_answers, with_changes};
+use crate::growing::grown;
 use crate::plain::Case;
 use crate::required::every_fault;
 use crate::texts::{agrees, columns, scenario};
 use lf_faults::{FaultSet, read_fault};
 use lf_tree::{Tree, count};
-use plain_trees::grown;
 use std::alloc::Global;
 
 /// The answer of a text.

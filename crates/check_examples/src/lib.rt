@@ -10,6 +10,8 @@ mod by_hand;
 #[cfg(test)]
 mod changes;
 #[cfg(test)]
+mod growing;
+#[cfg(test)]
 mod grown_trees;
 #[cfg(test)]
 mod lists;

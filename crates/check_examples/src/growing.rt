@@ -1,7 +1,6 @@
-//! Trees of small scenarios, grown plainly from the definitions, for tests and benchmarks.
+//! Trees of small scenarios, grown plainly from the definitions.
 //!
 //! Nothing is remembered from one depth to the next, and each run takes memory of its own.
-#![tactic(auto)]
 
 use lf_cone::{edges, sharp};
 use lf_faults::{Fault, FaultSet};
@@ -24,7 +23,7 @@ struct Growth {
 /// last depth misses. Its answer is the first of these in the order of sets, or none where no set within the budget misses.
 ///
 /// The error is that memory has run out.
-pub fn grown(alloc: Global, scenario: &Scenario) -> Result<Tree, AllocError> {
+pub(crate) fn grown(alloc: Global, scenario: &Scenario) -> Result<Tree, AllocError> {
     let budget = scenario.setting().spec.budget();
     for last in 0..budget {
         let tree = grown_to(alloc, scenario, last)?;

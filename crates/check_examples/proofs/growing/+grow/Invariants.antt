@@ -1,5 +1,5 @@
 use Rattle.std.specs.Prelude.{◌+◌, ◌*◌}
-use Rattle.plain_trees.proofs.+grow.Given as goal
+use Rattle.check_examples.proofs.growing.+grow.Given as goal
 
 abbrev pub decreases-node : goal.decreases-node
 decreases-node l = 2 * l.room

@@ -1,24 +1,21 @@
-//! Runs a machine that sends to all at every step, as often as it is told, and prints a sum of what it finds:
+//! `runs COUNT run|run_reusing|edges FAULTS EXCLUDED` runs a machine that sends to all at every step, as often as it is told, and prints a
+//! sum of what it finds.
 //!
-//!     bench_runs COUNT run|run_reusing|edges FAULTS EXCLUDED
-//!
-//! `run_reusing` gives one run's memory to the next, and `edges` then looks for the sharp reach of what node 0 ends with
-//! and for the edges within it. FAULTS is how many faults each set has, 0 to 6, and EXCLUDED how many omissions are
-//! excluded from the edges, none where the word is missing.
-#![tactic(auto)]
+//! `run_reusing` gives one run's memory to the next, and `edges` then looks for the sharp reach of what node 0 ends with and for the
+//! edges within it. FAULTS is how many faults each set has, 0 to 6, and EXCLUDED how many omissions are excluded from the edges, none
+//! where the word is missing. It reads nothing.
 
 ghost use Rattle.std.specs.Prelude.{◌≡◌};
 ghost use Rattle.lf_sim.specs.Settings.{IsRun, world_of};
-ghost use Rattle.bench_runs.specs.Chatter.{heard};
+ghost use Rattle.bench_searches.specs.Chatter.{heard};
 
+use crate::words::{Asked, Word};
 use lf_cone::{put_edges, sharp};
 use lf_faults::{Fault, FaultSet, FaultSpec};
 use lf_latency::{Links, Network};
 use lf_outcome::Point;
 use lf_sim::{Letter, Machine, Out, Run, Setting, Stepped, run, run_reusing};
 use std::alloc::{AllocError, Global};
-use std::env;
-use std::process::ExitCode;
 
 /// Eight nodes, each of which tells all others a number, and adds the first note that it gets to it.
 #[derive(Clone, Copy, Debug, PartialEq, Eq, Drop)]
@@ -26,7 +23,7 @@ struct Chatter;
 
 impl Machine for Chatter {
     ghost use Rattle.lf_sim.specs.OutsLemmas.{to_others-silent};
-    ghost use Rattle.bench_runs.specs.Chatter.{chatter, heard};
+    ghost use Rattle.bench_searches.specs.Chatter.{chatter, heard};
 
     type State = u32;
 
@@ -113,14 +110,6 @@ fn weigh(found: &Run<Chatter>) -> u32 {
     weight
 }
 
-/// What is measured.
-#[derive(Clone, Copy, Debug, PartialEq, Eq)]
-enum Mode {
-    Run,
-    RunReusing,
-    Edges,
-}
-
 /// How many edges there are within the sharp reach of what node 0 ends with, and how far that reach goes in all.
 fn edges_of<M: Machine>(
     setting: &Setting<M>,
@@ -155,67 +144,33 @@ fn omissions(alloc: Global, count: u32) -> Result<Vec<Fault>, AllocError> {
     Ok(faults)
 }
 
+/// Runs the machine so many times, and prints the sum of what is found. The answer is the status.
+pub(crate) fn measure(rt: &HostRuntime, asked: Asked) -> Result<u8, AllocError> {
+    let total = summed(rt.alloc(), asked)?;
+    let _printed = println!(rt; "{total}").is_ok();
+    Ok(0)
+}
+
 /// The sum over so many runs.
-fn runs(
-    alloc: Global,
-    count: u32,
-    mode: Mode,
-    faults: u32,
-    excluded: u32,
-) -> Result<u32, AllocError> {
+fn summed(alloc: Global, asked: Asked) -> Result<u32, AllocError> {
     let Some(setting) = setting() else {
         return Ok(0);
     };
-    let excluded = omissions(alloc, excluded)?;
+    let excluded = omissions(alloc, asked.excluded)?;
     let mut edges = Vec::new(alloc);
     let mut spent = run(alloc, &setting, &FaultSet::empty())?;
     let mut total = 0u32;
-    for number in 0..count {
-        let set = set_of(number, faults);
-        spent = match mode {
-            Mode::Run => run(alloc, &setting, &set)?,
-            Mode::RunReusing | Mode::Edges => run_reusing(&setting, &set, spent),
+    for number in 0..asked.count {
+        let set = set_of(number, asked.size);
+        spent = match asked.way {
+            Word::RunReusing | Word::Edges => run_reusing(&setting, &set, spent),
+            _ => run(alloc, &setting, &set)?,
         };
         total = total.wrapping_add(weigh(&spent));
-        if mode == Mode::Edges {
+        if matches!(asked.way, Word::Edges) {
             let weight = edges_of(&setting, &spent, excluded.as_slice(), &mut edges)?;
             total = total.wrapping_add(weight);
         }
     }
     Ok(total)
-}
-
-/// The mode that a word names.
-fn mode_named(word: Option<String>) -> Mode {
-    match word {
-        Some(word) if word.as_str() == "edges" => Mode::Edges,
-        Some(word) if word.as_str() == "run_reusing" => Mode::RunReusing,
-        _ => Mode::Run,
-    }
-}
-
-fn main(rt: HostRuntime) -> ExitCode {
-    let Ok(mut words) = env::args(&rt) else {
-        return ExitCode::from(2);
-    };
-    let _program = words.next();
-    let count = number(words.next());
-    let mode = mode_named(words.next());
-    let faults = number(words.next());
-    let excluded = number(words.next());
-    match runs(rt.alloc(), count, mode, faults, excluded) {
-        Ok(total) => {
-            let _printed = println!(rt; "{total}").is_ok();
-            ExitCode::SUCCESS
-        }
-        Err(_) => ExitCode::from(3),
-    }
-}
-
-/// The number that a word is, or 0.
-fn number(word: Option<String>) -> u32 {
-    match word {
-        Some(word) => word.as_str().parse::<u32>().unwrap_or(0),
-        None => 0,
-    }
 }
