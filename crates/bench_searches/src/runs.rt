@@ -5,7 +5,7 @@
 //! edges within it. FAULTS is how many faults each set has, 0 to 6, and EXCLUDED how many omissions are excluded from the edges, none
 //! where the word is missing. It reads nothing.
 
-ghost use Rattle.std.specs.Prelude.{◌≡◌};
+ghost use Rattle.std.specs.Prelude.{◌≡◌, IfOk};
 ghost use Rattle.lf_sim.specs.Settings.{IsRun, world_of};
 ghost use Rattle.bench_searches.specs.Chatter.{heard};
 
@@ -151,6 +151,22 @@ pub(crate) fn measure(rt: &HostRuntime, asked: Asked) -> Result<u8, AllocError> 
     Ok(0)
 }
 
+/// The run of a set, in the memory of one that is no longer needed, but for `run`.
+fn played(
+    alloc: Global,
+    setting: &Setting<Chatter>,
+    set: &FaultSet,
+    way: Word,
+    spent: Run<Chatter>,
+) -> Result<Run<Chatter>, AllocError>
+    ensures { IfOk result (IsRun (world_of setting.now)) }
+{
+    match way {
+        Word::RunReusing | Word::Edges => Ok(run_reusing(setting, set, spent)),
+        _ => run(alloc, setting, set),
+    }
+}
+
 /// The sum over so many runs.
 fn summed(alloc: Global, asked: Asked) -> Result<u32, AllocError> {
     let Some(setting) = setting() else {
@@ -162,10 +178,7 @@ fn summed(alloc: Global, asked: Asked) -> Result<u32, AllocError> {
     let mut total = 0u32;
     for number in 0..asked.count {
         let set = set_of(number, asked.size);
-        spent = match asked.way {
-            Word::RunReusing | Word::Edges => run_reusing(&setting, &set, spent),
-            _ => run(alloc, &setting, &set)?,
-        };
+        spent = played(alloc, &setting, &set, asked.way, spent)?;
         total = total.wrapping_add(weigh(&spent));
         if matches!(asked.way, Word::Edges) {
             let weight = edges_of(&setting, &spent, excluded.as_slice(), &mut edges)?;
