@@ -1,4 +1,5 @@
 mod AnswerLemmas
+mod ArmLemmas
 mod BuildLemmas
 mod ChangeLemmas
 mod ClaimLemmas

@@ -9,7 +9,7 @@ use Rattle.std.proofs.Math.Dec.{ltb}
 use Rattle.toml.specs.Data.{Data, array, Items, no_items, item}
 use Rattle.toml.specs.View.{view, items_view}
 use Rattle.toml.specs.declared.value.Value.{Value}
-use Rattle.lf_scenario.specs.Votes.{all_booleans, count_items, item_vote, vote_in, vote_of, votes_in, votes_of}
+use Rattle.lf_scenario.specs.Votes.{all_agree, all_booleans, count_items, item_vote, vote_in, vote_of, votes_in, votes_of}
 use Rattle.lf_scenario.specs.Ranges.{AreVotes}
 use Rattle.lf_scenario.specs.declared.key.Key.{Key}
 use Rattle.lf_scenario.specs.declared.error.ScenarioError.TheVariants as refusals
@@ -38,6 +38,26 @@ drop-map f (suc j) a n =
     let from : a + 1 + j ≡ a + suc j = omega arith in
     ap (λ m. drop (suc j) (map f (range_with_len a m))) more ∙ drop-map f j (a + 1) n ∙ ap (λ m. map f (range_with_len m n)) from
 
+-- where no node from one on says no
+silent_from : (ds : Items) (nodes : ℕ) → nodes ≤ 8 → ((k : ℕ) → nodes ≤ k → vote_of ds k ≡ true) → All IsTrue (drop nodes (votes_of ds))
+silent_from ds nodes few agree =
+    let eight : nodes + (8 - nodes) ≡ 8 = omega (arith, few) in
+    let rest : drop nodes (map (vote_of ds) (range_with_len 0 (nodes + (8 - nodes)))) ≡ map (vote_of ds) (range_with_len (0 + nodes) (8 - nodes)) =
+    drop-map (vote_of ds) nodes 0 (8 - nodes) in
+    let here : drop nodes (votes_of ds) ≡ map (vote_of ds) (range_with_len (0 + nodes) (8 - nodes)) =
+    subst (λ m. drop nodes (map (vote_of ds) (range_with_len 0 m)) ≡ map (vote_of ds) (range_with_len (0 + nodes) (8 - nodes))) eight rest in
+    subst (All IsTrue) (sym here)
+    (All-from_recursion IsTrue (map (vote_of ds) (range_with_len (0 + nodes) (8 - nodes)))
+    (later (vote_of ds) (8 - nodes) (0 + nodes) (λ k low. agree k (omega (arith, low)))))
+
+none_given : (nodes k : ℕ) → nodes ≤ k → vote_of no_items k ≡ true
+none_given nodes zero high = refl
+none_given nodes (suc k) high = refl
+
+-- where no votes are given
+pub agreed : (nodes : ℕ) → 2 ≤ nodes → nodes ≤ 8 → AreVotes nodes all_agree
+agreed nodes some few patience positive short = (some, few, positive, short, (refl, silent_from no_items nodes few (none_given nodes)))
+
 -- the item at a place
 pub item_vote-at : (vs : List Value) (k : ℕ) (v : Value) → k < length vs → v ≡ get_or vs k v → item_vote (items_view vs) k ≡ vote_in (view v)
 item_vote-at [] k v below here = absurd (omega (arith, below))
@@ -51,17 +71,7 @@ module _ (vs : List Value) (nodes : ℕ) (some : 2 ≤ nodes) (few : nodes ≤ 8
   agrees (suc k) high = past (items_view vs) k (omega (arith, count-length vs, counted, high))
 
   silent : All IsTrue (drop nodes (votes_of (items_view vs)))
-  silent =
-      let eight : nodes + (8 - nodes) ≡ 8 = omega (arith, few) in
-      let rest : drop nodes (map (vote_of (items_view vs)) (range_with_len 0 (nodes + (8 - nodes)))) ≡ map (vote_of (items_view vs)) (range_with_len
-      (0 + nodes) (8 - nodes)) =
-      drop-map (vote_of (items_view vs)) nodes 0 (8 - nodes) in
-      let here : drop nodes (votes_of (items_view vs)) ≡ map (vote_of (items_view vs)) (range_with_len (0 + nodes) (8 - nodes)) =
-      subst (λ m. drop nodes (map (vote_of (items_view vs)) (range_with_len 0 m)) ≡ map (vote_of (items_view vs)) (range_with_len (0 + nodes)
-      (8 - nodes))) eight rest in
-      subst (All IsTrue) (sym here)
-      (All-from_recursion IsTrue (map (vote_of (items_view vs)) (range_with_len (0 + nodes) (8 - nodes)))
-      (later (vote_of (items_view vs)) (8 - nodes) (0 + nodes) (λ k low. agrees k (omega (arith, low)))))
+  silent = silent_from (items_view vs) nodes few agrees
 
   pub are_votes : AreVotes nodes (votes_of (items_view vs))
   are_votes patience positive short = (some, few, positive, short, (refl, silent))

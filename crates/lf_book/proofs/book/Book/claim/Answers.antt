@@ -1,4 +1,4 @@
-use Rattle.std.proofs.Common.{◌+◌, refl, arith}
+use Rattle.std.proofs.Common.{◌+◌, refl, ap, arith, is_some}
 use Rattle.std.specs.Arc.{arc_value}
 use Rattle.lf_marks.specs.Marks.{mark_at, level_of}
 use Rattle.lf_sim.specs.Settings.{world_of}
@@ -43,3 +43,23 @@ returns-clause-taken g c =
       rw (job.path, job.ticket) (takes (world_of s.setting) s.setting.spec s.formula s.max_sets (state_of m) new m.closed path c.requires.going
           c.requires.room took refl c.claim.ensures.level refl (task_of_job c.in_ok-job.job) job.works),
     )
+
+pub unreachable-requires : goal.unreachable-requires
+unreachable-requires g c = c.requires.ready (rw c.in_default.is at c.in_ok-found.ensures.none)
+
+pub job-requires : goal.job-requires
+job-requires g c = ap is_some (rw c.in-Some.is at c.in_ok-found.ensures.ready)
+
+pub claim-requires-clause-next : goal.claim-requires-clause-next
+claim-requires-clause-next g c = (c.in-Some.field-0.path.items, rw c.in-Some.is at c.in_ok-found.ensures.next)
+
+pub claim-requires-clause-room : goal.claim-requires-clause-room
+claim-requires-clause-room g c = rw c.in-Some.is at c.in_ok-found.ensures.room
+
+pub overflow_add-self : goal.overflow_add-self
+overflow_add-self g c = omega (arith, c.requires.room)
+
+pub returns-clause-steps : goal.returns-clause-steps
+returns-clause-steps g c =
+    let few = rw c.in-Some.is at c.in_ok-found.ensures.steps in
+    rw c.in_ok-job.ensures.path (omega (arith, few, c.claim.ensures.steps))

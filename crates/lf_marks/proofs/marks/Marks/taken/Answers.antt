@@ -1,0 +1,17 @@
+use Rattle.std.proofs.Common.{◌≡◌, ◌∙◌, ap, sym, arith, length}
+use Rattle.lf_marks.specs.Arena.{taken_in}
+use Rattle.lf_marks.specs.Walks.{Spot}
+use Rattle.lf_marks.specs.declared.set.Branch.{Branch}
+use Rattle.lf_marks.proofs.ArmLemmas.{read-at, no-kids}
+use Rattle.lf_marks.proofs.marks.Marks.taken.Goals as goal
+
+pub returns-in-Branch : goal.returns-in-Branch
+returns-in-Branch c =
+    let here = read-at c.args.self.now.sets.items c.args.place c.index.result.now c.requires c.index.ensures in
+    let n : c.len.result ≡ length c.deref.result.now.kids.items = omega (arith, c.len.ensures, c.deref.result.now.kids.ok) in
+    n ∙ ap (λ (b : Branch). length b.kids.items) c.deref.ensures ∙ sym (ap (λ (s : Spot). s.taken) here ∙ ap taken_in c.in-Branch.is)
+
+pub returns-in_default : goal.returns-in_default
+returns-in_default c =
+    let here = read-at c.args.self.now.sets.items c.args.place c.index.result.now c.requires c.index.ensures in
+    (no-kids c.index.result.now.state c.in_default.not-Branch).taken ∙ sym (ap (λ (s : Spot). s.taken) here)
