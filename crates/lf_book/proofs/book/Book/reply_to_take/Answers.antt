@@ -53,9 +53,13 @@ pub returns-in-Job-clause-takes : goal.returns-in-Job-clause-takes
 returns-in-Job-clause-takes c =
     let job = c.in-Job.job in
     let e = subst (IsTaken c.args.self.now c.take.new.self) c.in-Job.is c.in_ok-job.ensures.taken in
-    inl (held_of job, ap reply.Took c.ticket-ticket.ensures, e.1,
-    ap (map held_of) (c.push_reserved.ensures.items ∙ ap (λ (l : List Job). l ++ job ∷ []) c.reserve.ensures.items)
-    ∙ map-append held_of c.args.jobs.now.items (job ∷ []))
+    inl (
+      held_of job,
+      ap reply.Took c.ticket-ticket.ensures,
+      e.1,
+      ap (map held_of) (c.push_reserved.ensures.items ∙ ap (λ (l : List Job). l ++ job ∷ []) c.reserve.ensures.items)
+          ∙ map-append held_of c.args.jobs.now.items (job ∷ []),
+    )
 
 pub returns-in-Busy-clause-takes : goal.returns-in-Busy-clause-takes
 returns-in-Busy-clause-takes c =

@@ -12,8 +12,7 @@ returns-in-Misses c =
 
 pub returns-in_default : goal.returns-in_default
 returns-in_default c =
-    let here = read-at c.args.self.now.sets.items c.args.place c.index.result.now c.requires c.index.ensures in
-    (
+    let here = read-at c.args.self.now.sets.items c.args.place c.index.result.now c.requires c.index.ensures in (
       λ t. absurd (search rules),
       λ e. absurd (no-miss c.index.result.now.state c.in_default.not-Misses (sym (ap (λ (s : Spot). s.mark) here) ∙ e)),
     )
