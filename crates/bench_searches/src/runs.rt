@@ -111,9 +111,9 @@ fn weigh(found: &Run<Chatter>) -> u32 {
 }
 
 /// How many edges there are within the sharp reach of what node 0 ends with, and how far that reach goes in all.
-fn edges_of<M: Machine>(
-    setting: &Setting<M>,
-    found: &Run<M>,
+fn edges_of(
+    setting: &Setting<Chatter>,
+    found: &Run<Chatter>,
     excluded: &[Fault],
     edges: &mut Vec<Fault>,
 ) -> Result<u32, AllocError>

@@ -14,8 +14,8 @@ use lf_faults::{Fault, FaultSet};
 use lf_list::Listed;
 use lf_marks::{Answer, Grown};
 use lf_outcome::{Formula, Point, Reach, evidence, holds};
-use lf_protocols::Protocol;
-use lf_sim::{Machine, Run, Setting, run, run_reusing};
+use lf_protocols::{Fact, Protocol};
+use lf_sim::{Run, Setting, run, run_reusing};
 use std::alloc::{AllocError, Global};
 use std::sync::Arc;
 
@@ -120,12 +120,12 @@ fn finding_of(job: &Job, answer: Answer) -> Result<Finding, AllocError>
 }
 
 /// The run of a set, in the memory of one that is no longer needed, if there is one.
-fn played<M: Machine>(
+fn played(
     alloc: Global,
-    setting: &Setting<M>,
+    setting: &Setting<Protocol>,
     set: &FaultSet,
-    spent: Option<Run<M>>,
-) -> Result<Run<M>, AllocError>
+    spent: Option<Run<Protocol>>,
+) -> Result<Run<Protocol>, AllocError>
     ensures run { IfOk result (IsRun (world_of setting.now)) }
     ensures set { IfOk result (λ run. set_of run ≡ set.now) }
 {
@@ -136,11 +136,11 @@ fn played<M: Machine>(
 }
 
 /// What a run shows of its set, where some faults are excluded. The list of edges is used as memory.
-fn found<M: Machine>(
+fn found(
     alloc: Global,
-    setting: &Setting<M>,
-    formula: &Formula<M::Fact>,
-    run: &Run<M>,
+    setting: &Setting<Protocol>,
+    formula: &Formula<Fact>,
+    run: &Run<Protocol>,
     excluded: &[Fault],
     required: &mut Vec<Fault>,
 ) -> Result<Answer, AllocError>

@@ -4,16 +4,17 @@ use crate::texts::{agrees, setting};
 use lf_cone::{agree, sharp};
 use lf_faults::{FaultSet, admits};
 use lf_outcome::{Formula, Outcome, evidence, holds, named};
-use lf_sim::{Machine, Setting, run};
+use lf_protocols::{Fact, Protocol};
+use lf_sim::{Setting, run};
 use lf_trace::read_faults;
 use std::alloc::{AllocError, Global};
 
 /// Whether a set reaches an outcome, by the law at the set itself, where its run is made, and the sharp reach of its evidence
 /// is closed and makes the outcome true; and by the run.
-fn reaches_by_law<M: Machine>(
+fn reaches_by_law(
     alloc: Global,
-    setting: &Setting<M>,
-    formula: &Formula<M::Fact>,
+    setting: &Setting<Protocol>,
+    formula: &Formula<Fact>,
     set: &FaultSet,
 ) -> Result<bool, AllocError> {
     if !admits(&setting.spec, set) {

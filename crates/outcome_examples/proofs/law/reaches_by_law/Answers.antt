@@ -9,6 +9,6 @@ some_of None x P is h = absurd (let never : None ≡ Some x = is in cc)
 some_of (Some y) x P is h = let same : y ≡ x = cc in subst P same h
 
 pub agree-requires-clause-within : goal.agree-requires-clause-within
-agree-requires-clause-within g c =
+agree-requires-clause-within c =
     some_of _ _ _ c.in-Some.is c.in_ok-points.ensures.suffices c.sharp-reach.result
     (subst (Covers c.sharp-reach.result) c.as_slice.ensures.value c.sharp-reach.ensures.covers)
