@@ -2,7 +2,7 @@
 # Runs the built program on each example beside this script, and compares the report and the status with the example's
 # first comment; then runs the commands that the READMEs and the guide show, and compares what they print. What goes to
 # standard error counts as printed too.
-# Wants the Rattle kit; the first time it proves the program, which takes some minutes.
+# Wants the Rattle kit; the first time it proves the program, which takes some twenty minutes.
 set -euo pipefail
 here=$(cd "$(dirname "$0")" && pwd)
 top=$(dirname "$here")

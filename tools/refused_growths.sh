@@ -11,7 +11,7 @@
 #
 # Prints for each command how many of its growths were refused, and how many of these runs ended for want of memory. The status is 1
 # where a run ended otherwise. Wants the Rattle kit and a C compiler (`cc`, or what CC names); the first time it proves the programs,
-# which takes some minutes.
+# which takes some twenty minutes.
 set -euo pipefail
 here=$(cd "$(dirname "$0")" && pwd)
 top=$(dirname "$here")
