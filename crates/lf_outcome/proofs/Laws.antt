@@ -18,6 +18,7 @@ use Rattle.lf_outcome.proofs.EvidenceLemmas as evidence
 use Rattle.lf_outcome.proofs.MeasuresLemmas as measures
 use Rattle.lf_outcome.proofs.PointsLemmas as pages
 use Rattle.lf_outcome.proofs.TruthLemmas.{truth-All, truth-Any, truth-Down, truth-Shows}
+use Rattle.lf_outcome.proofs.formula.Formula.TheLaws.TheKnot as formula
 
 module _ {Fact : Type 0} where
   -- All and Any are one deeper than their deepest part
@@ -121,3 +122,6 @@ module _ {State Note Fact : Type 0} (w : World State Note Fact) (faults : List P
   evidence-suffices points is reach covers =
       rests points is (λ ps. All (λ p. counts (Some reach) p.node p.step ≡ true) ps → reaches_within w faults reach f ≡ true)
       (pages.covers-suffices w faults f reach) (pages.covers-each reach points covers)
+
+-- formulas may cross threads where their facts may: a set for `search`
+pub ruleset formulas_cross = (formula.crosses)

@@ -15,20 +15,20 @@ use Rattle.std.proofs.sync.Condvar.TheSendSync as condvar
 use Rattle.std.specs.declared.sync.ledger.Ledger as ledger
 use Rattle.lf_book.specs.contracts.book.Book as book
 use Rattle.lf_marks.specs.contracts.marks.Marks as marks
-use Rattle.lf_outcome.proofs.formula.Formula.TheLaws.TheKnot as formula
+use Rattle.lf_outcome.proofs.Laws.{formulas_cross}
 use Rattle.lf_pool.specs.contracts.locked.Locked as locked
 use Rattle.lf_pool.specs.contracts.shared.SharedBook as shared
 use Rattle.lf_scenario.specs.contracts.scenario.Scenario as scenario
-use Rattle.lf_tree.proofs.tree.Node.TheLaws.TheKnot as node
+use Rattle.lf_tree.proofs.Laws.{nodes_cross}
 
 scenario_send : IsSend scenario.the_row
-scenario_send = search (crosses, formula.crosses, sendable) depth 60 fits 20000
+scenario_send = search (crosses, formulas_cross, sendable) depth 60 fits 20000
 
 scenario_sync : IsSync scenario.the_row
-scenario_sync = search (crosses, formula.crosses, sendable) depth 60 fits 20000
+scenario_sync = search (crosses, formulas_cross, sendable) depth 60 fits 20000
 
 marks_send : IsSend (marks.the_field).row
-marks_send = search (crosses, node.crosses, sendable) depth 60 fits 20000
+marks_send = search (crosses, nodes_cross, sendable) depth 60 fits 20000
 
 book_send : IsSend (book.the_field).row
 book_send = search (scenario_send, scenario_sync, marks_send, crosses, sendable) depth 60 fits 20000

@@ -10,6 +10,7 @@ use Rattle.lf_tree.specs.Counts.{nodes_in, nodes_of}
 use Rattle.lf_tree.specs.Heirs.{AreLinked, IsHung, inherited, inherited_by, kids_of}
 use Rattle.lf_tree.specs.Rows.{Seen, preorder, rows_of}
 use Rattle.lf_tree.proofs.HangLemmas as hangs
+use Rattle.lf_tree.proofs.tree.Node.TheLaws.TheKnot as node
 use Rattle.lf_tree.proofs.KindLemmas as kinds
 use Rattle.lf_tree.proofs.LinkLemmas as links
 
@@ -46,3 +47,6 @@ nodes-rows_of = hangs.nodes-rows_of
 
 pub length-rows_of : (tree : Tree) → length (rows_of tree) ≡ nodes_of tree
 length-rows_of = hangs.length-rows_of
+
+-- nodes may cross threads: a set for `search`
+pub ruleset nodes_cross = (node.crosses)
