@@ -2,18 +2,21 @@
 """Makes small scenarios, of which a plain search runs at most 700 sets: always the same for one seed.
 
     made_scenarios.py SEED COUNT [PROTOCOL]     prints so many, of all protocols or of one, with a line `~` after each
-    made_scenarios.py SEED COUNT --rows FILE    prints so many of each protocol as tables for crates/search_examples/src/made.rt
+    made_scenarios.py SEED COUNT --rows FILE FOLDER
+                                                writes so many of each protocol as a table, each into a file of that
+                                                FOLDER, as they stand in crates/search_examples/src/made
 
 FILE has the answers to the scenarios of SEED, a line each. Of these are taken, for each protocol, the first ones that some set of faults
 defeats, the empty set left out, and a few of the others:
 
     made_scenarios.py 18 1200 | bench_searches answers plain >answers
-    made_scenarios.py 18 50 --rows answers
+    made_scenarios.py 18 50 --rows answers crates/search_examples/src/made
 """
 import json
 import random
 import sys
 from math import comb
+from pathlib import Path
 
 FACTS = {
     "retry": ["has", "lacks"],
@@ -157,15 +160,16 @@ def chosen(chance, count, answers):
     return found
 
 
-def tables(found):
-    print("//! Made scenarios, as `bench/made_scenarios.py` makes them.")
+def tables(found, folder):
     for protocol, scenarios in found.items():
-        print(f"\n/// Scenarios of `{protocol}`: the numbers of the bounds, and further lines but for the protocol's.")
-        print(f"pub(crate) const {protocol.upper()}: &str = concat!(")
-        for made in scenarios:
-            for part in row(made):
-                print(f'    "{part}",')
-        print(");")
+        lines = [
+            f"//! Made scenarios of `{protocol}`, as `bench/made_scenarios.py` makes them.",
+            "",
+            f"/// Scenarios of `{protocol}`: the numbers of the bounds, and further lines but for the protocol's.",
+            f"pub(crate) const {protocol.upper()}: &str = concat!(",
+        ]
+        lines += [f'    "{part}",' for made in scenarios for part in row(made)]
+        (folder / f"{protocol}.rt").write_text("\n".join(lines + [");", ""]))
 
 
 def main():
@@ -173,7 +177,7 @@ def main():
     count, more = int(sys.argv[2]), sys.argv[3:]
     if more and more[0] == "--rows":
         with open(more[1]) as answers:
-            tables(chosen(chance, count, answers))
+            tables(chosen(chance, count, answers), Path(more[2]))
         return
     for _ in range(count):
         protocol, made = made_up(chance, more or list(FACTS))
