@@ -10,7 +10,7 @@
 
 use crate::running::{plain, runs};
 use crate::words::{Asked, Word};
-use lf_book::{Book, Counts, Deepened, Event, Reply, Spent, Taken, work_up};
+use lf_book::{Book, Counts, Deepened, Event, Reply, Scratch, Taken, work_up};
 use lf_faults::FaultSet;
 use lf_scenario::Scenario;
 use std::alloc::{AllocError, Global};
@@ -45,12 +45,12 @@ pub(crate) fn measure(
 }
 
 /// Takes one set, works it and files what is found, and answers whether there was one.
-fn step(book: &mut Book, spent: &mut Spent) -> Result<Option<FaultSet>, AllocError> {
+fn step(book: &mut Book, scratch: &mut Scratch) -> Result<Option<FaultSet>, AllocError> {
     let Taken::Job(job) = book.take()? else {
         return Ok(None);
     };
     let set = job.set();
-    let finding = work_up(job, spent)?;
+    let finding = work_up(job, scratch)?;
     let _filed = book.file(finding).is_ok();
     Ok(Some(set))
 }
@@ -58,12 +58,12 @@ fn step(book: &mut Book, spent: &mut Spent) -> Result<Option<FaultSet>, AllocErr
 /// Answers the sets of a level, and puts each where there are sets to put them to.
 fn answer_level(
     book: &mut Book,
-    spent: &mut Spent,
+    scratch: &mut Scratch,
     sets: &mut Vec<FaultSet>,
     keeps: bool,
 ) -> Result<(), AllocError> {
     for _ in 0..u64::MAX {
-        match step(book, spent)? {
+        match step(book, scratch)? {
             Some(set) if keeps => sets.push(set)?,
             Some(_) => {}
             None => break,
@@ -80,10 +80,10 @@ fn search(
     keeps: bool,
 ) -> Result<Ended, AllocError> {
     let mut book = Book::begin(alloc, Arc::try_clone(scenario)?)?;
-    let mut spent = Spent::new(alloc);
+    let mut scratch = Scratch::new(alloc);
     let mut deepened = Deepened::Down;
     for _ in 0..LEVELS {
-        answer_level(&mut book, &mut spent, sets, keeps)?;
+        answer_level(&mut book, &mut scratch, sets, keeps)?;
         deepened = book.deepen();
         if deepened != Deepened::Down {
             break;

@@ -9,7 +9,7 @@ use crate::words::{Asked, Word};
 use lf_alone::Ended;
 use lf_pool::{Gate, NoGate, PoolError, Solved};
 use lf_scenario::Scenario;
-use lf_work::{Finding, Job, Spent, work_reusing};
+use lf_work::{Finding, Job, Scratch, work_reusing};
 use std::alloc::{AllocError, Global};
 use std::rt::Clock;
 use std::sync::atomic::AtomicU64;
@@ -36,9 +36,14 @@ struct Timed {
 }
 
 impl Gate for Timed {
-    fn run<R: Clock>(&self, rt: &R, job: &Job, spent: &mut Spent) -> Result<Finding, AllocError> {
+    fn run<R: Clock>(
+        &self,
+        rt: &R,
+        job: &Job,
+        scratch: &mut Scratch,
+    ) -> Result<Finding, AllocError> {
         let start = Instant::now(rt);
-        let finding = work_reusing(job, spent);
+        let finding = work_reusing(job, scratch);
         self.worked
             .fetch_add(nanoseconds_since(rt, start.ok()), SeqCst);
         finding

@@ -2,7 +2,7 @@
 
 use lf_pool::Gate;
 use lf_watch::{Progress, Watch};
-use lf_work::{Finding, Job, Spent, work_reusing};
+use lf_work::{Finding, Job, Scratch, work_reusing};
 use std::alloc::AllocError;
 use std::rt::Clock;
 use std::sync::atomic::{AtomicU64, Ordering};
@@ -45,8 +45,13 @@ impl<'a, V> Told<'a, V> {
 }
 
 impl<'a, V: Watch> Gate for Told<'a, V> {
-    fn run<R: Clock>(&self, _rt: &R, job: &Job, spent: &mut Spent) -> Result<Finding, AllocError> {
-        let found = work_reusing(job, spent);
+    fn run<R: Clock>(
+        &self,
+        _rt: &R,
+        job: &Job,
+        scratch: &mut Scratch,
+    ) -> Result<Finding, AllocError> {
+        let found = work_reusing(job, scratch);
         if let Some(progress) = self.one_more(job.set().len()) {
             self.watch.tell(progress);
         }

@@ -10,7 +10,7 @@ ghost use Rattle.lf_marks.specs.Steps as mark;
 ghost use Rattle.lf_search.specs.Events.{IsDone};
 
 use crate::Ended;
-use lf_book::{Book, Deepened, Spent, Taken, work_up};
+use lf_book::{Book, Deepened, Scratch, Taken, work_up};
 use lf_certificate::settings_are_bounded;
 use lf_scenario::Scenario;
 use lf_watch::{NoWatch, Progress, Watch};
@@ -36,9 +36,9 @@ pub fn solve_watched<W: Watch>(
     ensures { IfOk result (IsEnd (arc_value scenario)) }
 {
     let mut book = Book::begin(alloc, scenario)?;
-    let mut spent = Spent::new(alloc);
+    let mut scratch = Scratch::new(alloc);
     'levels: loop {
-        work_level(&mut book, &mut spent, watch)?;
+        work_level(&mut book, &mut scratch, watch)?;
         match after_level(&mut book) {
             After::Down => {}
             After::Finished => return Ok(Ended::Finished(book)),
@@ -48,7 +48,7 @@ pub fn solve_watched<W: Watch>(
 }
 
 /// Works all open sets of the level.
-fn work_level<W: Watch>(book: &mut Book, spent: &mut Spent, watch: &W) -> Result<(), AllocError>
+fn work_level<W: Watch>(book: &mut Book, scratch: &mut Scratch, watch: &W) -> Result<(), AllocError>
     requires { IsUnderway (state_of book.old) }
     ensures underway { OnOk result (IsUnderway (state_of book.new)) }
     ensures done { OnOk result (IsDone (state_of book.new).marks) }
@@ -62,7 +62,7 @@ fn work_level<W: Watch>(book: &mut Book, spent: &mut Spent, watch: &W) -> Result
             done: all.saturating_sub(open_sets(book)),
             all: Some(all),
         });
-        work_next(book, spent)?;
+        work_next(book, scratch)?;
     }
     Ok(())
 }
@@ -73,7 +73,7 @@ fn open_sets(book: &Book) -> u64 {
 }
 
 /// Works an open set.
-fn work_next(book: &mut Book, spent: &mut Spent) -> Result<(), AllocError>
+fn work_next(book: &mut Book, scratch: &mut Scratch) -> Result<(), AllocError>
     requires underway { IsUnderway (state_of book.old) }
     requires ready { ¬ IsUnmarked (state_of book.old).marks mark.Open }
     ensures underway { OnOk result (IsUnderway (state_of book.new)) }
@@ -84,7 +84,7 @@ fn work_next(book: &mut Book, spent: &mut Spent) -> Result<(), AllocError>
     let Taken::Job(job) = taken else {
         unreachable!()
     };
-    let finding = work_up(job, spent)?;
+    let finding = work_up(job, scratch)?;
     let filed = book.file(finding);
     let Ok(()) = filed else { unreachable!() };
     Ok(())

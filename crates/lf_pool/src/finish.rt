@@ -8,7 +8,7 @@ ghost use Rattle.lf_pool.specs.declared.finish.Step.TheVariants as step;
 use crate::solving::PoolError;
 use lf_book::{Book, Deepened, Taken};
 use lf_certificate::settings_are_bounded;
-use lf_work::{Spent, work_reusing};
+use lf_work::{Scratch, work_reusing};
 use std::alloc::{AllocError, Global};
 use std::sync::Wait;
 
@@ -39,10 +39,10 @@ pub(crate) fn finish<R: Wait>(rt: &R, alloc: Global, book: Book) -> Result<Ended
     ensures left { IfErr result (IsLeft (scenario_of book)) }
 {
     let mut book = book;
-    let mut spent = Spent::new(alloc);
+    let mut scratch = Scratch::new(alloc);
     book.reclaim();
     'turns: for _ in rt.forever() {
-        match work_next(&mut book, &mut spent) {
+        match work_next(&mut book, &mut scratch) {
             Ok(Step::Goes) => {}
             Ok(Step::Finished) => return Ok(Ended::Finished(book)),
             Ok(Step::Full) => return Ok(Ended::Full(book)),
@@ -54,7 +54,7 @@ pub(crate) fn finish<R: Wait>(rt: &R, alloc: Global, book: Book) -> Result<Ended
 }
 
 /// Works one set, or goes on to the next level. The error is that memory has run out.
-fn work_next(book: &mut Book, spent: &mut Spent) -> Result<Step, AllocError>
+fn work_next(book: &mut Book, scratch: &mut Scratch) -> Result<Step, AllocError>
     ensures scenario { scenario_of book.new ≡ scenario_of book.old }
     ensures finished { result ≡ Ok step.Finished → (state_of book.new).finished ≡ true }
     ensures full { result ≡ Ok step.Full → (count : ℕ) × IsFullBook (scenario_of book.new) count book.new }
@@ -62,7 +62,7 @@ fn work_next(book: &mut Book, spent: &mut Spent) -> Result<Step, AllocError>
 {
     match book.take()? {
         Taken::Job(job) => {
-            let finding = work_reusing(&job, spent)?;
+            let finding = work_reusing(&job, scratch)?;
             let _refused = book.file(finding).is_err();
             Ok(Step::Goes)
         }

@@ -2,7 +2,7 @@
 
 ghost use Rattle.std.specs.Prelude.{◌≡◌};
 
-use lf_work::Spent;
+use lf_work::Scratch;
 use std::alloc::Global;
 use std::sync::ledger;
 use std::sync::ledger::Ledger;
@@ -12,7 +12,7 @@ use std::sync::ledger::Ledger;
 pub struct Share<L: Ledger> {
     pub(crate) filed: u64,
     pub(crate) part: ledger::Share<L>,
-    pub(crate) spent: Spent,
+    pub(crate) scratch: Scratch,
     pub(crate) alloc: Global,
     ghost one_part: { part.parts ≡ 1 },
     ghost same: { part.amount ≡ filed },
@@ -28,7 +28,7 @@ impl<L: Ledger> Share<L> {
         Share {
             filed: 0,
             part,
-            spent: Spent::new(alloc),
+            scratch: Scratch::new(alloc),
             alloc,
         }
     }

@@ -11,7 +11,7 @@ use crate::locked::{Begun, Locked};
 use crate::share::Share;
 use crate::shared::SharedBook;
 use lf_book::Deepened;
-use lf_work::{Finding, Job, Spent};
+use lf_work::{Finding, Job, Scratch};
 use std::alloc::AllocError;
 use std::rt::Clock;
 use std::sync::ledger::Ledger;
@@ -68,7 +68,7 @@ impl<L: Ledger> SharedBook<L> {
             Begun::Spent => return Ok(Turn::Spent),
         };
         drop(guard);
-        match gate.run(rt, &job, &mut share.spent) {
+        match gate.run(rt, &job, &mut share.scratch) {
             Ok(finding) => Ok(self.file(rt, share, finding)),
             Err(error) => {
                 self.give_back(rt, job);
@@ -95,7 +95,7 @@ impl<L: Ledger> SharedBook<L> {
         if jobs.is_empty() {
             return Ok(0);
         }
-        let worked = work_each(rt, gate, &mut share.spent, &mut jobs, &mut findings);
+        let worked = work_each(rt, gate, &mut share.scratch, &mut jobs, &mut findings);
         let filed = self.end_some(rt, share, &mut jobs, &mut findings);
         worked?;
         Ok(filed)
@@ -148,7 +148,7 @@ impl<L: Ledger> SharedBook<L> {
 fn work_each<R: Clock, G: Gate>(
     rt: &R,
     gate: &G,
-    spent: &mut Spent,
+    scratch: &mut Scratch,
     jobs: &mut Vec<Job>,
     findings: &mut Vec<Finding>,
 ) -> Result<(), AllocError>
@@ -158,7 +158,7 @@ fn work_each<R: Clock, G: Gate>(
     ensures all { OnOk result (jobs.new.items ≡ []) }
 {
     'jobs: while let Some(job) = jobs.pop() {
-        match gate.run(rt, &job, spent) {
+        match gate.run(rt, &job, scratch) {
             Ok(finding) => findings.push_reserved(finding),
             Err(error) => {
                 jobs.push_reserved(job);

@@ -9,4 +9,4 @@ mod working;
 
 pub use finding::Finding;
 pub use job::Job;
-pub use working::{Spent, work, work_reusing, work_up};
+pub use working::{Scratch, work, work_reusing, work_up};

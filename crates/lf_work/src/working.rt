@@ -21,17 +21,17 @@ use std::sync::Arc;
 
 /// Memory that working a job leaves, and the next takes.
 #[derive(Drop)]
-pub struct Spent {
+pub struct Scratch {
     /// The run of the last set.
     run: Option<Run<Protocol>>,
     /// Memory for required edges.
     edges: Vec<Fault>,
 }
 
-impl Spent {
+impl Scratch {
     /// No memory: the first job that is worked takes it.
-    pub fn new(alloc: Global) -> Spent {
-        Spent {
+    pub fn new(alloc: Global) -> Scratch {
+        Scratch {
             run: None,
             edges: Vec::new(alloc),
         }
@@ -42,24 +42,24 @@ impl Spent {
 pub fn work(job: &Job) -> Result<Finding, AllocError>
     ensures { IfOk result (IsOfJob job.now) }
 {
-    let mut spent = Spent::new(*job.excluded.allocator());
-    work_reusing(job, &mut spent)
+    let mut scratch = Scratch::new(*job.excluded.allocator());
+    work_reusing(job, &mut scratch)
 }
 
 /// The same, in the memory of the job that was worked last. It takes memory for what the finding holds, and else only where the memory
 /// that it is given doesn't suffice.
-pub fn work_reusing(job: &Job, spent: &mut Spent) -> Result<Finding, AllocError>
+pub fn work_reusing(job: &Job, scratch: &mut Scratch) -> Result<Finding, AllocError>
     ensures { IfOk result (IsOfJob job.now) }
 {
-    let answer = worked(job, spent)?;
+    let answer = worked(job, scratch)?;
     finding_of(job, answer)
 }
 
 /// The same, where nobody needs the job any more: the finding takes over what it holds.
-pub fn work_up(job: Job, spent: &mut Spent) -> Result<Finding, AllocError>
+pub fn work_up(job: Job, scratch: &mut Scratch) -> Result<Finding, AllocError>
     ensures { IfOk result (IsOfJob job) }
 {
-    let answer = worked(&job, spent)?;
+    let answer = worked(&job, scratch)?;
     let Job {
         scenario,
         set,
@@ -78,23 +78,23 @@ pub fn work_up(job: Job, spent: &mut Spent) -> Result<Finding, AllocError>
 }
 
 /// What is found of a job's set.
-fn worked(job: &Job, spent: &mut Spent) -> Result<Answer, AllocError>
+fn worked(job: &Job, scratch: &mut Scratch) -> Result<Answer, AllocError>
     ensures { IfOk result (λ answer. IsFound (world_of (arc_value job.now.scenario).setting) (arc_value job.now.scenario).setting.spec
         (arc_value job.now.scenario).formula job.now.set job.now.excluded.items (mark_for answer)) }
 {
     let alloc = *job.excluded.allocator();
     let scenario = job.scenario();
     let setting = scenario.setting();
-    let played = played(alloc, setting, &job.set, spent.run.take())?;
+    let played = played(alloc, setting, &job.set, scratch.run.take())?;
     let answer = found(
         alloc,
         setting,
         scenario.formula(),
         &played,
         job.excluded.as_slice(),
-        &mut spent.edges,
+        &mut scratch.edges,
     )?;
-    spent.run = Some(played);
+    scratch.run = Some(played);
     Ok(answer)
 }
 
@@ -124,13 +124,13 @@ fn played(
     alloc: Global,
     setting: &Setting<Protocol>,
     set: &FaultSet,
-    spent: Option<Run<Protocol>>,
+    used: Option<Run<Protocol>>,
 ) -> Result<Run<Protocol>, AllocError>
     ensures run { IfOk result (IsRun (world_of setting.now)) }
     ensures set { IfOk result (λ run. set_of run ≡ set.now) }
 {
-    match spent {
-        Some(spent) => Ok(run_reusing(setting, set, spent)),
+    match used {
+        Some(used) => Ok(run_reusing(setting, set, used)),
         None => run(alloc, setting, set),
     }
 }

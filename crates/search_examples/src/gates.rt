@@ -6,7 +6,7 @@ use crate::texts::{agrees, asked, columns, is_text};
 use crate::told::found;
 use lf_pool::{Gate, NoGate};
 use lf_scenario::Scenario;
-use lf_work::{Finding, Job, Spent, work_reusing};
+use lf_work::{Finding, Job, Scratch, work_reusing};
 use std::alloc::{AllocError, Global};
 use std::rt::Clock;
 use std::sync::atomic::Ordering::SeqCst;
@@ -41,13 +41,18 @@ impl Meeting {
 }
 
 impl Gate for Meeting {
-    fn run<R: Clock>(&self, rt: &R, job: &Job, spent: &mut Spent) -> Result<Finding, AllocError> {
+    fn run<R: Clock>(
+        &self,
+        rt: &R,
+        job: &Job,
+        scratch: &mut Scratch,
+    ) -> Result<Finding, AllocError> {
         if job.ticket() == self.last {
             self.came.store(true, SeqCst);
         } else if job.ticket() > 1 {
             self.wait(rt);
         }
-        work_reusing(job, spent)
+        work_reusing(job, scratch)
     }
 }
 
@@ -119,11 +124,16 @@ struct Refusing {
 }
 
 impl Gate for Refusing {
-    fn run<R: Clock>(&self, _rt: &R, job: &Job, spent: &mut Spent) -> Result<Finding, AllocError> {
+    fn run<R: Clock>(
+        &self,
+        _rt: &R,
+        job: &Job,
+        scratch: &mut Scratch,
+    ) -> Result<Finding, AllocError> {
         if self.calls.fetch_add(1, SeqCst) == self.at {
             return Err(AllocError);
         }
-        work_reusing(job, spent)
+        work_reusing(job, scratch)
     }
 }
 
