@@ -50,7 +50,7 @@ module _ {State Note Fact : Type 0} (w : World State Note Fact) (b : Bounds) (fo
               path = stands.path;
               place = stands.place;
               leads = stands.leads;
-              last = omega (arith, stands.here);
+              here = stands.here;
               same = stands.same;
               misses = missing;
             },
@@ -92,10 +92,10 @@ module _ {State Note Fact : Type 0} (w : World State Note Fact) (b : Bounds) (fo
         ],
   )
 
-  by_answer : (answer : Option (List Parts)) → tree.answer ≡ answer → IsAllowedAnswer w b formula answer → IsFirstIn w b formula tree answer
+  by_answer : (answer : Option (List Parts)) → tree.answer ≡ answer → IsAllowedAnswer b answer → IsFirstIn w b formula tree answer
       → IsAnswer w b formula answer
   by_answer None is allowed first = no_answer is first
   by_answer (Some answer) is allowed first = an_answer answer is allowed first.0 first.1
 
-  pub answer_is : IsAllowedAnswer w b formula tree.answer → IsFirstIn w b formula tree tree.answer → IsAnswer w b formula tree.answer
+  pub answer_is : IsAllowedAnswer b tree.answer → IsFirstIn w b formula tree tree.answer → IsAnswer w b formula tree.answer
   answer_is allowed first = by_answer tree.answer refl allowed first

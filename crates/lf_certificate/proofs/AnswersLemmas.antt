@@ -89,7 +89,7 @@ module _ (P Q : Place → Type 0) (d : (p : Place) → P p ⊎ Q p) where
   some_or_each (suc n) p = by_kids n (some_or_each n) p
 
 module _ {State Note Fact : Type 0} (w : World State Note Fact) (b : Bounds) (formula : Formula Fact) where
-  pub allowed_answer_or_not : (answer : Option (List Parts)) → Decided (IsAllowedAnswer w b formula answer)
+  pub allowed_answer_or_not : (answer : Option (List Parts)) → Decided (IsAllowedAnswer b answer)
   allowed_answer_or_not None = inl tt
   allowed_answer_or_not (Some answer) = allowed_or_not b answer
 
@@ -111,13 +111,13 @@ module _ {State Note Fact : Type 0} (w : World State Note Fact) (b : Bounds) (fo
               path = found.path;
               place = found.place;
               leads = found.leads;
-              last = found.far;
+              here = omega (arith, found.far);
               same = refl;
               misses = found.holds.0;
             },
             found.holds.1,
           )
-          | inr none ↦ inr (λ faults m has. none m.path m.place m.last m.leads
+          | inr none ↦ inr (λ faults m has. none m.path m.place (omega (arith, m.here)) m.leads
               (subst (λ fs. reaches w fs formula ≡ false) (sym m.same) m.misses, subst R (sym m.same) has))
         ]
 

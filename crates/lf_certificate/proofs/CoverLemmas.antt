@@ -66,7 +66,7 @@ module _ {State Note Fact : Type 0} (w : World State Note Fact) (b : Bounds) (fo
       path = path ++ stands.path;
       place = stands.place;
       leads = place-append (root_of tree) p path stands.path leads ∙ stands.leads;
-      last = length-append path stands.path ∙ stands.here;
+      here = omega (arith, length-append path stands.path, stands.here);
       same = stands.same;
       misses = missing;
     }

@@ -1,6 +1,6 @@
 -- First faults of a tree: an accepted tree has none, and there is at most one.
-use Rattle.std.proofs.Common.{◌≡◌, ℕ, true, List, [], length}
-use Rattle.std.proofs.Common.{refl, sym, ap, ◌∙◌, subst, inl, inr}
+use Rattle.std.proofs.Common.{◌≡◌, ℕ, ◌+◌, true, List, [], length}
+use Rattle.std.proofs.Common.{refl, sym, ap, ◌∙◌, subst, arith, inl, inr}
 use Rattle.std.specs.Prelude.{◌⊎◌}
 use Rattle.std.specs.declared.cmp.Ordering.{Ordering}
 use Rattle.std.specs.declared.cmp.Ordering.TheVariants.{Less, Equal, Greater}
@@ -15,8 +15,8 @@ use Rattle.lf_tree.specs.declared.tree.Tree.{Tree}
 use Rattle.lf_certificate.specs.declared.reason.Reason.{Reason}
 use Rattle.lf_certificate.specs.declared.reason.Reason.TheVariants as reason
 use Rattle.lf_certificate.specs.Places.{place_at}
-use Rattle.lf_certificate.specs.Accepted.{IsAccepted, IsAllowedAnswer, IsFirstIn, last_depth}
-use Rattle.lf_certificate.specs.Faults.{path_is_before, FailsFirst, IsFirstFailing, NoneFails, IsFirstFault}
+use Rattle.lf_certificate.specs.Accepted.{IsAccepted, IsAllowedAnswer, IsFirstIn, IsRight, last_depth}
+use Rattle.lf_certificate.specs.Faults.{path_is_before, Fails, FailsFirst, IsFirstFailing, NoneFails, IsFirstFault}
 use Rattle.lf_certificate.proofs.AllowedLemmas.{some-one}
 use Rattle.lf_certificate.proofs.ReasonLemmas.{not_allowed_nowhere, not_first_nowhere, right_fails_not, first_reason_one}
 
@@ -40,16 +40,16 @@ module _ {State Note Fact : Type 0} (w : World State Note Fact) (b : Bounds) (fo
   pub record AtStart (why : Reason) (path : List ℕ) : Type 0 where
     pub is : why ≡ reason.AnswerNotAllowed
     pub root : path ≡ []
-    pub never : IsAllowedAnswer w b formula tree.answer → ⊥
+    pub never : IsAllowedAnswer b tree.answer → ⊥
 
   pub record AtPlace (why : Reason) (path : List ℕ) : Type 0 where
-    pub allowed : IsAllowedAnswer w b formula tree.answer
+    pub allowed : IsAllowedAnswer b tree.answer
     pub fails : IsFirstFailing w b formula tree why path
 
   pub record AtEnd (why : Reason) (path : List ℕ) : Type 0 where
     pub is : why ≡ reason.AnswerNotFirst
     pub root : path ≡ []
-    pub allowed : IsAllowedAnswer w b formula tree.answer
+    pub allowed : IsAllowedAnswer b tree.answer
     pub none : NoneFails w b formula tree
     pub never : IsFirstIn w b formula tree tree.answer → ⊥
 
@@ -67,12 +67,17 @@ module _ {State Note Fact : Type 0} (w : World State Note Fact) (b : Bounds) (fo
   cases_fault reason.KidsDiffer path h = inr (inl (record { allowed = h.0; fails = h.1 }))
 
   -- An accepted tree has none
+  none_here : IsAccepted w b formula tree → (why : Reason) (path : List ℕ) → IsFirstFailing w b formula tree why path → ⊥
+  none_here accepted why path x =
+      let deep : length path ≡ 0 + length path = omega arith in
+      right_fails_not w b formula (last_depth b tree.answer) (0 + length path) x.place
+      (subst (λ d. IsRight w b formula (last_depth b tree.answer) d x.place) deep (accepted.places path x.place x.leads)) why x.fails.fails
+
   pub accepted_has_none : IsAccepted w b formula tree → (why : Reason) (path : List ℕ) → IsFirstFault w b formula tree why path → ⊥
   accepted_has_none accepted why path h = elim (cases_fault why path h) [
     | inl start ↦ start.never accepted.allowed
     | inr rest ↦ elim rest [
-      | inl here ↦ right_fails_not w b formula (last_depth b tree.answer) (length path) here.fails.place
-          (accepted.places path here.fails.place here.fails.leads) why here.fails.fails.fails
+      | inl here ↦ none_here accepted why path here.fails
       | inr end ↦ end.never accepted.first
     ]
   ]
@@ -85,17 +90,19 @@ module _ {State Note Fact : Type 0} (w : World State Note Fact) (b : Bounds) (fo
     | inr rest ↦ elim rest [
       | inl same ↦
           let place : x.place ≡ y.place = some-one x.place y.place (sym x.leads ∙ ap (λ q. place_at tree q) same ∙ y.leads) in
-          let moved : FailsFirst w b formula (last_depth b tree.answer) (length there) y.place why =
-          subst (λ q. FailsFirst w b formula (last_depth b tree.answer) (length there) q why) place
-          (subst (λ q. FailsFirst w b formula (last_depth b tree.answer) (length q) x.place why) same x.fails) in
-          (first_reason_one w b formula (last_depth b tree.answer) (length there) y.place why other moved y.fails, same)
+          let moved : FailsFirst w b formula (last_depth b tree.answer) (0 + length there) y.place why =
+          subst (λ q. FailsFirst w b formula (last_depth b tree.answer) (0 + length there) q why) place
+          (subst (λ q. FailsFirst w b formula (last_depth b tree.answer) (0 + length q) x.place why) same x.fails) in
+          (first_reason_one w b formula (last_depth b tree.answer) (0 + length there) y.place why other moved y.fails, same)
       | inr late ↦ absurd (x.before there y.place late y.leads other y.fails.fails)
     ]
   ]
 
   -- so two first faults are one
   place_end : (why : Reason) (path : List ℕ) → IsFirstFailing w b formula tree why path → NoneFails w b formula tree → ⊥
-  place_end why path x none = none path x.place x.leads why x.fails.fails
+  place_end why path x none =
+      let flat : 0 + length path ≡ length path = omega arith in
+      none path x.place x.leads why (subst (λ d. Fails w b formula (last_depth b tree.answer) d x.place why) flat x.fails.fails)
 
   module _ (why other : Reason) (path there : List ℕ) where
     from_start : AtStart why path → AtStart other there ⊎ (AtPlace other there ⊎ AtEnd other there) → (why ≡ other) × (path ≡ there)
@@ -123,12 +130,12 @@ module _ {State Note Fact : Type 0} (w : World State Note Fact) (b : Bounds) (fo
     ]
 
   -- What a first fault is made of
-  pub fault_at_place : (why : Reason) (path : List ℕ) → IsAllowedAnswer w b formula tree.answer → IsFirstFailing w b formula tree why path
+  pub fault_at_place : (why : Reason) (path : List ℕ) → IsAllowedAnswer b tree.answer → IsFirstFailing w b formula tree why path
       → IsFirstFault w b formula tree why path
   fault_at_place reason.AnswerNotAllowed path allowed x =
-      absurd (not_allowed_nowhere w b formula (last_depth b tree.answer) (length path) x.place x.fails.fails)
+      absurd (not_allowed_nowhere w b formula (last_depth b tree.answer) (0 + length path) x.place x.fails.fails)
   fault_at_place reason.AnswerNotFirst path allowed x =
-      absurd (not_first_nowhere w b formula (last_depth b tree.answer) (length path) x.place x.fails.fails)
+      absurd (not_first_nowhere w b formula (last_depth b tree.answer) (0 + length path) x.place x.fails.fails)
   fault_at_place reason.WrongDepth path allowed x = (allowed, x)
   fault_at_place reason.SaidToReach path allowed x = (allowed, x)
   fault_at_place reason.SaidToMiss path allowed x = (allowed, x)

@@ -18,7 +18,7 @@ use Rattle.lf_tree.specs.declared.tree.Node.TheOpen.{Node-F}
 use Rattle.lf_certificate.specs.declared.reason.Reason.{Reason}
 use Rattle.lf_certificate.specs.Places.{Place, kid_at, place_from, root_of, place_at}
 use Rattle.lf_certificate.specs.Accepted.{IsRight, IsRightNode, AreRight, last_depth}
-use Rattle.lf_certificate.specs.Faults.{path_is_before, Fails, FailsFirst, FailsFirstFrom, IsFirstFailing, NoneFails}
+use Rattle.lf_certificate.specs.Faults.{path_is_before, Fails, FailsFirst, FailsFirstFrom, NoneFails}
 use Rattle.lf_certificate.proofs.PlacesLemmas.{from-kid}
 use Rattle.lf_certificate.proofs.AllowedLemmas.{some-one, is_branch, edges_of, KidOf, kid_there, through}
 use Rattle.lf_certificate.proofs.ReasonLemmas.{first_below, right_fails_not, right_or_fails}
@@ -182,34 +182,7 @@ module _ {State Note Fact : Type 0} (w : World State Note Fact) (b : Bounds) (fo
   ]
 
 module _ {State Note Fact : Type 0} (w : World State Note Fact) (b : Bounds) (formula : Formula Fact) (tree : Tree) where
-  -- At the root this is the first failing place of the tree,
-  pub failing_at_root : (why : Reason) (path : List ℕ) → FailsFirstFrom w b formula (last_depth b tree.answer) 0 (root_of tree) why path
-      → IsFirstFailing w b formula tree why path
-  failing_at_root why path found =
-      let same : 0 + length path ≡ length path = omega arith in
-      record {
-        place = found.place;
-        leads = found.leads;
-        fails = subst (λ d. FailsFirst w b formula (last_depth b tree.answer) d found.place why) same found.fails;
-        before = λ other q before leads reason fails.
-            let there : length other ≡ 0 + length other = omega arith in
-            found.before other q before leads reason (subst (λ d. Fails w b formula (last_depth b tree.answer) d q reason) there fails);
-      }
-
-  pub failing_from_root : (why : Reason) (path : List ℕ) → IsFirstFailing w b formula tree why path
-      → FailsFirstFrom w b formula (last_depth b tree.answer) 0 (root_of tree) why path
-  failing_from_root why path found =
-      let same : length path ≡ 0 + length path = omega arith in
-      record {
-        place = found.place;
-        leads = found.leads;
-        fails = subst (λ d. FailsFirst w b formula (last_depth b tree.answer) d found.place why) same found.fails;
-        before = λ other q before leads reason fails.
-            let there : 0 + length other ≡ length other = omega arith in
-            found.before other q before leads reason (subst (λ d. Fails w b formula (last_depth b tree.answer) d q reason) there fails);
-      }
-
-  -- and where the root is wholly right, each place is, and none fails
+  -- Where the root is wholly right, each place is, and none fails
   pub places_right : AreRight w b formula (last_depth b tree.answer) 0 (root_of tree) → (path : List ℕ) (p : Place)
       → place_at tree path ≡ Some p → IsRight w b formula (last_depth b tree.answer) (length path) p
   places_right right path p leads = right path p (length path) (omega arith) leads

@@ -49,7 +49,7 @@ module _ {State Note Fact : Type 0} (w : World State Note Fact) (b : Bounds) (fo
     missing_allowed : (faults : List Parts) → MissesIn w b formula tree faults → IsAllowed b faults
     missing_allowed faults m = subst (IsAllowed b) m.same (set_at w b formula tree bounded places m.path m.place m.leads).0
 
-    allowed_answer : (answer : Option (List Parts)) → IsAnswer w b formula answer → IsAllowedAnswer w b formula answer
+    allowed_answer : (answer : Option (List Parts)) → IsAnswer w b formula answer → IsAllowedAnswer b answer
     allowed_answer None found = tt
     allowed_answer (Some answer) found = found.0
 

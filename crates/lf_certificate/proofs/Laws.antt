@@ -16,9 +16,9 @@ use Rattle.lf_tree.specs.declared.tree.Node.TheOpen.{Node-F}
 use Rattle.lf_certificate.specs.declared.reason.Reason.{Reason}
 use Rattle.lf_certificate.specs.declared.reason.Reason.TheVariants as reason
 use Rattle.lf_certificate.specs.Places.{Place, kid_at, root_of, place_at}
-use Rattle.lf_certificate.specs.Accepted.{IsBounded, IsAccepted, IsAnswer, IsAllowedAnswer, IsFirstIn, IsRight, AreRight, MissesIn, MissesFrom}
+use Rattle.lf_certificate.specs.Accepted.{IsBounded, IsAccepted, IsAnswer, IsAllowedAnswer, IsFirstIn, IsRight, AreRight, MissesFrom}
 use Rattle.lf_certificate.specs.Accepted.{Covers, covered_below, last_depth}
-use Rattle.lf_certificate.specs.Faults.{turn_of, LeafFails, Suffices, BranchFails, Fails, FailsFirst, FailsFirstFrom, IsFirstFailing, IsFirstFault}
+use Rattle.lf_certificate.specs.Faults.{turn_of, LeafFails, Suffices, BranchFails, Fails, FailsFirst, FailsFirstFrom, IsFirstFault}
 use Rattle.lf_certificate.specs.Grown.{IsTreeOf}
 use Rattle.lf_certificate.proofs.AnswerLemmas as answers
 use Rattle.lf_certificate.proofs.CoverLemmas as covering
@@ -126,11 +126,11 @@ kid_within = turns.kid_within
 
 module _ {State Note Fact : Type 0} (w : World State Note Fact) (b : Bounds) (formula : Formula Fact) (last depth : ℕ) (p : Place) where
   -- The first reason of a leaf, from what was found before it in turn
-  pub misses_first : (why : Reason) → out-Node p.node ≡ Node-F.Misses → LeafFails w b formula last depth p.faults false why
+  pub misses_first : (why : Reason) → out-Node p.node ≡ Node-F.Misses → LeafFails w formula last depth p.faults false why
       → (turn_of reason.WrongDepth < turn_of why → depth ≡ last) → FailsFirst w b formula last depth p why
   misses_first = turns.misses_first w b formula last depth p
 
-  pub reaches_first : (why : Reason) → out-Node p.node ≡ Node-F.Reaches → LeafFails w b formula last depth p.faults true why
+  pub reaches_first : (why : Reason) → out-Node p.node ≡ Node-F.Reaches → LeafFails w formula last depth p.faults true why
       → (turn_of reason.WrongDepth < turn_of why → depth ≡ last) → FailsFirst w b formula last depth p why
   reaches_first = turns.reaches_first w b formula last depth p
 
@@ -139,7 +139,7 @@ module _ {State Note Fact : Type 0} (w : World State Note Fact) (b : Bounds) (fo
       → BranchFails w b formula last depth p.faults p.excluded reach edges kids why
       → (turn_of reason.WrongDepth < turn_of why → depth < last)
       → (turn_of reason.BranchMisses < turn_of why → reaches w p.faults formula ≡ true)
-      → (turn_of reason.ReachFallsShort < turn_of why → Suffices w b formula p.faults reach)
+      → (turn_of reason.ReachFallsShort < turn_of why → Suffices w formula p.faults reach)
       → (turn_of reason.ReachNotClosed < turn_of why → IsClosed w p.faults reach)
       → (turn_of reason.EdgeMissing < turn_of why → (f : Parts) → IsRequired w p.faults b reach p.excluded f → Contains edges f)
       → (turn_of reason.EdgesDiffer < turn_of why → AreRequired w p.faults b reach p.excluded edges)
@@ -150,47 +150,38 @@ module _ {State Note Fact : Type 0} (w : World State Note Fact) (b : Bounds) (fo
 
 module _ {State Note Fact : Type 0} (w : World State Note Fact) (b : Bounds) (formula : Formula Fact) (last depth : ℕ) (p : Place) where
   -- The sets that miss at the last depth: the place's own,
-  pub misses_here : depth ≡ last → reaches w p.faults formula ≡ false → MissesFrom w b formula last depth p p.faults
+  pub misses_here : depth ≡ last → reaches w p.faults formula ≡ false → MissesFrom w formula last depth p p.faults
   misses_here = missing.misses_here w b formula last depth p
 
   -- those beneath a kid,
-  pub misses_beneath : (kid : Place) (i : ℕ) (faults : List Parts) → kid_at p i ≡ Some kid → MissesFrom w b formula last (depth + 1) kid faults
-      → MissesFrom w b formula last depth p faults
+  pub misses_beneath : (kid : Place) (i : ℕ) (faults : List Parts) → kid_at p i ≡ Some kid → MissesFrom w formula last (depth + 1) kid faults
+      → MissesFrom w formula last depth p faults
   misses_beneath = missing.misses_beneath w b formula last depth p
 
   -- and no other
-  pub cases_misses : (faults : List Parts) → MissesFrom w b formula last depth p faults
+  pub cases_misses : (faults : List Parts) → MissesFrom w formula last depth p faults
       → ((depth ≡ last) × (p.faults ≡ faults) × (reaches w faults formula ≡ false))
-      ⊎ ((i : ℕ) × (kid : Place) × (kid_at p i ≡ Some kid) × MissesFrom w b formula last (depth + 1) kid faults)
+      ⊎ ((i : ℕ) × (kid : Place) × (kid_at p i ≡ Some kid) × MissesFrom w formula last (depth + 1) kid faults)
   cases_misses = missing.cases_misses w b formula last depth p
 
 module _ {State Note Fact : Type 0} (w : World State Note Fact) (b : Bounds) (formula : Formula Fact) (tree : Tree) where
-  -- From the root this is the first failing place of the tree
-  pub failing_iff : (why : Reason) (path : List ℕ)
-      → FailsFirstFrom w b formula (last_depth b tree.answer) 0 (root_of tree) why path ↔ IsFirstFailing w b formula tree why path
-  failing_iff why path = (firsts.failing_at_root w b formula tree why path, firsts.failing_from_root w b formula tree why path)
-
-  -- and these are the sets that miss in the tree,
-  pub misses_iff : (faults : List Parts) → MissesFrom w b formula (last_depth b tree.answer) 0 (root_of tree) faults ↔ MissesIn w b formula tree faults
-  misses_iff faults = (missing.misses_at_root w b formula tree faults, missing.misses_from_root w b formula tree faults)
-
-  -- of which one is the first, or there is none
+  -- Of the sets that miss in a tree one is the first, or there is none
   pub first_in_one : (x y : Option (List Parts)) → IsFirstIn w b formula tree x → IsFirstIn w b formula tree y → x ≡ y
   first_in_one = missing.first_in_one w b formula tree
 
   -- The first fault, or acceptance: by the answer at the start, by the root and all beneath it, by the answer at the end
-  pub fault_at_start : (IsAllowedAnswer w b formula tree.answer → ⊥) → IsFirstFault w b formula tree reason.AnswerNotAllowed []
+  pub fault_at_start : (IsAllowedAnswer b tree.answer → ⊥) → IsFirstFault w b formula tree reason.AnswerNotAllowed []
   fault_at_start = verdicts.fault_at_start w b formula tree
 
-  pub fault_beneath_root : (why : Reason) (path : List ℕ) → IsAllowedAnswer w b formula tree.answer
+  pub fault_beneath_root : (why : Reason) (path : List ℕ) → IsAllowedAnswer b tree.answer
       → FailsFirstFrom w b formula (last_depth b tree.answer) 0 (root_of tree) why path → IsFirstFault w b formula tree why path
   fault_beneath_root = verdicts.fault_beneath_root w b formula tree
 
-  pub fault_at_end : IsAllowedAnswer w b formula tree.answer → AreRight w b formula (last_depth b tree.answer) 0 (root_of tree)
+  pub fault_at_end : IsAllowedAnswer b tree.answer → AreRight w b formula (last_depth b tree.answer) 0 (root_of tree)
       → (IsFirstIn w b formula tree tree.answer → ⊥) → IsFirstFault w b formula tree reason.AnswerNotFirst []
   fault_at_end = verdicts.fault_at_end w b formula tree
 
-  pub accepted_where : IsAllowedAnswer w b formula tree.answer → AreRight w b formula (last_depth b tree.answer) 0 (root_of tree)
+  pub accepted_where : IsAllowedAnswer b tree.answer → AreRight w b formula (last_depth b tree.answer) 0 (root_of tree)
       → IsFirstIn w b formula tree tree.answer → IsAccepted w b formula tree
   accepted_where = verdicts.accepted_where w b formula tree
 

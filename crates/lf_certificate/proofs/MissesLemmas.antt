@@ -10,17 +10,17 @@ use Rattle.lf_sim.specs.Runs.{World}
 use Rattle.lf_outcome.specs.declared.formula.Formula.{Formula}
 use Rattle.lf_outcome.specs.Truth.{reaches}
 use Rattle.lf_tree.specs.declared.tree.Tree.{Tree}
-use Rattle.lf_certificate.specs.Places.{Place, kid_at, place_from, root_of}
-use Rattle.lf_certificate.specs.Accepted.{MissesIn, MissesFrom, IsFirstIn, last_depth}
+use Rattle.lf_certificate.specs.Places.{Place, kid_at, place_from}
+use Rattle.lf_certificate.specs.Accepted.{MissesFrom, IsFirstIn}
 use Rattle.lf_certificate.proofs.PlacesLemmas.{from-kid}
 use Rattle.lf_certificate.proofs.AllowedLemmas.{some-one, through}
 
 module _ {State Note Fact : Type 0} (w : World State Note Fact) (b : Bounds) (formula : Formula Fact) (last depth : ℕ) (p : Place) where
-  pub misses_here : depth ≡ last → reaches w p.faults formula ≡ false → MissesFrom w b formula last depth p p.faults
+  pub misses_here : depth ≡ last → reaches w p.faults formula ≡ false → MissesFrom w formula last depth p p.faults
   misses_here here misses = record { path = []; place = p; leads = refl; here = omega (arith, here); same = refl; misses = misses }
 
-  pub misses_beneath : (kid : Place) (i : ℕ) (faults : List Parts) → kid_at p i ≡ Some kid → MissesFrom w b formula last (depth + 1) kid faults
-      → MissesFrom w b formula last depth p faults
+  pub misses_beneath : (kid : Place) (i : ℕ) (faults : List Parts) → kid_at p i ≡ Some kid → MissesFrom w formula last (depth + 1) kid faults
+      → MissesFrom w formula last depth p faults
   misses_beneath kid i faults is m = record {
     path = i ∷ m.path;
     place = m.place;
@@ -33,7 +33,7 @@ module _ {State Note Fact : Type 0} (w : World State Note Fact) (b : Bounds) (fo
   by_path : (faults : List Parts) (path : List ℕ) (q : Place) → place_from p path ≡ Some q → depth + length path ≡ last → q.faults ≡ faults
       → reaches w faults formula ≡ false
       → ((depth ≡ last) × (p.faults ≡ faults) × (reaches w faults formula ≡ false))
-      ⊎ ((i : ℕ) × (kid : Place) × (kid_at p i ≡ Some kid) × MissesFrom w b formula last (depth + 1) kid faults)
+      ⊎ ((i : ℕ) × (kid : Place) × (kid_at p i ≡ Some kid) × MissesFrom w formula last (depth + 1) kid faults)
   by_path faults [] q leads here same misses =
       let last_here : depth ≡ last = omega (arith, here) in
       inl (last_here, ap (λ r. r.faults) (some-one p q leads) ∙ same, misses)
@@ -42,34 +42,12 @@ module _ {State Note Fact : Type 0} (w : World State Note Fact) (b : Bounds) (fo
       let far : (depth + 1) + length path ≡ last = omega (arith, here) in
       inr (i, t.kid, t.is, record { path = path; place = q; leads = t.leads; here = far; same = same; misses = misses })
 
-  pub cases_misses : (faults : List Parts) → MissesFrom w b formula last depth p faults
+  pub cases_misses : (faults : List Parts) → MissesFrom w formula last depth p faults
       → ((depth ≡ last) × (p.faults ≡ faults) × (reaches w faults formula ≡ false))
-      ⊎ ((i : ℕ) × (kid : Place) × (kid_at p i ≡ Some kid) × MissesFrom w b formula last (depth + 1) kid faults)
+      ⊎ ((i : ℕ) × (kid : Place) × (kid_at p i ≡ Some kid) × MissesFrom w formula last (depth + 1) kid faults)
   cases_misses faults m = by_path faults m.path m.place m.leads m.here m.same m.misses
 
 module _ {State Note Fact : Type 0} (w : World State Note Fact) (b : Bounds) (formula : Formula Fact) (tree : Tree) where
-  pub misses_at_root : (faults : List Parts) → MissesFrom w b formula (last_depth b tree.answer) 0 (root_of tree) faults
-      → MissesIn w b formula tree faults
-  misses_at_root faults m = record {
-    path = m.path;
-    place = m.place;
-    leads = m.leads;
-    last = omega (arith, m.here);
-    same = m.same;
-    misses = m.misses;
-  }
-
-  pub misses_from_root : (faults : List Parts) → MissesIn w b formula tree faults
-      → MissesFrom w b formula (last_depth b tree.answer) 0 (root_of tree) faults
-  misses_from_root faults m = record {
-    path = m.path;
-    place = m.place;
-    leads = m.leads;
-    here = omega (arith, m.last);
-    same = m.same;
-    misses = m.misses;
-  }
-
   -- the first is one
   pub first_in_one : (x y : Option (List Parts)) → IsFirstIn w b formula tree x → IsFirstIn w b formula tree y → x ≡ y
   first_in_one None None h k = refl

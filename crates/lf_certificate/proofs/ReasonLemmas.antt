@@ -14,7 +14,8 @@ use Rattle.lf_sim.specs.Runs.{World}
 use Rattle.lf_outcome.specs.declared.formula.Formula.{Formula}
 use Rattle.lf_outcome.specs.Truth.{reaches, reaches_within}
 use Rattle.lf_outcome.proofs.Laws.{reaches-from_within}
-use Rattle.lf_cone.specs.Cones.{IsReachOf, IsClosed, IsRequired, AreRequired}
+use Rattle.lf_outcome.specs.Reaches.{IsReachOf}
+use Rattle.lf_cone.specs.Cones.{IsClosed, IsRequired, AreRequired}
 use Rattle.lf_cone.proofs.Laws.{closed_or_not, form_or_not, required_exist, required_one}
 use Rattle.lf_tree.specs.declared.tree.Node.{Node, out-Node}
 use Rattle.lf_tree.specs.declared.tree.Node.TheOpen.{Node-F}
@@ -147,13 +148,13 @@ module _ {State Note Fact : Type 0} (w : World State Note Fact) (b : Bounds) (fo
         | inr all ↦ inr (λ h. h.2 (all h.0 ((wanted.1.each h.0).1 h.1)))
       ]
 
-  suffices_or_not : (faults : List Parts) (reach : List ℕ) → Decided (Suffices w b formula faults reach)
+  suffices_or_not : (faults : List Parts) (reach : List ℕ) → Decided (Suffices w formula faults reach)
   suffices_or_not faults reach =
       decide_both (IsReachOf w.rules.nodes w.horizon reach) (reaches_within w faults reach formula ≡ true)
       (form_or_not w.rules.nodes w.horizon reach) (decide_is (reaches_within w faults reach formula) true)
 
   -- whether a leaf fails by a reason is decided,
-  leaf_or_not : (last depth : ℕ) (faults : List Parts) (says : Bool) (why : Reason) → Decided (LeafFails w b formula last depth faults says why)
+  leaf_or_not : (last depth : ℕ) (faults : List Parts) (says : Bool) (why : Reason) → Decided (LeafFails w formula last depth faults says why)
   leaf_or_not last depth faults says reason.WrongDepth = decide_apart depth last
   leaf_or_not last depth faults says reason.SaidToReach =
       decide_both (says ≡ true) (reaches w faults formula ≡ false) (decide_is says true) (decide_is (reaches w faults formula) false)
@@ -174,7 +175,7 @@ module _ {State Note Fact : Type 0} (w : World State Note Fact) (b : Bounds) (fo
   branch_or_not last depth faults excluded reach edges kids reason.WrongDepth = decide_le last depth
   branch_or_not last depth faults excluded reach edges kids reason.BranchMisses = decide_is (reaches w faults formula) false
   branch_or_not last depth faults excluded reach edges kids reason.ReachFallsShort =
-      decide_not (Suffices w b formula faults reach) (suffices_or_not faults reach)
+      decide_not (Suffices w formula faults reach) (suffices_or_not faults reach)
   branch_or_not last depth faults excluded reach edges kids reason.ReachNotClosed =
       decide_not (IsClosed w faults reach) (closed_or_not w faults reach)
   branch_or_not last depth faults excluded reach edges kids reason.EdgeMissing = missing_or_not faults reach excluded edges
@@ -198,7 +199,7 @@ module _ {State Note Fact : Type 0} (w : World State Note Fact) (b : Bounds) (fo
 
   -- A right place doesn't fail,
   leaf_right : (last depth : ℕ) (faults : List Parts) (says : Bool) → IsRightLeaf w b formula last depth faults says
-      → (why : Reason) → LeafFails w b formula last depth faults says why → ⊥
+      → (why : Reason) → LeafFails w formula last depth faults says why → ⊥
   leaf_right last depth faults says right reason.WrongDepth h = h right.here
   leaf_right last depth faults says right reason.SaidToReach h = not_both_ways (reaches w faults formula) (right.truth ∙ h.0) h.1
   leaf_right last depth faults says right reason.SaidToMiss h = not_both_ways (reaches w faults formula) h.1 (right.truth ∙ h.0)
@@ -252,7 +253,7 @@ module _ {State Note Fact : Type 0} (w : World State Note Fact) (b : Bounds) (fo
   same_where_not_apart : (m n : ℕ) → ((m ≡ n → ⊥) → ⊥) → m ≡ n
   same_where_not_apart m n never = elim (cases_eq m n) [ inl same ↦ same | inr other ↦ absurd (never other) ]
 
-  leaf_none : (last depth : ℕ) (faults : List Parts) (says : Bool) → ((why : Reason) → LeafFails w b formula last depth faults says why → ⊥)
+  leaf_none : (last depth : ℕ) (faults : List Parts) (says : Bool) → ((why : Reason) → LeafFails w formula last depth faults says why → ⊥)
       → IsRightLeaf w b formula last depth faults says
   leaf_none last depth faults says none = record {
     here = same_where_not_apart depth last (none reason.WrongDepth);
@@ -270,7 +271,7 @@ module _ {State Note Fact : Type 0} (w : World State Note Fact) (b : Bounds) (fo
   branch_none last depth faults excluded reach edges kids none = record {
     above = elim (cases_lt depth last) [ inl above ↦ above | inr below ↦ absurd (none reason.WrongDepth below) ];
     closed = not_false (IsClosed w faults reach) (closed_or_not w faults reach) (none reason.ReachNotClosed);
-    within = (not_false (Suffices w b formula faults reach) (suffices_or_not faults reach) (none reason.ReachFallsShort)).1;
+    within = (not_false (Suffices w formula faults reach) (suffices_or_not faults reach) (none reason.ReachFallsShort)).1;
     required = not_false (AreRequired w faults b reach excluded edges) (required_are_or_not faults reach excluded edges) (none reason.EdgesDiffer);
     each = same_where_not_apart (length kids) (length edges) (none reason.KidsDiffer);
   }

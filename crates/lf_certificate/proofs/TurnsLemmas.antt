@@ -34,7 +34,7 @@ kid_within p kid reach edges kids i opened is =
 
 module _ {State Note Fact : Type 0} (w : World State Note Fact) (b : Bounds) (formula : Formula Fact) (last depth : ℕ) where
   module _ (faults : List Parts) (says : Bool) where
-    leaf_last : (why : Reason) → LeafFails w b formula last depth faults says why → turn_of why ≤ 2
+    leaf_last : (why : Reason) → LeafFails w formula last depth faults says why → turn_of why ≤ 2
     leaf_last reason.WrongDepth h = omega arith
     leaf_last reason.SaidToReach h = omega arith
     leaf_last reason.SaidToMiss h = omega arith
@@ -47,7 +47,7 @@ module _ {State Note Fact : Type 0} (w : World State Note Fact) (b : Bounds) (fo
     leaf_last reason.AnswerNotFirst h = absurd h
     leaf_last reason.BranchMisses h = absurd h
 
-    leaf_says : (why : Reason) → LeafFails w b formula last depth faults says why → 1 < turn_of why → says ≡ false
+    leaf_says : (why : Reason) → LeafFails w formula last depth faults says why → 1 < turn_of why → says ≡ false
     leaf_says reason.WrongDepth h late = absurd (omega (arith, late))
     leaf_says reason.SaidToReach h late = absurd (omega (arith, late))
     leaf_says reason.SaidToMiss h late = h.0
@@ -60,8 +60,8 @@ module _ {State Note Fact : Type 0} (w : World State Note Fact) (b : Bounds) (fo
     leaf_says reason.AnswerNotFirst h late = absurd h
     leaf_says reason.BranchMisses h late = absurd h
 
-    pub leaf_before : (why : Reason) → LeafFails w b formula last depth faults says why → (turn_of reason.WrongDepth < turn_of why → depth ≡ last)
-        → (other : Reason) → turn_of other < turn_of why → LeafFails w b formula last depth faults says other → ⊥
+    pub leaf_before : (why : Reason) → LeafFails w formula last depth faults says why → (turn_of reason.WrongDepth < turn_of why → depth ≡ last)
+        → (other : Reason) → turn_of other < turn_of why → LeafFails w formula last depth faults says other → ⊥
     leaf_before why fails here reason.WrongDepth early h = h (here early)
     leaf_before why fails here reason.SaidToReach early h = both_ways says (leaf_says why fails early) h.0
     leaf_before why fails here reason.SaidToMiss early h = omega (arith, early, leaf_last why fails)
@@ -92,7 +92,7 @@ module _ {State Note Fact : Type 0} (w : World State Note Fact) (b : Bounds) (fo
     pub record Passed (why : Reason) : Type 0 where
       pub above : turn_of reason.WrongDepth < turn_of why → depth < last
       pub reaching : turn_of reason.BranchMisses < turn_of why → reaches w faults formula ≡ true
-      pub suffices : turn_of reason.ReachFallsShort < turn_of why → Suffices w b formula faults reach
+      pub suffices : turn_of reason.ReachFallsShort < turn_of why → Suffices w formula faults reach
       pub closed : turn_of reason.ReachNotClosed < turn_of why → IsClosed w faults reach
       pub tried : turn_of reason.EdgeMissing < turn_of why → (f : Parts) → IsRequired w faults b reach excluded f → Contains edges f
       pub required : turn_of reason.EdgesDiffer < turn_of why → AreRequired w faults b reach excluded edges
@@ -120,11 +120,11 @@ module _ {State Note Fact : Type 0} (w : World State Note Fact) (b : Bounds) (fo
     before = λ other early h. before other early (subst (λ z. NodeFails w b formula last depth p.faults p.excluded z other) opened h);
   }
 
-  pub misses_first : (p : Place) (why : Reason) → out-Node p.node ≡ Node-F.Misses → LeafFails w b formula last depth p.faults false why
+  pub misses_first : (p : Place) (why : Reason) → out-Node p.node ≡ Node-F.Misses → LeafFails w formula last depth p.faults false why
       → (turn_of reason.WrongDepth < turn_of why → depth ≡ last) → FailsFirst w b formula last depth p why
   misses_first p why opened fails here = at_node p Node-F.Misses why opened fails (leaf_before p.faults false why fails here)
 
-  pub reaches_first : (p : Place) (why : Reason) → out-Node p.node ≡ Node-F.Reaches → LeafFails w b formula last depth p.faults true why
+  pub reaches_first : (p : Place) (why : Reason) → out-Node p.node ≡ Node-F.Reaches → LeafFails w formula last depth p.faults true why
       → (turn_of reason.WrongDepth < turn_of why → depth ≡ last) → FailsFirst w b formula last depth p why
   reaches_first p why opened fails here = at_node p Node-F.Reaches why opened fails (leaf_before p.faults true why fails here)
 

@@ -11,24 +11,24 @@ use Rattle.lf_certificate.specs.Places.{root_of}
 use Rattle.lf_certificate.specs.Accepted.{IsAccepted, IsAllowedAnswer, IsFirstIn, AreRight, last_depth}
 use Rattle.lf_certificate.specs.Faults.{FailsFirstFrom, IsFirstFault}
 use Rattle.lf_certificate.proofs.AnswersLemmas.{allowed_answer_or_not, first_in_or_not}
-use Rattle.lf_certificate.proofs.FirstsLemmas.{right_or_fails_from, failing_at_root, places_right, none_fails}
+use Rattle.lf_certificate.proofs.FirstsLemmas.{right_or_fails_from, places_right, none_fails}
 use Rattle.lf_certificate.proofs.FaultsLemmas.{fault_at_place, accepted_has_none}
 
 module _ {State Note Fact : Type 0} (w : World State Note Fact) (b : Bounds) (formula : Formula Fact) (tree : Tree) where
   -- The verdict, by what is wrong with the answer at the start, with the root and all beneath it, with the answer at the end
-  pub fault_at_start : (IsAllowedAnswer w b formula tree.answer → ⊥) → IsFirstFault w b formula tree reason.AnswerNotAllowed []
+  pub fault_at_start : (IsAllowedAnswer b tree.answer → ⊥) → IsFirstFault w b formula tree reason.AnswerNotAllowed []
   fault_at_start never = (refl, never)
 
-  pub fault_beneath_root : (why : Reason) (path : List ℕ) → IsAllowedAnswer w b formula tree.answer
+  pub fault_beneath_root : (why : Reason) (path : List ℕ) → IsAllowedAnswer b tree.answer
       → FailsFirstFrom w b formula (last_depth b tree.answer) 0 (root_of tree) why path → IsFirstFault w b formula tree why path
   fault_beneath_root why path allowed found =
-      fault_at_place w b formula tree why path allowed (failing_at_root w b formula tree why path found)
+      fault_at_place w b formula tree why path allowed found
 
-  pub fault_at_end : IsAllowedAnswer w b formula tree.answer → AreRight w b formula (last_depth b tree.answer) 0 (root_of tree)
+  pub fault_at_end : IsAllowedAnswer b tree.answer → AreRight w b formula (last_depth b tree.answer) 0 (root_of tree)
       → (IsFirstIn w b formula tree tree.answer → ⊥) → IsFirstFault w b formula tree reason.AnswerNotFirst []
   fault_at_end allowed right never = (refl, allowed, none_fails w b formula tree right, never)
 
-  pub accepted_where : IsAllowedAnswer w b formula tree.answer → AreRight w b formula (last_depth b tree.answer) 0 (root_of tree)
+  pub accepted_where : IsAllowedAnswer b tree.answer → AreRight w b formula (last_depth b tree.answer) 0 (root_of tree)
       → IsFirstIn w b formula tree tree.answer → IsAccepted w b formula tree
   accepted_where allowed right first = record { allowed = allowed; places = places_right w b formula tree right; first = first }
 

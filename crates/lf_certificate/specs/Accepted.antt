@@ -12,7 +12,7 @@ use Rattle.lf_cone.specs.Cones.{IsClosed, AreRequired}
 use Rattle.lf_tree.specs.declared.tree.Tree.{Tree}
 use Rattle.lf_tree.specs.declared.tree.Node.{Node, out-Node}
 use Rattle.lf_tree.specs.declared.tree.Node.TheOpen.{Node-F}
-use Rattle.lf_certificate.specs.Places.{Place, place_from, place_at}
+use Rattle.lf_certificate.specs.Places.{Place, place_from, place_at, root_of}
 
 -- the bounds are within the limits, and are those of the world
 pub record IsBounded {State Note Fact : Type 0} (w : World State Note Fact) (b : Bounds) : Type 0 where
@@ -30,6 +30,21 @@ last_depth b (Some answer) = length answer
 abbrev pub covered_below : Bounds → Option (List Parts) → ℕ
 covered_below b None = b.budget + 1
 covered_below b (Some answer) = length answer
+
+-- the answer, if there is one, is an allowed set
+abbrev pub IsAllowedAnswer : Bounds → Option (List Parts) → Type 0
+IsAllowedAnswer b None = Unit {0}
+IsAllowedAnswer b (Some answer) = IsAllowed b answer
+
+module _ {State Note Fact : Type 0} (w : World State Note Fact) (formula : Formula Fact) where
+  -- at a place so far down or beneath it the set stands at the last depth, and its run misses
+  pub record MissesFrom (last depth : ℕ) (p : Place) (faults : List Parts) : Type 0 where
+    pub path : List ℕ
+    pub place : Place
+    pub leads : place_from p path ≡ Some place
+    pub here : depth + length path ≡ last
+    pub same : place.faults ≡ faults
+    pub misses : reaches w faults formula ≡ false
 
 module _ {State Note Fact : Type 0} (w : World State Note Fact) (b : Bounds) (formula : Formula Fact) where
   -- the answer: the first, in the order of sets, of the allowed sets that miss, or none where no allowed set misses
@@ -70,22 +85,8 @@ module _ {State Note Fact : Type 0} (w : World State Note Fact) (b : Bounds) (fo
   AreRight last depth p = (path : List ℕ) (q : Place) (at : ℕ) → at ≡ depth + length path → place_from p path ≡ Some q → IsRight last at q
 
   -- the set stands in the tree at the last depth, and its run misses
-  pub record MissesIn (tree : Tree) (faults : List Parts) : Type 0 where
-    pub path : List ℕ
-    pub place : Place
-    pub leads : place_at tree path ≡ Some place
-    pub last : length path ≡ last_depth b tree.answer
-    pub same : place.faults ≡ faults
-    pub misses : reaches w faults formula ≡ false
-
-  -- the same at a place so far down or beneath it
-  pub record MissesFrom (last depth : ℕ) (p : Place) (faults : List Parts) : Type 0 where
-    pub path : List ℕ
-    pub place : Place
-    pub leads : place_from p path ≡ Some place
-    pub here : depth + length path ≡ last
-    pub same : place.faults ≡ faults
-    pub misses : reaches w faults formula ≡ false
+  abbrev pub MissesIn : Tree → List Parts → Type 0
+  MissesIn tree = MissesFrom w formula (last_depth b tree.answer) 0 (root_of tree)
 
   -- the first, in the order of sets, of the sets at the last depth that miss, or none where none does
   abbrev pub IsFirstIn : Tree → Option (List Parts) → Type 0
@@ -94,13 +95,8 @@ module _ {State Note Fact : Type 0} (w : World State Note Fact) (b : Bounds) (fo
       ((faults : List Parts) → ¬ MissesIn tree faults)
       (λ found. MissesIn tree found × ((faults : List Parts) → MissesIn tree faults → set_is_before faults found ≡ false))
 
-  -- the answer, if there is one, is an allowed set
-  abbrev pub IsAllowedAnswer : Option (List Parts) → Type 0
-  IsAllowedAnswer None = Unit {0}
-  IsAllowedAnswer (Some answer) = IsAllowed b answer
-
   -- the tree is accepted: each of its places is right, and its answer is the first of the sets at the last depth that miss
   pub record IsAccepted (tree : Tree) : Type 0 where
-    pub allowed : IsAllowedAnswer tree.answer
+    pub allowed : IsAllowedAnswer b tree.answer
     pub places : (path : List ℕ) (p : Place) → place_at tree path ≡ Some p → IsRight (last_depth b tree.answer) (length path) p
     pub first : IsFirstIn tree tree.answer

@@ -8,13 +8,14 @@ use Rattle.lf_faults.specs.declared.spec.Bounds.{Bounds}
 use Rattle.lf_sim.specs.Runs.{World}
 use Rattle.lf_outcome.specs.declared.formula.Formula.{Formula}
 use Rattle.lf_outcome.specs.Truth.{reaches, reaches_within}
-use Rattle.lf_cone.specs.Cones.{IsReachOf, IsClosed, IsRequired, AreRequired}
+use Rattle.lf_outcome.specs.Reaches.{IsReachOf}
+use Rattle.lf_cone.specs.Cones.{IsClosed, IsRequired, AreRequired}
 use Rattle.lf_tree.specs.declared.tree.Tree.{Tree}
 use Rattle.lf_tree.specs.declared.tree.Node.{Node, out-Node}
 use Rattle.lf_tree.specs.declared.tree.Node.TheOpen.{Node-F}
 use Rattle.lf_certificate.specs.declared.reason.Reason.{Reason}
 use Rattle.lf_certificate.specs.declared.reason.Reason.TheVariants as reason
-use Rattle.lf_certificate.specs.Places.{Place, place_from, place_at}
+use Rattle.lf_certificate.specs.Places.{Place, place_from, place_at, root_of}
 use Rattle.lf_certificate.specs.Accepted.{last_depth, IsAllowedAnswer, IsFirstIn}
 
 -- the numbers of the reasons
@@ -49,7 +50,7 @@ turn_of reason.AnswerNotFirst = 10
 abbrev pub path_is_before : List ℕ → List ℕ → Bool
 path_is_before p q = is_lt (slice_cmp nat_cmp p q)
 
-module _ {State Note Fact : Type 0} (w : World State Note Fact) (b : Bounds) (formula : Formula Fact) where
+module _ {State Note Fact : Type 0} (w : World State Note Fact) (formula : Formula Fact) where
   -- what may be wrong with a leaf that says whether its set reaches
   abbrev pub LeafFails : ℕ → ℕ → List Parts → Bool → Reason → Type 0
   LeafFails last depth faults says reason.WrongDepth = depth ≢ last
@@ -68,11 +69,12 @@ module _ {State Note Fact : Type 0} (w : World State Note Fact) (b : Bounds) (fo
   abbrev pub Suffices : List Parts → List ℕ → Type 0
   Suffices faults reach = IsReachOf w.rules.nodes w.horizon reach × (reaches_within w faults reach formula ≡ true)
 
+module _ {State Note Fact : Type 0} (w : World State Note Fact) (b : Bounds) (formula : Formula Fact) where
   -- what may be wrong with a branch
   abbrev pub BranchFails : ℕ → ℕ → List Parts → List Parts → List ℕ → List Parts → List Node → Reason → Type 0
   BranchFails last depth faults excluded reach edges kids reason.WrongDepth = last ≤ depth
   BranchFails last depth faults excluded reach edges kids reason.BranchMisses = reaches w faults formula ≡ false
-  BranchFails last depth faults excluded reach edges kids reason.ReachFallsShort = ¬ Suffices faults reach
+  BranchFails last depth faults excluded reach edges kids reason.ReachFallsShort = ¬ Suffices w formula faults reach
   BranchFails last depth faults excluded reach edges kids reason.ReachNotClosed = ¬ IsClosed w faults reach
   BranchFails last depth faults excluded reach edges kids reason.EdgeMissing =
       (f : Parts) × IsRequired w faults b reach excluded f × (¬ Contains edges f)
@@ -84,8 +86,8 @@ module _ {State Note Fact : Type 0} (w : World State Note Fact) (b : Bounds) (fo
   BranchFails last depth faults excluded reach edges kids reason.AnswerNotFirst = ⊥
 
   abbrev pub NodeFails : ℕ → ℕ → List Parts → List Parts → Node-F Node → Reason → Type 0
-  NodeFails last depth faults excluded Node-F.Misses why = LeafFails last depth faults false why
-  NodeFails last depth faults excluded Node-F.Reaches why = LeafFails last depth faults true why
+  NodeFails last depth faults excluded Node-F.Misses why = LeafFails w formula last depth faults false why
+  NodeFails last depth faults excluded Node-F.Reaches why = LeafFails w formula last depth faults true why
   NodeFails last depth faults excluded (Node-F.Branch reach edges kids) why = BranchFails last depth faults excluded reach edges kids why
 
   -- what stands at a place so far down fails by this reason
@@ -105,13 +107,9 @@ module _ {State Note Fact : Type 0} (w : World State Note Fact) (b : Bounds) (fo
     pub before : (other : List ℕ) (q : Place) → path_is_before other path ≡ true → place_from p other ≡ Some q
         → (reason : Reason) → ¬ Fails last (depth + length other) q reason
 
-  -- the first place of a tree that fails, and the first reason by which it does
-  pub record IsFirstFailing (tree : Tree) (why : Reason) (path : List ℕ) : Type 0 where
-    pub place : Place
-    pub leads : place_at tree path ≡ Some place
-    pub fails : FailsFirst (last_depth b tree.answer) (length path) place why
-    pub before : (other : List ℕ) (p : Place) → path_is_before other path ≡ true → place_at tree other ≡ Some p
-        → (reason : Reason) → ¬ Fails (last_depth b tree.answer) (length other) p reason
+  -- the path to the first place of a tree that fails, and the first reason by which it does
+  abbrev pub IsFirstFailing : Tree → Reason → List ℕ → Type 0
+  IsFirstFailing tree = FailsFirstFrom (last_depth b tree.answer) 0 (root_of tree)
 
   -- no place fails
   abbrev pub NoneFails : Tree → Type 0
@@ -121,15 +119,15 @@ module _ {State Note Fact : Type 0} (w : World State Note Fact) (b : Bounds) (fo
   -- the first fault of a tree, with the path to its place: first of all an answer that isn't allowed, then what fails at a
   -- place, last of all an answer that isn't the first of the sets that miss. The first and the last stand at the root
   abbrev pub IsFirstFault : Tree → Reason → List ℕ → Type 0
-  IsFirstFault tree reason.AnswerNotAllowed path = (path ≡ []) × (¬ IsAllowedAnswer w b formula tree.answer)
+  IsFirstFault tree reason.AnswerNotAllowed path = (path ≡ []) × (¬ IsAllowedAnswer b tree.answer)
   IsFirstFault tree reason.AnswerNotFirst path =
-      (path ≡ []) × IsAllowedAnswer w b formula tree.answer × NoneFails tree × (¬ IsFirstIn w b formula tree tree.answer)
-  IsFirstFault tree reason.WrongDepth path = IsAllowedAnswer w b formula tree.answer × IsFirstFailing tree reason.WrongDepth path
-  IsFirstFault tree reason.SaidToReach path = IsAllowedAnswer w b formula tree.answer × IsFirstFailing tree reason.SaidToReach path
-  IsFirstFault tree reason.SaidToMiss path = IsAllowedAnswer w b formula tree.answer × IsFirstFailing tree reason.SaidToMiss path
-  IsFirstFault tree reason.BranchMisses path = IsAllowedAnswer w b formula tree.answer × IsFirstFailing tree reason.BranchMisses path
-  IsFirstFault tree reason.ReachFallsShort path = IsAllowedAnswer w b formula tree.answer × IsFirstFailing tree reason.ReachFallsShort path
-  IsFirstFault tree reason.ReachNotClosed path = IsAllowedAnswer w b formula tree.answer × IsFirstFailing tree reason.ReachNotClosed path
-  IsFirstFault tree reason.EdgeMissing path = IsAllowedAnswer w b formula tree.answer × IsFirstFailing tree reason.EdgeMissing path
-  IsFirstFault tree reason.EdgesDiffer path = IsAllowedAnswer w b formula tree.answer × IsFirstFailing tree reason.EdgesDiffer path
-  IsFirstFault tree reason.KidsDiffer path = IsAllowedAnswer w b formula tree.answer × IsFirstFailing tree reason.KidsDiffer path
+      (path ≡ []) × IsAllowedAnswer b tree.answer × NoneFails tree × (¬ IsFirstIn w b formula tree tree.answer)
+  IsFirstFault tree reason.WrongDepth path = IsAllowedAnswer b tree.answer × IsFirstFailing tree reason.WrongDepth path
+  IsFirstFault tree reason.SaidToReach path = IsAllowedAnswer b tree.answer × IsFirstFailing tree reason.SaidToReach path
+  IsFirstFault tree reason.SaidToMiss path = IsAllowedAnswer b tree.answer × IsFirstFailing tree reason.SaidToMiss path
+  IsFirstFault tree reason.BranchMisses path = IsAllowedAnswer b tree.answer × IsFirstFailing tree reason.BranchMisses path
+  IsFirstFault tree reason.ReachFallsShort path = IsAllowedAnswer b tree.answer × IsFirstFailing tree reason.ReachFallsShort path
+  IsFirstFault tree reason.ReachNotClosed path = IsAllowedAnswer b tree.answer × IsFirstFailing tree reason.ReachNotClosed path
+  IsFirstFault tree reason.EdgeMissing path = IsAllowedAnswer b tree.answer × IsFirstFailing tree reason.EdgeMissing path
+  IsFirstFault tree reason.EdgesDiffer path = IsAllowedAnswer b tree.answer × IsFirstFailing tree reason.EdgesDiffer path
+  IsFirstFault tree reason.KidsDiffer path = IsAllowedAnswer b tree.answer × IsFirstFailing tree reason.KidsDiffer path

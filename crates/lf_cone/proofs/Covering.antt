@@ -9,7 +9,8 @@ use Rattle.lf_sim.specs.Runs.{World}
 use Rattle.lf_sim.proofs.Laws.{IsRunning-up}
 use Rattle.lf_outcome.specs.declared.point.Point.{Point}
 use Rattle.lf_outcome.specs.Evidence.{Covers, AreUp}
-use Rattle.lf_cone.specs.Cones.{IsReachOf, IsAtMost}
+use Rattle.lf_outcome.specs.Reaches.{IsReachOf}
+use Rattle.lf_cone.specs.Cones.{IsAtMost}
 use Rattle.lf_cone.specs.Sweeps.{IsRaised, SomeBelow, PointAt, AreInside}
 use Rattle.lf_cone.proofs.Sweeping.{raised-more, raised-same}
 

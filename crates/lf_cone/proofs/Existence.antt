@@ -17,7 +17,8 @@ use Rattle.lf_faults.proofs.Laws.{in_or_not, allowed_or_not, in_allowed-admitted
 use Rattle.lf_sim.specs.Runs.{World, each_below, is_up, sent}
 use Rattle.lf_sim.proofs.Laws.{IsRunning-up}
 use Rattle.lf_outcome.specs.declared.point.Point.{Point}
-use Rattle.lf_cone.specs.Cones.{IsReachOf, CanHear, IsHeard, IsClosed, IsSharp, IsLive, Supports, IsRequired, AreRequired}
+use Rattle.lf_outcome.specs.Reaches.{IsReachOf}
+use Rattle.lf_cone.specs.Cones.{CanHear, IsHeard, IsClosed, IsSharp, IsLive, Supports, IsRequired, AreRequired}
 use Rattle.lf_cone.specs.Sweeps.{AreInside, KeepsTo}
 use Rattle.lf_cone.proofs.Covering.{start-form}
 use Rattle.lf_cone.proofs.HearingLemmas.{hearer, speaker, closed-keeps, sharp-least}

@@ -17,7 +17,8 @@ use Rattle.std.proofs.lemmas.List.Elements.{Contains-push, Contains-push_cases, 
 use Rattle.lf_faults.specs.declared.fault.Parts.{Parts}
 use Rattle.lf_faults.specs.declared.fault.Parts.TheVariants.{Omit, Crash, Pause}
 use Rattle.lf_faults.specs.Faults.{IsFault, IsAscending, is_before, step_of, rank_of, node_of, receiver_of}
-use Rattle.lf_cone.specs.Places.{place_in_step, place_of, IsGathered, IsMarked, AreMarks}
+use Rattle.lf_faults.proofs.Laws.{not_itself, not_both, first-before}
+use Rattle.lf_cone.specs.Places.{row_in_step, column_of, place_at, place_of, IsGathered, IsMarked, AreMarks}
 
 -- a comparison by its first difference
 first-less : (a b : ℕ) (rest : Ordering) → a < b → is_lt (ordering_then (nat_cmp a b) rest) ≡ true
@@ -28,6 +29,10 @@ first-same a b rest e h = ap (λ o. is_lt (ordering_then o rest)) (sym (nat_cmp_
 
 last-less : (a b : ℕ) → a < b → is_lt (nat_cmp a b) ≡ true
 last-less a b h = ap is_lt (sym (nat_cmp_is a b Less h))
+
+-- its place among those of its step
+abbrev place_in_step : Parts → ℕ
+place_in_step f = place_at (row_in_step f) (column_of f)
 
 small-place : (f : Parts) → IsFault f → place_in_step f < 80
 small-place (Omit n m t) h = omega (arith, h.0, h.1)
@@ -88,6 +93,32 @@ place-one f g h k e =
     let start = first-step f h in
     let begin = first-step g k in
     same-in_step f g h k (omega arith) (omega arith)
+
+-- a fault before another has a place before the other's
+before-place : (f g : Parts) → IsFault f → IsFault g → is_before f g ≡ true → place_of f < place_of g
+before-place f g h k before = elim (cases_lt (place_of f) (place_of g)) [
+  | inl less ↦ less
+  | inr more ↦ elim (cases_lt (place_of g) (place_of f)) [
+    | inl after ↦ absurd (not_both f g before (place-before g f k h after))
+    | inr least ↦
+        let same : f ≡ g = place-one f g h k (omega (arith, more, least)) in
+        absurd (not_itself f (subst (λ x. is_before f x ≡ true) (sym same) before))
+  ]
+]
+
+-- so faults in order, at places from one on and before another, are no more than these places
+pub few-places : (fs : List Parts) (low high : ℕ) → IsAscending fs
+    → ((f : Parts) → Contains fs f → IsFault f × (low ≤ place_of f) × (place_of f < high)) → low ≤ high → length fs + low ≤ high
+few-places [] low high up all start = let none : length {A = Parts} [] ≡ 0 = refl in omega (arith, none, start)
+few-places (f ∷ fs) low high up all start =
+    let here = all f (0, omega arith, refl) in
+    let rest = few-places fs (place_of f + 1) high up.1
+    (λ g c.
+    let there = all g (suc c.0, omega (arith, c.1), c.2) in
+    let after : place_of f < place_of g = before-place f g here.0 there.0 (first-before f fs up g c) in
+    (there.0, omega (arith, after), there.2))
+    (omega (arith, here.2)) in
+    omega (arith, rest, here.1)
 
 -- one fault more, after all others
 each-push : (P : Parts → Type 0) (fs : List Parts) (f : Parts) → AllByRecursion P fs → P f → AllByRecursion P (fs ++ f ∷ [])
@@ -214,7 +245,7 @@ in-marked faults rows marks f is k e c = subst (IsMarked rows) (sym e) ((marks f
 
 -- a bit of a row is a place's
 pub bit-place : (rows : List ℕ) (r c : ℕ) → c < 8
-    → bit_at (get_or rows ((r * 8 + c) / 8) 0) ((r * 8 + c) % 8) ≡ bit_at (get_or rows r 0) c
+    → bit_at (get_or rows (place_at r c / 8) 0) (place_at r c % 8) ≡ bit_at (get_or rows r 0) c
 bit-place rows r c column =
     let row : (r * 8 + c) / 8 ≡ r = omega arith in
     let at : (r * 8 + c) % 8 ≡ c = omega arith in
@@ -222,7 +253,7 @@ bit-place rows r c column =
 
 -- what is sent and not marked
 pub open-bit : (rows : List ℕ) (sent r c : ℕ) → c < 8 → get_or rows r 0 < 256
-    → (bit_at (bit_and sent (bit_not w8 (get_or rows r 0))) c ≡ 1) ↔ ((bit_at sent c ≡ 1) × ¬ IsMarked rows (r * 8 + c))
+    → (bit_at (bit_and sent (bit_not w8 (get_or rows r 0))) c ≡ 1) ↔ ((bit_at sent c ≡ 1) × ¬ IsMarked rows (place_at r c))
 open-bit rows sent r c column byte =
     let both = bit_at_and sent (bit_not w8 (get_or rows r 0)) c in
     let other = bit_at_not w8 (get_or rows r 0) c byte column in

@@ -7,7 +7,8 @@ use Rattle.std.proofs.lemmas.List.{get_or-set_other, get_or-set_same, length-rep
 use Rattle.std.proofs.Math.ListN.{length-set}
 use Rattle.lf_list.proofs.Laws.{Decided, decide_both, decide_le, decide_apart, decide_some_below}
 use Rattle.lf_outcome.specs.declared.point.Point.{Point}
-use Rattle.lf_cone.specs.Cones.{IsReachOf, IsAtMost, IsCone}
+use Rattle.lf_outcome.specs.Reaches.{IsReachOf}
+use Rattle.lf_cone.specs.Cones.{IsAtMost, IsCone}
 use Rattle.lf_cone.specs.Sweeps.{IsRaised, SomeBelow, PointAt, AreInside, KeepsTo, IsLeastFrom, RestsByLeast}
 use Rattle.lf_cone.proofs.Sweeping.{raised-none, raised-one}
 use Rattle.lf_cone.proofs.Covering.{blank, point_in, covering_more, start-form}

@@ -1,18 +1,16 @@
 -- What a node hears, slot by slot.
-use Rattle.std.proofs.Common.{◌≡◌, ℕ, suc, [], ◌∷◌, inl, inr, replicate, ◌<◌, ◌≤◌, List, length, get_or, refl, sym}
+use Rattle.std.proofs.Common.{◌≡◌, ℕ, suc, [], ◌∷◌, replicate, ◌<◌, ◌≤◌, List, length, get_or, refl, sym}
 use Rattle.std.proofs.Common.{◌∙◌, arith, subst}
 use Rattle.std.specs.Prelude.{not, ◌&&◌}
-use Rattle.std.specs.List.{All}
-use Rattle.std.proofs.lemmas.Bool.{cases_lt, lt-ltb, le-leb}
-use Rattle.std.proofs.lemmas.List.{get_or_default}
-use Rattle.std.proofs.Math.ListN.{get_or-eq_default}
+use Rattle.std.proofs.lemmas.Bool.{lt-ltb, le-leb}
 use Rattle.lf_faults.specs.declared.fault.Parts.{Parts}
 use Rattle.lf_faults.specs.Faults.{set_crashes, set_pauses}
 use Rattle.lf_sim.specs.Points.{ArrivesLater}
 use Rattle.lf_sim.specs.Runs.{World, is_up}
 use Rattle.lf_sim.proofs.Laws.{IsRunning-up}
 use Rattle.lf_outcome.specs.declared.point.Point.{Point}
-use Rattle.lf_cone.specs.Cones.{CanHear, IsReachOf, IsClosed, IsSharp}
+use Rattle.lf_outcome.specs.Reaches.{IsReachOf}
+use Rattle.lf_cone.specs.Cones.{CanHear, IsClosed, IsSharp}
 use Rattle.lf_cone.specs.Sweeps.{IsRaised, SomeBelow, KeepsTo, IsLeastFrom, PointAt}
 use Rattle.lf_cone.proofs.Covering.{start-covers, start-smallest}
 
@@ -22,20 +20,6 @@ same-steps [] [] e h = refl
 same-steps [] (y ∷ ys) e h = absurd (omega arith)
 same-steps (x ∷ xs) [] e h = absurd (omega arith)
 same-steps (x ∷ xs) (y ∷ ys) e h = let first : x ≡ y = h 0 in let rest = same-steps xs ys (omega arith) (λ n. h (suc n)) in cc
-
--- no step is past the last
-pub ends-by : (nodes last : ℕ) (r : List ℕ) → length r ≡ nodes → (All (λ t. t ≤ last) r → IsReachOf nodes last r) × (IsReachOf nodes last r
-    → All (λ t. t ≤ last) r)
-ends-by nodes last r e = (
-  λ h. record {
-    count = e;
-    within = λ n. elim (cases_lt n (length r)) [
-      | inl there ↦ h n 0 there
-      | inr past ↦ let none : get_or r n 0 ≡ 0 = get_or-eq_default r 0 {n = n} past in omega (arith, none)
-    ];
-  },
-  λ h k d l. let at : get_or r k d ≡ get_or r k 0 = get_or_default r k d 0 l in omega (arith, at, h.within k),
-)
 
 -- where a point is one of the run, a node is up unless a fault takes it out
 pub up-left : {State Note Fact : Type 0} (w : World State Note Fact) (faults : List Parts) (lasts n t : ℕ) → n < w.rules.nodes → 1 ≤ t → t ≤ w.horizon

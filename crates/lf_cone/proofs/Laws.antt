@@ -1,23 +1,25 @@
 -- What crates above may build on, in the words of specs/.
-use Rattle.std.proofs.Common.{◌≡◌, ℕ, ◌<◌, ◌≤◌, true, List, get_or, sym, ◌∙◌, arith}
+use Rattle.std.proofs.Common.{◌≡◌, ℕ, ◌<◌, ◌≤◌, true, List, length, get_or, sym, ◌∙◌, arith}
 use Rattle.std.specs.Prelude.{◌⊎◌, slice_index}
 use Rattle.lf_faults.specs.declared.fault.Parts.{Parts}
 use Rattle.lf_faults.specs.declared.fault.Parts.TheVariants.{Omit, Crash, Pause}
 use Rattle.lf_faults.specs.Faults.{step_of}
 use Rattle.lf_faults.specs.declared.spec.Bounds.{Bounds}
-use Rattle.lf_faults.specs.Allowed.{IsAdmitted, IsAllowed}
+use Rattle.lf_faults.specs.Allowed.{IsInLimits, IsAdmitted, IsAllowed}
 use Rattle.lf_faults.proofs.Laws.{in_allowed-admitted, same_members}
 use Rattle.lf_sim.specs.Runs.{World}
 use Rattle.lf_outcome.specs.declared.formula.Formula.{Formula}
 use Rattle.lf_outcome.specs.declared.point.Point.{Point}
 use Rattle.lf_outcome.specs.Truth.{reaches, reaches_within}
 use Rattle.lf_outcome.proofs.Laws.{within-carries, reaches-from_within}
-use Rattle.lf_cone.specs.Cones.{IsReachOf, IsHeard, IsClosed, IsOutside, AgreesWithin, IsCone, IsSharp, IsRequired, AreRequired}
+use Rattle.lf_outcome.specs.Reaches.{IsReachOf}
+use Rattle.lf_cone.specs.Cones.{IsHeard, IsClosed, IsOutside, AgreesWithin, IsCone, IsSharp, IsRequired, AreRequired}
 use Rattle.lf_cone.specs.Sweeps.{AreInside}
 use Rattle.lf_cone.proofs.Existence as existence
 use Rattle.lf_cone.proofs.Growing as growing
 use Rattle.lf_cone.proofs.HearingLemmas.{same-steps}
 use Rattle.lf_cone.proofs.Light as light
+use Rattle.lf_cone.proofs.RequiredLemmas as lemmas
 
 starts-late : (b : Bounds) (f : Parts) → IsAdmitted b f → 1 ≤ step_of f
 starts-late b (Omit n m t) h = h.3
@@ -61,6 +63,11 @@ module _ {State Note Fact : Type 0} (w : World State Note Fact) (faults : List P
       → AreRequired w faults b reach excluded ys → xs ≡ ys
   required_one b reach excluded xs ys h k =
       same_members xs ys h.ascending k.ascending (λ f c. (k.each f).1 ((h.each f).0 c)) (λ f c. (h.each f).1 ((k.each f).0 c))
+
+-- no reach has more required edges than there are places of faults
+pub required_few : {State Note Fact : Type 0} (w : World State Note Fact) (faults : List Parts) (b : Bounds) (reach : List ℕ)
+    (excluded edges : List Parts) → IsInLimits b → AreRequired w faults b reach excluded edges → length edges ≤ 3840
+required_few w faults b reach excluded edges limits = lemmas.edges_few w faults b reach excluded limits edges
 
 -- and points have a cone and a sharp reach, wherever notes arrive; a reach has a list of required edges
 pub cone_exists : (nodes horizon : ℕ) (least : ℕ → ℕ → ℕ) (points : List Point) → AreInside nodes horizon points

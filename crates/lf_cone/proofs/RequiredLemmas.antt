@@ -1,5 +1,5 @@
 -- Which faults are to be tried, place by place.
-use Rattle.std.proofs.Common.{◌≡◌, ◌≢◌, ℕ, ◌+◌, ◌-◌, ◌*◌, ◌<◌, ◌≤◌, false, List, length, [], ◌∷◌, ◌++◌, sym, ap, ◌∙◌, inl, inr, arith}
+use Rattle.std.proofs.Common.{◌≡◌, ◌≢◌, ℕ, ◌+◌, ◌<◌, ◌≤◌, false, List, length, [], ◌∷◌, ◌++◌, sym, ap, ◌∙◌, inl, inr, arith}
 use Rattle.std.proofs.Common.{subst, get_or}
 use Rattle.std.specs.Prelude.{slice_set}
 use Rattle.std.proofs.lemmas.Bool.{both_ways, cases_lt}
@@ -13,37 +13,35 @@ use Rattle.lf_faults.proofs.Laws.{in_allowed-admitted, admitted-fault, subset_al
 use Rattle.lf_sim.specs.Runs.{World, is_up}
 use Rattle.lf_sim.proofs.Laws.{IsRunning-up, contains-omitted}
 use Rattle.lf_cone.specs.Cones.{Supports, IsRequired, AreRequired}
-use Rattle.lf_cone.specs.Places.{place_of, IsGathered, LivesBetween}
-use Rattle.lf_cone.proofs.Gathering.{gathered-none, gathered-push, gathered-leap}
+use Rattle.lf_cone.specs.Places.{sender_row, crash_row, pause_row, place_at, place_of, IsGathered, LivesBetween}
+use Rattle.lf_cone.proofs.Gathering.{gathered-none, gathered-push, gathered-leap, few-places}
 
 -- what stands at a step's places
-abbrev base : ℕ → ℕ
-base t = (t - 1) * 80
-
-omission-at : (t : ℕ) (f : Parts) → IsFault f → 1 ≤ t → base t ≤ place_of f → place_of f < base t + 64
-    → (n : ℕ) × (m : ℕ) × (f ≡ Omit n m t) × (place_of f ≡ base t + (n * 8 + m)) × (m < 8)
+omission-at : (t : ℕ) (f : Parts) → IsFault f → 1 ≤ t → place_at (sender_row 0 t) 0 ≤ place_of f → place_of f < place_at (crash_row t) 0
+    → (n : ℕ) × (m : ℕ) × (f ≡ Omit n m t) × (place_of f ≡ place_at (sender_row n t) m) × (m < 8)
 omission-at t (Omit n m s) h first low high =
     let e : s ≡ t = omega (arith, h.0, h.1, h.3) in
     (n, m, ap (Omit n m) e, omega (arith, e), h.1)
 omission-at t (Crash n s) h first low high = absurd (omega (arith, h.0, h.1))
 omission-at t (Pause n s) h first low high = absurd (omega (arith, h.0, h.1))
 
-crash-at : (t : ℕ) (f : Parts) → IsFault f → 1 ≤ t → base t + 64 ≤ place_of f → place_of f < base t + 72
-    → (n : ℕ) × (f ≡ Crash n t) × (place_of f ≡ base t + 64 + n)
+crash-at : (t : ℕ) (f : Parts) → IsFault f → 1 ≤ t → place_at (crash_row t) 0 ≤ place_of f → place_of f < place_at (pause_row t) 0
+    → (n : ℕ) × (f ≡ Crash n t) × (place_of f ≡ place_at (crash_row t) n)
 crash-at t (Omit n m s) h first low high = absurd (omega (arith, h.0, h.1, h.3))
 crash-at t (Crash n s) h first low high = let e : s ≡ t = omega (arith, h.0, h.1) in (n, ap (Crash n) e, omega (arith, e))
 crash-at t (Pause n s) h first low high = absurd (omega (arith, h.0, h.1))
 
-pause-at : (t : ℕ) (f : Parts) → IsFault f → 1 ≤ t → base t + 72 ≤ place_of f → place_of f < base t + 80
-    → (n : ℕ) × (f ≡ Pause n t) × (place_of f ≡ base t + 72 + n)
+pause-at : (t : ℕ) (f : Parts) → IsFault f → 1 ≤ t → place_at (pause_row t) 0 ≤ place_of f → place_of f < place_at (sender_row 0 (t + 1)) 0
+    → (n : ℕ) × (f ≡ Pause n t) × (place_of f ≡ place_at (pause_row t) n)
 pause-at t (Omit n m s) h first low high = absurd (omega (arith, h.0, h.1, h.3))
 pause-at t (Crash n s) h first low high = absurd (omega (arith, h.0, h.1))
 pause-at t (Pause n s) h first low high = let e : s ≡ t = omega (arith, h.0, h.1) in (n, ap (Pause n) e, omega (arith, e))
 
-late-place : (b : Bounds) (last : ℕ) (f : Parts) → IsFault f → IsAdmitted b f → b.last_omission < b.horizon → b.horizon ≤ last → place_of f < last * 80
-late-place b last (Omit n m t) h is less short = omega (arith, h.0, h.1, h.3, is.4)
-late-place b last (Crash n t) h is less short = omega (arith, h.0, h.1, is.2)
-late-place b last (Pause n t) h is less short = omega (arith, h.0, h.1, is.2)
+late-place : (b : Bounds) (end : ℕ) (f : Parts) → IsFault f → IsAdmitted b f → b.last_omission < b.horizon → b.horizon < end
+    → place_of f < place_at (sender_row 0 end) 0
+late-place b end (Omit n m t) h is less short = omega (arith, h.0, h.1, h.3, is.4)
+late-place b end (Crash n t) h is less short = omega (arith, h.0, h.1, is.2)
+late-place b end (Pause n t) h is less short = omega (arith, h.0, h.1, is.2)
 
 -- a step that is reached before the end of all is one of them
 pub within_end : (t last horizon : ℕ) → t < last + 1 → last ≡ horizon → t ≤ horizon
@@ -52,10 +50,6 @@ within_end t last horizon below same = omega arith
 -- one number is less than another, by names that they have elsewhere
 pub less_than_same : (a b c d : ℕ) → a < b → a ≡ c → b ≡ d → c < d
 less_than_same a b c d less left right = omega arith
-
--- where a step's places end the next one's begin
-pub next_step : (t : ℕ) → t * 80 ≡ (t + 1 - 1) * 80
-next_step t = omega arith
 
 module _ {State Note Fact : Type 0} (w : World State Note Fact) (faults : List Parts) (b : Bounds) (reach : List ℕ) (excluded : List Parts)
     (limits : IsInLimits b) where
@@ -82,10 +76,10 @@ module _ {State Note Fact : Type 0} (w : World State Note Fact) (faults : List P
       (subst (Gathered (k + 1)) (sym (whole ∙ ap (λ x. fs ++ x ∷ []) same)) (gathered-push P is-fault fs k g h p at))
 
   -- no omission of the slot
-  pub skip_omission : (fs : List Parts) (n m t : ℕ) → 1 ≤ t → n < 8 → m < 8 → Gathered (base t + n * 8 + m) fs
-      → (IsRequired w faults b reach excluded (Omit n m t) → ⊥) → Gathered (base t + n * 8 + m + 1) fs
+  pub skip_omission : (fs : List Parts) (n m t : ℕ) → 1 ≤ t → n < 8 → m < 8 → Gathered (place_at (sender_row n t) m) fs
+      → (IsRequired w faults b reach excluded (Omit n m t) → ⊥) → Gathered (place_at (sender_row n t) m + 1) fs
   skip_omission fs n m t first sender receiver h none =
-      gathered-leap P is-fault fs (base t + n * 8 + m) (base t + n * 8 + m + 1) (omega arith) h
+      gathered-leap P is-fault fs (place_at (sender_row n t) m) (place_at (sender_row n t) m + 1) (omega arith) h
       (λ f p low high.
       let at = omission-at t f (is-fault f p) first (omega arith) (omega arith) in
       let from : at.0 ≡ n = omega (arith, at.3, at.4) in
@@ -94,10 +88,10 @@ module _ {State Note Fact : Type 0} (w : World State Note Fact) (faults : List P
       none is)
 
   -- no omission of what a node sends
-  pub skip_sender : (fs : List Parts) (n t : ℕ) → 1 ≤ t → n < 8 → Gathered (base t + n * 8) fs → is_up w faults n t ≡ false
-      → Gathered (base t + (n + 1) * 8) fs
+  pub skip_sender : (fs : List Parts) (n t : ℕ) → 1 ≤ t → n < 8 → Gathered (place_at (sender_row n t) 0) fs → is_up w faults n t ≡ false
+      → Gathered (place_at (sender_row (n + 1) t) 0) fs
   skip_sender fs n t first sender h down =
-      gathered-leap P is-fault fs (base t + n * 8) (base t + (n + 1) * 8) (omega arith) h
+      gathered-leap P is-fault fs (place_at (sender_row n t) 0) (place_at (sender_row (n + 1) t) 0) (omega arith) h
       (λ f p low high.
       let at = omission-at t f (is-fault f p) first (omega arith) (omega arith) in
       let from : at.0 ≡ n = omega (arith, at.3, at.4) in
@@ -105,74 +99,84 @@ module _ {State Note Fact : Type 0} (w : World State Note Fact) (faults : List P
       both_ways (is_up w faults n t) down (is.supports.1.2.sends))
 
   -- no omission to or from what isn't a node, nor after the last one
-  pub end_receivers : (fs : List Parts) (n m t : ℕ) → 1 ≤ t → n < 8 → b.nodes ≤ m → m ≤ 8 → Gathered (base t + n * 8 + m) fs
-      → Gathered (base t + (n + 1) * 8) fs
+  pub end_receivers : (fs : List Parts) (n m t : ℕ) → 1 ≤ t → n < 8 → b.nodes ≤ m → m ≤ 8 → Gathered (place_at (sender_row n t) m) fs
+      → Gathered (place_at (sender_row (n + 1) t) 0) fs
   end_receivers fs n m t first sender past few h =
-      gathered-leap P is-fault fs (base t + n * 8 + m) (base t + (n + 1) * 8) (omega arith) h
+      gathered-leap P is-fault fs (place_at (sender_row n t) m) (place_at (sender_row (n + 1) t) 0) (omega arith) h
       (λ f p low high.
       let at = omission-at t f (is-fault f p) first (omega arith) (omega arith) in
       let is = is-admitted (Omit at.0 at.1 t) (subst P at.2 p) in
       omega (arith, at.3, at.4, is.1))
 
-  pub end_senders : (fs : List Parts) (n t : ℕ) → 1 ≤ t → b.nodes ≤ n → n ≤ 8 → Gathered (base t + n * 8) fs → Gathered (base t + 64) fs
+  pub end_senders : (fs : List Parts) (n t : ℕ) → 1 ≤ t → b.nodes ≤ n → n ≤ 8 → Gathered (place_at (sender_row n t) 0) fs → Gathered (place_at (crash_row t) 0) fs
   end_senders fs n t first past few h =
-      gathered-leap P is-fault fs (base t + n * 8) (base t + 64) (omega arith) h
+      gathered-leap P is-fault fs (place_at (sender_row n t) 0) (place_at (crash_row t) 0) (omega arith) h
       (λ f p low high.
       let at = omission-at t f (is-fault f p) first (omega arith) (omega arith) in
       let is = is-admitted (Omit at.0 at.1 t) (subst P at.2 p) in
       omega (arith, at.3, at.4, is.0))
 
-  pub skip_omissions : (fs : List Parts) (t : ℕ) → 1 ≤ t → b.last_omission < t → Gathered (base t) fs → Gathered (base t + 64) fs
+  pub skip_omissions : (fs : List Parts) (t : ℕ) → 1 ≤ t → b.last_omission < t → Gathered (place_at (sender_row 0 t) 0) fs → Gathered (place_at (crash_row t) 0) fs
   skip_omissions fs t first late h =
-      gathered-leap P is-fault fs (base t) (base t + 64) (omega arith) h
+      gathered-leap P is-fault fs (place_at (sender_row 0 t) 0) (place_at (crash_row t) 0) (omega arith) h
       (λ f p low high.
       let at = omission-at t f (is-fault f p) first low high in
       let is = is-admitted (Omit at.0 at.1 t) (subst P at.2 p) in
       omega (arith, is.4))
 
   -- crashes and pauses
-  pub skip_crash : (fs : List Parts) (n t : ℕ) → 1 ≤ t → n < 8 → Gathered (base t + 64 + n) fs → (IsRequired w faults b reach excluded (Crash n t) → ⊥)
-      → Gathered (base t + 64 + n + 1) fs
+  pub skip_crash : (fs : List Parts) (n t : ℕ) → 1 ≤ t → n < 8 → Gathered (place_at (crash_row t) n) fs → (IsRequired w faults b reach excluded (Crash n t) → ⊥)
+      → Gathered (place_at (crash_row t) n + 1) fs
   skip_crash fs n t first node h none =
-      gathered-leap P is-fault fs (base t + 64 + n) (base t + 64 + n + 1) (omega arith) h
+      gathered-leap P is-fault fs (place_at (crash_row t) n) (place_at (crash_row t) n + 1) (omega arith) h
       (λ f p low high.
       let at = crash-at t f (is-fault f p) first (omega arith) (omega arith) in
       let from : at.0 ≡ n = omega (arith, at.2) in
       let is : P (Crash n t) = subst (λ k. P (Crash k t)) from (subst P at.1 p) in
       none is)
 
-  pub end_crashes : (fs : List Parts) (n t : ℕ) → 1 ≤ t → b.nodes ≤ n → n ≤ 8 → Gathered (base t + 64 + n) fs → Gathered (base t + 72) fs
+  pub end_crashes : (fs : List Parts) (n t : ℕ) → 1 ≤ t → b.nodes ≤ n → n ≤ 8 → Gathered (place_at (crash_row t) n) fs → Gathered (place_at (pause_row t) 0) fs
   end_crashes fs n t first past few h =
-      gathered-leap P is-fault fs (base t + 64 + n) (base t + 72) (omega arith) h
+      gathered-leap P is-fault fs (place_at (crash_row t) n) (place_at (pause_row t) 0) (omega arith) h
       (λ f p low high.
       let at = crash-at t f (is-fault f p) first (omega arith) (omega arith) in
       let is = is-admitted (Crash at.0 t) (subst P at.1 p) in
       omega (arith, at.2, is.0))
 
-  pub skip_pause : (fs : List Parts) (n t : ℕ) → 1 ≤ t → n < 8 → Gathered (base t + 72 + n) fs → (IsRequired w faults b reach excluded (Pause n t) → ⊥)
-      → Gathered (base t + 72 + n + 1) fs
+  pub skip_pause : (fs : List Parts) (n t : ℕ) → 1 ≤ t → n < 8 → Gathered (place_at (pause_row t) n) fs → (IsRequired w faults b reach excluded (Pause n t) → ⊥)
+      → Gathered (place_at (pause_row t) n + 1) fs
   skip_pause fs n t first node h none =
-      gathered-leap P is-fault fs (base t + 72 + n) (base t + 72 + n + 1) (omega arith) h
+      gathered-leap P is-fault fs (place_at (pause_row t) n) (place_at (pause_row t) n + 1) (omega arith) h
       (λ f p low high.
       let at = pause-at t f (is-fault f p) first (omega arith) (omega arith) in
       let from : at.0 ≡ n = omega (arith, at.2) in
       let is : P (Pause n t) = subst (λ k. P (Pause k t)) from (subst P at.1 p) in
       none is)
 
-  pub end_pauses : (fs : List Parts) (n t : ℕ) → 1 ≤ t → b.nodes ≤ n → n ≤ 8 → Gathered (base t + 72 + n) fs → Gathered (t * 80) fs
+  pub end_pauses : (fs : List Parts) (n t : ℕ) → 1 ≤ t → b.nodes ≤ n → n ≤ 8 → Gathered (place_at (pause_row t) n) fs → Gathered (place_at (sender_row 0 (t + 1)) 0) fs
   end_pauses fs n t first past few h =
-      gathered-leap P is-fault fs (base t + 72 + n) (t * 80) (omega arith) h
+      gathered-leap P is-fault fs (place_at (pause_row t) n) (place_at (sender_row 0 (t + 1)) 0) (omega arith) h
       (λ f p low high.
       let at = pause-at t f (is-fault f p) first (omega arith) (omega arith) in
       let is = is-admitted (Pause at.0 t) (subst P at.1 p) in
       omega (arith, at.2, is.0))
 
   -- all steps are done
-  pub end_steps : (fs : List Parts) (last : ℕ) → b.horizon ≤ last → Gathered (last * 80) fs → AreRequired w faults b reach excluded fs
-  end_steps fs last short h = record {
+  pub end_steps : (fs : List Parts) (end : ℕ) → b.horizon < end → Gathered (place_at (sender_row 0 end) 0) fs → AreRequired w faults b reach excluded fs
+  end_steps fs end short h = record {
     ascending = h.ascending;
-    each = λ f. (λ c. ((h.members f).0 c).0, λ p. (h.members f).1 (p, late-place b last f (is-fault f p) (is-admitted f p) limits.last_omission short));
+    each = λ f. (λ c. ((h.members f).0 c).0, λ p. (h.members f).1 (p, late-place b end f (is-fault f p) (is-admitted f p) limits.last_omission short));
   }
+
+  -- no more edges are required than there are places
+  pub edges_few : (edges : List Parts) → AreRequired w faults b reach excluded edges → length edges ≤ 3840
+  edges_few edges are =
+      let few = few-places edges 0 3840 are.ascending
+      (λ f c.
+      let p = (are.each f).0 c in
+      (is-fault f p, omega arith, late-place b 49 f (is-fault f p) (is-admitted f p) limits.last_omission (omega (arith, limits.horizon.1))))
+      (omega arith) in
+      omega (arith, few)
 
   -- where no fault may be added, none is required
   none_added : ((f : Parts) → CanAdd b faults f → ⊥) → AreRequired w faults b reach excluded []

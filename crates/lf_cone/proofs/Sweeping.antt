@@ -4,7 +4,7 @@ use Rattle.std.specs.Prelude.{◌⊎◌, slice_set}
 use Rattle.std.proofs.lemmas.Bool.{cases_lt, cases_eq}
 use Rattle.std.proofs.lemmas.List.{get_or-set_other, get_or-set_same}
 use Rattle.std.proofs.Math.ListN.{length-set}
-use Rattle.lf_cone.specs.Cones.{IsReachOf}
+use Rattle.lf_outcome.specs.Reaches.{IsReachOf}
 use Rattle.lf_cone.specs.Sweeps.{IsRaised, SomeBelow, RestsAt, IsLeastFrom, IsSweptTo, IsDone, IsSweptFrom}
 
 -- nothing is raised

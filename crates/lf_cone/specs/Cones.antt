@@ -1,7 +1,7 @@
 -- What of a run an outcome can depend on, and which faults could change that.
 --
 -- A reach has a last step for each node. What is up and known up to these steps is decided by what is heard within them.
-use Rattle.std.specs.Prelude.{◌≡◌, ◌≢◌, ◌↔◌, ℕ, ◌+◌, ◌<◌, ◌≤◌, true, false, List, length, slice_index, IsSome}
+use Rattle.std.specs.Prelude.{◌≡◌, ◌≢◌, ◌↔◌, ℕ, ◌+◌, ◌<◌, ◌≤◌, true, false, List, slice_index, IsSome}
 use Rattle.std.specs.List.{Contains}
 use Rattle.lf_faults.specs.declared.fault.Parts.{Parts}
 use Rattle.lf_faults.specs.declared.fault.Parts.TheVariants.{Omit, Crash, Pause}
@@ -11,11 +11,7 @@ use Rattle.lf_faults.specs.Allowed.{IsSubset, CanAdd}
 use Rattle.lf_sim.specs.Runs.{World, is_up, view, sent}
 use Rattle.lf_outcome.specs.declared.point.Point.{Point}
 use Rattle.lf_outcome.specs.Evidence.{Covers}
-
--- a last step for each of the nodes, 0 for none
-pub record IsReachOf (nodes horizon : ℕ) (reach : List ℕ) : Type 0 where
-  pub count : length reach ≡ nodes
-  pub within : (n : ℕ) → slice_index reach n ≤ horizon
+use Rattle.lf_outcome.specs.Reaches.{IsReachOf}
 
 -- at each node the one reach is at most the other
 abbrev pub IsAtMost : List ℕ → List ℕ → Type 0

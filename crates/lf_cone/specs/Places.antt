@@ -10,15 +10,37 @@ use Rattle.lf_faults.specs.Allowed.{CanAdd}
 use Rattle.lf_sim.specs.Runs.{World, sent}
 use Rattle.lf_cone.specs.Cones.{IsLive}
 
--- the place of a fault among those of its step: 64 omissions, 8 crashes, 8 pauses
-abbrev pub place_in_step : Parts → ℕ
-place_in_step (Omit from to step) = from * 8 + to
-place_in_step (Crash node step) = 64 + node
-place_in_step (Pause node step) = 72 + node
+-- The places of faults stand in rows of eight. A step has ten rows: one for each of 8 senders, with the losses of what it sends,
+-- by receiver, then one of crashes and one of pauses, by node.
+abbrev pub first_row : ℕ → ℕ
+first_row step = (step - 1) * 10
+
+abbrev pub sender_row : ℕ → ℕ → ℕ
+sender_row from step = first_row step + from
+
+abbrev pub crash_row : ℕ → ℕ
+crash_row step = first_row step + 8
+
+abbrev pub pause_row : ℕ → ℕ
+pause_row step = first_row step + 9
+
+abbrev pub place_at : ℕ → ℕ → ℕ
+place_at row column = row * 8 + column
+
+-- the row of a fault among those of its step, and its place in the row
+abbrev pub row_in_step : Parts → ℕ
+row_in_step (Omit from to step) = from
+row_in_step (Crash node step) = 8
+row_in_step (Pause node step) = 9
+
+abbrev pub column_of : Parts → ℕ
+column_of (Omit from to step) = to
+column_of (Crash node step) = node
+column_of (Pause node step) = node
 
 -- its place among all faults
 abbrev pub place_of : Parts → ℕ
-place_of f = (step_of f - 1) * 80 + place_in_step f
+place_of f = place_at (first_row (step_of f) + row_in_step f) (column_of f)
 
 -- the list holds, in order, the faults with the property that stand before a place
 pub record IsGathered (P : Parts → Type 0) (place : ℕ) (faults : List Parts) : Type 0 where
@@ -44,7 +66,7 @@ AreSent w faults from t bits = (to : ℕ) → to < 8 → ((bit_at bits to ≡ 1)
 -- the same, where the loss of the note isn't marked
 abbrev pub AreOpen : {State Note Fact : Type 0} → World State Note Fact → List Parts → List ℕ → ℕ → ℕ → ℕ → Type 0
 AreOpen w faults rows from t bits =
-    (to : ℕ) → to < 8 → ((bit_at bits to ≡ 1) ↔ (IsSome (sent w faults from to t) × ¬ IsMarked rows (((t - 1) * 10 + from) * 8 + to)))
+    (to : ℕ) → to < 8 → ((bit_at bits to ≡ 1) ↔ (IsSome (sent w faults from to t) × ¬ IsMarked rows (place_at (sender_row from t) to)))
 
 -- by node, whether a crash of it may be added, and whether a pause may
 pub record IsRoom (b : Bounds) (faults : List Parts) (crashes pauses : List Bool) : Type 0 where

@@ -4,7 +4,8 @@ use Rattle.std.specs.List.{Contains}
 use Rattle.lf_faults.specs.declared.fault.Parts.{Parts}
 use Rattle.lf_sim.specs.Runs.{World}
 use Rattle.lf_outcome.specs.declared.point.Point.{Point}
-use Rattle.lf_cone.specs.Cones.{IsReachOf, IsAtMost, CanHear}
+use Rattle.lf_outcome.specs.Reaches.{IsReachOf}
+use Rattle.lf_cone.specs.Cones.{IsAtMost, CanHear}
 
 -- each n is raised to the steps t of P n t, and to no others
 pub record IsRaised (P : ℕ → ℕ → Type 0) (before after : List ℕ) : Type 0 where

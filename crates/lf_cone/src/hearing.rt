@@ -5,7 +5,8 @@ ghost use Rattle.lf_faults.specs.Allowed.{IsInLimits};
 ghost use Rattle.lf_sim.specs.Runs.{is_up};
 ghost use Rattle.lf_sim.specs.Settings.{world_of, set_of, IsRun};
 ghost use Rattle.lf_outcome.specs.Evidence.{AreUp};
-ghost use Rattle.lf_cone.specs.Cones.{IsReachOf, CanHear, IsHeard, IsClosed, IsSharp};
+ghost use Rattle.lf_outcome.specs.Reaches.{IsReachOf};
+ghost use Rattle.lf_cone.specs.Cones.{CanHear, IsHeard, IsClosed, IsSharp};
 ghost use Rattle.lf_cone.specs.Sweeps.{IsRaised, SomeBelow, IsDone, IsLeastFrom, HearsBy};
 
 use crate::points::covering;
@@ -28,7 +29,7 @@ pub fn is_closed<M: Machine>(setting: &Setting<M>, run: &Run<M>, reach: &Reach) 
     requires { IsRun (world_of setting.now) run.now }
     ensures { IsTrue result ↔ IsClosed (world_of setting.now) (set_of run.now) reach.now }
 {
-    if !has_form(reach, setting.spec.nodes(), setting.spec.horizon()) {
+    if !reach.has_form(setting.spec.nodes(), setting.spec.horizon()) {
         return false;
     }
     let least = swept(setting, &Effects::new(&run.set()), *reach);
@@ -40,23 +41,6 @@ fn are_same(one: &Reach, other: &Reach) -> bool
     ensures { IsTrue result ↔ (one.now ≡ other.now) }
 {
     one.items() == other.items()
-}
-
-/// Whether a reach is of so many nodes, and goes no further than the horizon.
-fn has_form(reach: &Reach, nodes: u32, horizon: u32) -> bool
-    ensures { IsTrue result ↔ IsReachOf nodes horizon reach.now }
-{
-    if reach.len() != nodes as usize {
-        return false;
-    }
-    ends_by(reach, horizon)
-}
-
-/// Whether a reach goes no further than a step.
-fn ends_by(reach: &Reach, last: u32) -> bool
-    ensures { IsTrue result ↔ All (λ step. step ≤ last) reach.now }
-{
-    reach.items().iter().all(|step| u32::from(*step) <= last)
 }
 
 /// The least closed reach in which the start is, by one sweep over the steps, the last first: what is done at a step is

@@ -11,5 +11,7 @@ mod room;
 
 pub use delays::cone;
 pub use hearing::{is_closed, sharp};
-pub use promises::{agree, light_cone, reaches_are_decided, reaches_are_one, reaches_exist};
-pub use required::{edges, put_edges};
+pub use promises::{
+    agree, edges_are_few, light_cone, reaches_are_decided, reaches_are_one, reaches_exist,
+};
+pub use required::{MOST_EDGES, edges, put_edges};

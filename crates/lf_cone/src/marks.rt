@@ -1,13 +1,19 @@
 //! Which faults are in a list, as a table of bits.
 
-ghost use Rattle.std.specs.Prelude.{◌≡◌, ◌+◌, ◌*◌, ◌<◌, ◌↔◌, IsTrue, slice_index};
+ghost use Rattle.std.specs.Prelude.{◌≡◌, ◌<◌, ◌≤◌, ◌↔◌, IsTrue, slice_index};
 ghost use Rattle.lf_faults.specs.Faults.{IsFault};
-ghost use Rattle.lf_cone.specs.Places.{place_of, IsMarked, AreMarks};
+ghost use Rattle.lf_cone.specs.Places.{sender_row, crash_row, pause_row, place_at, place_of, IsMarked, AreMarks};
 
 use lf_faults::{Fault, Parts};
 
-/// The rows of places of faults: at each of 48 steps one for each of 8 senders, one of crashes and one of pauses.
-const ROWS: usize = 480;
+/// How many senders, receivers or nodes there are at most.
+const NODES: u32 = 8;
+
+/// The rows of a step: one for each sender, one of crashes and one of pauses.
+const ROWS_OF_STEP: u32 = 10;
+
+/// The rows of all 48 steps.
+pub(crate) const ROWS: usize = 480;
 
 /// The faults of a list, by their places. A row has a bit for each of 8 receivers, or of 8 nodes.
 #[derive(Drop)]
@@ -39,7 +45,7 @@ impl<'a> Marks<'a> {
     pub(crate) fn at(&self, row: u32, column: u32) -> bool
         requires row { row < 480 }
         requires column { column < 8 }
-        ensures { IsTrue result ↔ IsMarked self.now.rows (row * 8 + column) }
+        ensures { IsTrue result ↔ IsMarked self.now.rows (place_at row column) }
     {
         self.row(row) >> column & 1 == 1
     }
@@ -64,8 +70,48 @@ fn place(fault: &Fault) -> usize
     ensures in_range { IsFault fault.now }
 {
     match fault.parts() {
-        Parts::Omit { from, to, step } => ((step - 1) * 80 + from * 8 + to) as usize,
-        Parts::Crash { node, step } => ((step - 1) * 80 + 64 + node) as usize,
-        Parts::Pause { node, step } => ((step - 1) * 80 + 72 + node) as usize,
+        Parts::Omit { from, to, step } => place_at(sender_row(from, step), to),
+        Parts::Crash { node, step } => place_at(crash_row(step), node),
+        Parts::Pause { node, step } => place_at(pause_row(step), node),
     }
+}
+
+/// The place at a column of a row.
+fn place_at(row: u32, column: u32) -> usize
+    requires row { row < 480 }
+    requires column { column < 8 }
+    ensures { result ≡ place_at row column }
+{
+    (row * NODES + column) as usize
+}
+
+/// The row of the losses of what a node sends at a step, by receiver.
+pub(crate) fn sender_row(from: u32, step: u32) -> u32
+    requires from { from < 8 }
+    requires first { 1 ≤ step }
+    requires last { step ≤ 48 }
+    ensures value { result ≡ sender_row from step }
+    ensures within { result < 480 }
+{
+    (step - 1) * ROWS_OF_STEP + from
+}
+
+/// The row of the crashes at a step, by node.
+pub(crate) fn crash_row(step: u32) -> u32
+    requires first { 1 ≤ step }
+    requires last { step ≤ 48 }
+    ensures value { result ≡ crash_row step }
+    ensures within { result < 480 }
+{
+    (step - 1) * ROWS_OF_STEP + NODES
+}
+
+/// The row of the pauses from a step on, by node.
+pub(crate) fn pause_row(step: u32) -> u32
+    requires first { 1 ≤ step }
+    requires last { step ≤ 48 }
+    ensures value { result ≡ pause_row step }
+    ensures within { result < 480 }
+{
+    (step - 1) * ROWS_OF_STEP + NODES + 1
 }

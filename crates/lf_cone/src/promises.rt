@@ -1,15 +1,16 @@
 //! What the definitions of this crate promise: calls that compute nothing, whose contracts are the laws.
 
-ghost use Rattle.std.specs.Prelude.{◌≡◌, ◌⊎◌, ◌<◌, ◌≤◌, ℕ, true, List, slice_index};
+ghost use Rattle.std.specs.Prelude.{◌≡◌, ◌⊎◌, ◌<◌, ◌≤◌, ℕ, true, List, length, slice_index};
 ghost use Rattle.lf_faults.specs.declared.fault.Parts.{Parts};
 ghost use Rattle.lf_faults.specs.declared.spec.Bounds.{Bounds};
-ghost use Rattle.lf_faults.specs.Allowed.{IsAllowed};
+ghost use Rattle.lf_faults.specs.Allowed.{IsAllowed, IsInLimits};
 ghost use Rattle.lf_sim.specs.Runs.{World};
 ghost use Rattle.lf_sim.specs.Settings.{world_of, set_of, IsRun};
 ghost use Rattle.lf_outcome.specs.declared.formula.Formula.{Formula};
 ghost use Rattle.lf_outcome.specs.declared.point.Point.{Point};
 ghost use Rattle.lf_outcome.specs.Truth.{reaches, reaches_within};
-ghost use Rattle.lf_cone.specs.Cones.{IsReachOf, IsHeard, IsClosed, IsOutside, AgreesWithin, IsCone, IsSharp};
+ghost use Rattle.lf_outcome.specs.Reaches.{IsReachOf};
+ghost use Rattle.lf_cone.specs.Cones.{IsHeard, IsClosed, IsOutside, AgreesWithin, IsCone, IsSharp};
 ghost use Rattle.lf_cone.specs.Cones.{IsRequired, AreRequired};
 ghost use Rattle.lf_cone.specs.Sweeps.{AreInside};
 
@@ -58,6 +59,12 @@ pub fn reaches_are_one<State, Note, Fact>()
     ensures edges { (w : World State Note Fact) (faults : List Parts) (b : Bounds) (reach : List ℕ)
         (excluded xs ys : List Parts) →
         AreRequired w faults b reach excluded xs → AreRequired w faults b reach excluded ys → xs ≡ ys }
+{}
+
+/// A reach has at most `MOST_EDGES` required edges, whatever is excluded.
+pub fn edges_are_few<State, Note, Fact>()
+    ensures { (w : World State Note Fact) (faults : List Parts) (b : Bounds) (reach : List ℕ) (excluded edges : List Parts) →
+        IsInLimits b → AreRequired w faults b reach excluded edges → length edges ≤ 3840 }
 {}
 
 /// Points of a run have a cone and a sharp reach, wherever notes arrive, and a reach has a list of required edges.

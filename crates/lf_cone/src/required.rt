@@ -7,15 +7,19 @@ ghost use Rattle.lf_faults.specs.Allowed.{IsAllowed};
 ghost use Rattle.lf_sim.specs.Runs.{is_up, sent};
 ghost use Rattle.lf_sim.specs.Settings.{world_of, set_of, IsRun};
 ghost use Rattle.lf_cone.specs.Cones.{IsHeard, IsRequired, AreRequired};
+ghost use Rattle.lf_cone.specs.Places.{sender_row, crash_row, pause_row, place_at};
 ghost use Rattle.lf_cone.specs.Places.{IsGathered, AreMarks, AreEnds, AreSent, AreOpen, IsRoom, LivesBetween};
 
 use crate::hearing::{goes, hears};
-use crate::marks::Marks;
+use crate::marks::{Marks, ROWS, crash_row, pause_row, sender_row};
 use crate::room::{Room, room_in};
 use lf_faults::{Fault, Parts, admits};
 use lf_outcome::Reach;
 use lf_sim::{Effects, Machine, Run, Setting};
 use std::alloc::{AllocError, Global};
+
+/// A reach has no more required edges than this: there are no more places of faults.
+pub const MOST_EDGES: usize = ROWS * 8;
 
 /// What the required edges are looked up in: what the set does, the reach, which faults are excluded, and at which nodes
 /// the bounds leave room for a crash or a pause.
@@ -101,9 +105,9 @@ fn put_omissions<M: Machine>(
     requires first { 1 ≤ step }
     requires last { step ≤ setting.now.spec.horizon }
     requires so_far { IsGathered (IsRequired (world_of setting.now) view.now.effects.set setting.now.spec
-        view.now.reach view.now.marks.faults.now) ((step - 1) * 80) found.old.items }
+        view.now.reach view.now.marks.faults.now) (place_at (sender_row 0 step) 0) found.old.items }
     ensures { OnOk result (IsGathered (IsRequired (world_of setting.now) view.now.effects.set setting.now.spec
-        view.now.reach view.now.marks.faults.now) ((step - 1) * 80 + 64) found.new.items) }
+        view.now.reach view.now.marks.faults.now) (place_at (crash_row step) 0) found.new.items) }
 {
     if step > setting.spec.last_omission() {
         return Ok(());
@@ -136,9 +140,9 @@ fn put_omissions_of<M: Machine>(
     requires last { step ≤ setting.now.spec.last_omission }
     requires up { is_up (world_of setting.now) view.now.effects.set from step ≡ true }
     requires so_far { IsGathered (IsRequired (world_of setting.now) view.now.effects.set setting.now.spec
-        view.now.reach view.now.marks.faults.now) ((step - 1) * 80 + from * 8) found.old.items }
+        view.now.reach view.now.marks.faults.now) (place_at (sender_row from step) 0) found.old.items }
     ensures { OnOk result (IsGathered (IsRequired (world_of setting.now) view.now.effects.set setting.now.spec
-        view.now.reach view.now.marks.faults.now) ((step - 1) * 80 + (from + 1) * 8) found.new.items) }
+        view.now.reach view.now.marks.faults.now) (place_at (sender_row (from + 1) step) 0) found.new.items) }
 {
     let nodes = setting.spec.nodes();
     let slots = open_slots(setting, run, &view.marks, from, step);
@@ -164,9 +168,9 @@ fn put_crashes<M: Machine>(
     requires first { 1 ≤ step }
     requires last { step ≤ setting.now.spec.horizon }
     requires so_far { IsGathered (IsRequired (world_of setting.now) view.now.effects.set setting.now.spec
-        view.now.reach view.now.marks.faults.now) ((step - 1) * 80 + 64) found.old.items }
+        view.now.reach view.now.marks.faults.now) (place_at (crash_row step) 0) found.old.items }
     ensures { OnOk result (IsGathered (IsRequired (world_of setting.now) view.now.effects.set setting.now.spec
-        view.now.reach view.now.marks.faults.now) ((step - 1) * 80 + 72) found.new.items) }
+        view.now.reach view.now.marks.faults.now) (place_at (pause_row step) 0) found.new.items) }
 {
     for node in 0..setting.spec.nodes() {
         if tries_crash(setting, view, node, step) {
@@ -190,9 +194,9 @@ fn put_pauses<M: Machine>(
     requires first { 1 ≤ step }
     requires last { step ≤ setting.now.spec.horizon }
     requires so_far { IsGathered (IsRequired (world_of setting.now) view.now.effects.set setting.now.spec
-        view.now.reach view.now.marks.faults.now) ((step - 1) * 80 + 72) found.old.items }
+        view.now.reach view.now.marks.faults.now) (place_at (pause_row step) 0) found.old.items }
     ensures { OnOk result (IsGathered (IsRequired (world_of setting.now) view.now.effects.set setting.now.spec
-        view.now.reach view.now.marks.faults.now) (step * 80) found.new.items) }
+        view.now.reach view.now.marks.faults.now) (place_at (sender_row 0 (step + 1)) 0) found.new.items) }
 {
     for node in 0..setting.spec.nodes() {
         if tries_pause(setting, view, node, step) {
@@ -275,7 +279,7 @@ fn tries_crash<M: Machine>(setting: &Setting<M>, view: &View, node: u32, step: u
     if !view.room.crashes[node as usize] {
         return false;
     }
-    if view.marks.at((step - 1) * 10 + 8, node) {
+    if view.marks.at(crash_row(step), node) {
         return false;
     }
     lives(setting, view, node, step, setting.spec.horizon() + 1)
@@ -297,7 +301,7 @@ fn tries_pause<M: Machine>(setting: &Setting<M>, view: &View, node: u32, step: u
     if !view.room.pauses[node as usize] {
         return false;
     }
-    if view.marks.at((step - 1) * 10 + 9, node) {
+    if view.marks.at(pause_row(step), node) {
         return false;
     }
     lives(
@@ -340,7 +344,7 @@ fn open_slots<M: Machine>(
     ensures { AreOpen (world_of setting.now) (set_of run.now) marks.now.rows from step result }
 {
     let _nodes = setting.spec.nodes();
-    sent_by(setting, run, from, step) & !marks.row((step - 1) * 10 + from)
+    sent_by(setting, run, from, step) & !marks.row(sender_row(from, step))
 }
 
 /// By receiver, a bit where a note to it was sent by a node at a step.

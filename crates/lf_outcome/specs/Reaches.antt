@@ -10,6 +10,11 @@ pub record IsReach (reach : List ℕ) : Type 0 where
   pub few : length reach ≤ 8
   pub short : All (λ t. t ≤ 48) reach
 
+-- a last step for each of so many nodes, 0 where none counts, and none past the horizon
+pub record IsReachOf (nodes horizon : ℕ) (reach : List ℕ) : Type 0 where
+  pub count : length reach ≡ nodes
+  pub within : (n : ℕ) → slice_index reach n ≤ horizon
+
 -- the last step of n that counts: 0 where none does, or there is no n
 abbrev pub reach_at : List ℕ → ℕ → ℕ
 reach_at reach n = slice_index reach n

@@ -1,7 +1,7 @@
 //! Up to which step each node counts.
 
 ghost use Rattle.std.specs.Prelude.{◌≡◌, ℕ, ◌-◌, ◌<◌, ◌≤◌, ◌↔◌, ◌++◌, IsSome, IfSome, IsTrue, All, length, max, replicate, slice_set};
-ghost use Rattle.lf_outcome.specs.Reaches.{IsReach, reach_at};
+ghost use Rattle.lf_outcome.specs.Reaches.{IsReach, IsReachOf, reach_at};
 
 use std::marker::Model;
 
@@ -86,6 +86,23 @@ impl Reach {
             Some(step) => u32::from(*step),
             None => 0,
         }
+    }
+
+    /// Whether the reach has a last step for each of so many nodes, none past the horizon.
+    pub fn has_form(&self, nodes: u32, horizon: u32) -> bool
+        ensures { IsTrue result ↔ IsReachOf nodes horizon self.now }
+    {
+        if self.len() != nodes as usize {
+            return false;
+        }
+        self.ends_by(horizon)
+    }
+
+    /// Whether no node counts past a step.
+    pub fn ends_by(&self, last: u32) -> bool
+        ensures { IsTrue result ↔ All (λ step. step ≤ last) self.now }
+    {
+        self.items().iter().all(|step| u32::from(*step) <= last)
     }
 
     /// The reach in which a node counts up to a step at least.

@@ -1,6 +1,7 @@
 use Rattle.std.proofs.Common.{sym, ◌∙◌, subst}
 use Rattle.lf_sim.specs.Settings.{world_of, set_of}
-use Rattle.lf_cone.specs.Cones.{CanHear, IsReachOf}
+use Rattle.lf_outcome.specs.Reaches.{IsReachOf}
+use Rattle.lf_cone.specs.Cones.{CanHear}
 use Rattle.lf_cone.specs.Sweeps.{IsLeastFrom}
 use Rattle.lf_cone.proofs.HearingLemmas.{closed-least}
 use Rattle.lf_cone.proofs.hearing.is_closed.Goals as goal

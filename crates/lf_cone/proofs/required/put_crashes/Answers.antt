@@ -1,7 +1,8 @@
-use Rattle.std.proofs.Common.{◌<◌, ◌+◌, ◌-◌, ◌*◌, refl, arith}
+use Rattle.std.proofs.Common.{◌<◌, ◌+◌, refl, arith}
 use Rattle.std.proofs.lemmas.Bool.{both_ways}
 use Rattle.lf_faults.specs.declared.fault.Parts.TheVariants.{Crash}
 use Rattle.lf_sim.specs.Settings.{world_of}
+use Rattle.lf_cone.specs.Places.{crash_row, place_at}
 use Rattle.lf_cone.proofs.RequiredLemmas.{is-fault, less_than_same, moved, put_one, skip_crash, end_crashes}
 use Rattle.lf_cone.proofs.required.put_crashes.Goals as goal
 use Rattle.lf_cone.proofs.required.put_crashes.Goals.{then-tries_crash+in_ok-push, else-tries_crash}
@@ -17,11 +18,11 @@ loop-node-preserved g c =
     elim c.if-tries_crash.branch [
       | then-tries_crash+in_ok-push b ↦
           rw b.found-is (put_one (world_of s) v.effects.set s.spec v.reach v.marks.faults.now limits c.loop-node.found.items _ b.crash.result (Crash n t)
-          ((t - 1) * 80 + 64 + n) ((t - 1) * 80 + 64 + (n + 1)) b.in_ok-push.ensures.items b.crash.ensures (omega arith) (omega arith)
+          (place_at (crash_row t) n) (place_at (crash_row t) (n + 1)) b.in_ok-push.ensures.items b.crash.ensures (omega arith) (omega arith)
           c.loop-node.invariant (c.tries_crash.ensures.0 b.if-tries_crash.true))
       | else-tries_crash b ↦
-          rw b.found-is (moved (world_of s) v.effects.set s.spec v.reach v.marks.faults.now limits c.loop-node.found.items ((t - 1) * 80 + 64 + n + 1)
-          ((t - 1) * 80 + 64 + (n + 1)) (omega arith)
+          rw b.found-is (moved (world_of s) v.effects.set s.spec v.reach v.marks.faults.now limits c.loop-node.found.items (place_at (crash_row t) n + 1)
+          (place_at (crash_row t) (n + 1)) (omega arith)
           (skip_crash (world_of s) v.effects.set s.spec v.reach v.marks.faults.now limits c.loop-node.found.items n t c.requires.first node
           c.loop-node.invariant (λ p. both_ways c.tries_crash.result b.if-tries_crash.false (c.tries_crash.ensures.1 p))))
     ]

@@ -1,10 +1,10 @@
-use Rattle.std.proofs.Common.{[], ◌≤◌, ◌+◌, ◌-◌, ◌*◌, length, sym, ap, ◌∙◌, subst, arith}
+use Rattle.std.proofs.Common.{[], ◌<◌, length, sym, ap, ◌∙◌, subst, arith}
 use Rattle.std.proofs.lemmas.Bool.{iff_false}
 use Rattle.lf_faults.specs.Allowed.{IsAllowed}
 use Rattle.lf_sim.specs.Settings.{world_of, set_of}
 use Rattle.lf_cone.specs.Cones.{AreRequired}
 use Rattle.lf_cone.specs.Places.{AreEnds, IsRoom}
-use Rattle.lf_cone.proofs.RequiredLemmas.{none_allowed, none_left, moved, end_steps, within_end, less_than_same, next_step}
+use Rattle.lf_cone.proofs.RequiredLemmas.{none_allowed, none_left, end_steps, within_end, less_than_same}
 use Rattle.lf_cone.proofs.required.put_edges.Goals as goal
 
 pub returns-then-not-admits : goal.returns-then-not-admits
@@ -105,19 +105,17 @@ put_pauses-requires-clause-so_far g c = c.in_ok-put_crashes.ensures
 
 pub loop-step-preserved : goal.loop-step-preserved
 loop-step-preserved g c =
-    let t = c.loop-step.step in
-    moved (world_of c.args.setting.now) c.new.result.set c.args.setting.now.spec c.args.reach.now c.new-2.result.faults.now c.budget.ensures.limits
-    c.put_pauses.new.found.items (t * 80) ((t + 1 - 1) * 80) (next_step t) c.in_ok-put_pauses.ensures
+    c.in_ok-put_pauses.ensures
 
 pub returns : goal.returns
 returns g c =
     let s = c.args.setting.now in
     let w = world_of s in
-    let last = c.loop-step.step - 1 in
-    let short : s.spec.horizon ≤ last = omega (arith, c.loop-step-test.false, c.horizon-step-end.ensures.value) in
+    let end = c.loop-step.step in
+    let short : s.spec.horizon < end = omega (arith, c.loop-step-test.false, c.horizon-step-end.ensures.value) in
     subst (λ xs. AreRequired w (set_of c.args.run.now) s.spec c.args.reach.now xs c.loop-step.found.items) c.new-2.ensures.faults
     (subst (λ F. AreRequired w F s.spec c.args.reach.now c.new-2.result.faults.now c.loop-step.found.items) (c.new.ensures ∙ c.set-set.ensures)
-    (end_steps w c.new.result.set s.spec c.args.reach.now c.new-2.result.faults.now c.budget.ensures.limits c.loop-step.found.items last short
+    (end_steps w c.new.result.set s.spec c.args.reach.now c.new-2.result.faults.now c.budget.ensures.limits c.loop-step.found.items end short
     c.loop-step.invariant))
 
 pub room_in-requires : goal.room_in-requires

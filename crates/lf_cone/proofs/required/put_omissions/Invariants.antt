@@ -1,10 +1,9 @@
-use Rattle.std.proofs.Common.{◌+◌, ◌-◌, ◌*◌}
 use Rattle.lf_sim.specs.Settings.{world_of}
 use Rattle.lf_cone.specs.Cones.{IsRequired}
-use Rattle.lf_cone.specs.Places.{IsGathered}
+use Rattle.lf_cone.specs.Places.{sender_row, place_at, IsGathered}
 use Rattle.lf_cone.proofs.required.put_omissions.Given as goal
 
 abbrev pub invariant-loop-from : goal.invariant-loop-from
 invariant-loop-from g l =
     IsGathered (IsRequired (world_of l.setting) l.view.effects.set l.setting.spec l.view.reach l.view.marks.faults.now)
-    ((l.step - 1) * 80 + l.from * 8) l.found.items
+    (place_at (sender_row l.from l.step) 0) l.found.items

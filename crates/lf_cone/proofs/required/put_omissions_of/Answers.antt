@@ -1,8 +1,8 @@
-use Rattle.std.proofs.Common.{◌<◌, ◌+◌, ◌-◌, ◌*◌, refl, sym, subst, arith}
+use Rattle.std.proofs.Common.{◌<◌, ◌+◌, refl, sym, subst, arith}
 use Rattle.std.proofs.lemmas.Bool.{both_ways}
 use Rattle.lf_faults.specs.declared.fault.Parts.TheVariants.{Omit}
 use Rattle.lf_sim.specs.Settings.{world_of}
-use Rattle.lf_cone.specs.Places.{AreOpen}
+use Rattle.lf_cone.specs.Places.{sender_row, place_at, AreOpen}
 use Rattle.lf_cone.proofs.RequiredLemmas.{less_than_same, moved, is-fault, put_one, skip_omission, end_receivers}
 use Rattle.lf_cone.proofs.required.put_omissions_of.Goals as goal
 use Rattle.lf_cone.proofs.required.put_omissions_of.Goals.{then-tries_omission+in_ok-push, else-tries_omission}
@@ -35,11 +35,11 @@ loop-to-preserved g c =
     elim c.if-tries_omission.branch [
       | then-tries_omission+in_ok-push b ↦
           rw b.found-is (put_one (world_of s) v.effects.set s.spec v.reach v.marks.faults.now limits c.loop-to.found.items _ b.omission.result (Omit n m t)
-          ((t - 1) * 80 + n * 8 + m) ((t - 1) * 80 + n * 8 + (m + 1)) b.in_ok-push.ensures.items b.omission.ensures (omega arith) (omega arith)
+          (place_at (sender_row n t) m) (place_at (sender_row n t) (m + 1)) b.in_ok-push.ensures.items b.omission.ensures (omega arith) (omega arith)
           c.loop-to.invariant (c.tries_omission.ensures.0 b.if-tries_omission.true))
       | else-tries_omission b ↦
-          rw b.found-is (moved (world_of s) v.effects.set s.spec v.reach v.marks.faults.now limits c.loop-to.found.items ((t - 1) * 80 + n * 8 + m + 1)
-          ((t - 1) * 80 + n * 8 + (m + 1)) (omega arith)
+          rw b.found-is (moved (world_of s) v.effects.set s.spec v.reach v.marks.faults.now limits c.loop-to.found.items (place_at (sender_row n t) m + 1)
+          (place_at (sender_row n t) (m + 1)) (omega arith)
           (skip_omission (world_of s) v.effects.set s.spec v.reach v.marks.faults.now limits c.loop-to.found.items n m t c.requires.first sender receiver
           c.loop-to.invariant (λ p. both_ways c.tries_omission.result b.if-tries_omission.false (c.tries_omission.ensures.1 p))))
     ]

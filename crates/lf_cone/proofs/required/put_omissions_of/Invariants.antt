@@ -1,10 +1,9 @@
-use Rattle.std.proofs.Common.{◌+◌, ◌-◌, ◌*◌}
 use Rattle.lf_sim.specs.Settings.{world_of}
 use Rattle.lf_cone.specs.Cones.{IsRequired}
-use Rattle.lf_cone.specs.Places.{IsGathered}
+use Rattle.lf_cone.specs.Places.{sender_row, place_at, IsGathered}
 use Rattle.lf_cone.proofs.required.put_omissions_of.Given as goal
 
 abbrev pub invariant-loop-to : goal.invariant-loop-to
 invariant-loop-to g l =
     IsGathered (IsRequired (world_of l.setting) l.view.effects.set l.setting.spec l.view.reach l.view.marks.faults.now)
-    ((l.step - 1) * 80 + l.from * 8 + l.to) l.found.items
+    (place_at (sender_row l.from l.step) l.to) l.found.items

@@ -1,7 +1,8 @@
-use Rattle.std.proofs.Common.{◌<◌, ◌+◌, ◌-◌, ◌*◌, refl, arith}
+use Rattle.std.proofs.Common.{◌<◌, ◌+◌, refl, arith}
 use Rattle.std.proofs.lemmas.Bool.{both_ways}
 use Rattle.lf_faults.specs.declared.fault.Parts.TheVariants.{Pause}
 use Rattle.lf_sim.specs.Settings.{world_of}
+use Rattle.lf_cone.specs.Places.{pause_row, place_at}
 use Rattle.lf_cone.proofs.RequiredLemmas.{is-fault, less_than_same, moved, put_one, skip_pause, end_pauses}
 use Rattle.lf_cone.proofs.required.put_pauses.Goals as goal
 use Rattle.lf_cone.proofs.required.put_pauses.Goals.{then-tries_pause+in_ok-push, else-tries_pause}
@@ -17,11 +18,11 @@ loop-node-preserved g c =
     elim c.if-tries_pause.branch [
       | then-tries_pause+in_ok-push b ↦
           rw b.found-is (put_one (world_of s) v.effects.set s.spec v.reach v.marks.faults.now limits c.loop-node.found.items _ b.pause.result (Pause n t)
-          ((t - 1) * 80 + 72 + n) ((t - 1) * 80 + 72 + (n + 1)) b.in_ok-push.ensures.items b.pause.ensures (omega arith) (omega arith)
+          (place_at (pause_row t) n) (place_at (pause_row t) (n + 1)) b.in_ok-push.ensures.items b.pause.ensures (omega arith) (omega arith)
           c.loop-node.invariant (c.tries_pause.ensures.0 b.if-tries_pause.true))
       | else-tries_pause b ↦
-          rw b.found-is (moved (world_of s) v.effects.set s.spec v.reach v.marks.faults.now limits c.loop-node.found.items ((t - 1) * 80 + 72 + n + 1)
-          ((t - 1) * 80 + 72 + (n + 1)) (omega arith)
+          rw b.found-is (moved (world_of s) v.effects.set s.spec v.reach v.marks.faults.now limits c.loop-node.found.items (place_at (pause_row t) n + 1)
+          (place_at (pause_row t) (n + 1)) (omega arith)
           (skip_pause (world_of s) v.effects.set s.spec v.reach v.marks.faults.now limits c.loop-node.found.items n t c.requires.first node
           c.loop-node.invariant (λ p. both_ways c.tries_pause.result b.if-tries_pause.false (c.tries_pause.ensures.1 p))))
     ]

@@ -1,8 +1,9 @@
-use Rattle.std.proofs.Common.{◌+◌, ◌-◌, ◌*◌, arith}
+use Rattle.std.proofs.Common.{◌+◌, arith}
 use Rattle.std.proofs.lemmas.Bool.{both_ways, false≢true}
 use Rattle.lf_faults.specs.declared.fault.Parts.TheVariants.{Crash}
 use Rattle.lf_faults.proofs.Laws.{admitted-fault, any_crash}
 use Rattle.lf_sim.specs.Settings.{world_of}
+use Rattle.lf_cone.specs.Places.{place_at}
 use Rattle.lf_cone.proofs.Gathering.{marked-in, in-marked}
 use Rattle.lf_cone.proofs.RequiredLemmas.{is-fault, crash-lives, lives-crash}
 use Rattle.lf_cone.proofs.required.tries_crash.Goals as goal
@@ -25,7 +26,7 @@ returns-then-at g c =
       λ h. absurd (false≢true h),
       λ p. absurd (p.included (marked-in v.marks.faults.now v.marks.rows c.requires.marks f
           (is-fault (world_of s) v.effects.set s.spec v.reach v.marks.faults.now c.nodes-nodes.ensures.limits f p)
-          (((c.args.step - 1) * 10 + 8) * 8 + c.args.node) (omega arith)
+          (place_at c.crash_row.result c.args.node) (omega (arith, c.crash_row.ensures.value))
           (c.at.ensures.0 c.if-at.true))),
     )
 
@@ -42,7 +43,7 @@ returns g c =
             ((c.requires.room.crash c.args.node c.requires.node).0 c.if-not-view-node.false) c.requires.first c.requires.last;
         included = λ k. both_ways c.at.result c.if-at.false (c.at.ensures.1 (in-marked v.marks.faults.now v.marks.rows c.requires.marks f
             (admitted-fault s.spec f limits (c.requires.node, c.requires.first, c.requires.last))
-            (((c.args.step - 1) * 10 + 8) * 8 + c.args.node) (omega arith) k));
+            (place_at c.crash_row.result c.args.node) (omega (arith, c.crash_row.ensures.value)) k));
       },
       λ p. c.lives.ensures.1 (lives-crash w v.effects.set s.spec v.reach v.marks.faults.now limits c.args.node c.args.step (c.horizon.result + 1) (omega
           (arith, c.horizon.ensures.value)) p.supports),

@@ -1,10 +1,11 @@
-use Rattle.std.proofs.Common.{◌+◌, ◌-◌, ◌*◌, arith}
+use Rattle.std.proofs.Common.{arith}
 use Rattle.std.proofs.lemmas.Bool.{false≢true}
 use Rattle.std.proofs.lemmas.Nat.Bits.{shr_and_one, bit_at-lt}
 use Rattle.lf_faults.specs.declared.fault.Parts.TheVariants.{Omit}
 use Rattle.lf_faults.proofs.Laws.{admitted-fault}
 use Rattle.lf_sim.specs.Settings.{world_of}
 use Rattle.lf_cone.specs.Cones.{Supports}
+use Rattle.lf_cone.specs.Places.{sender_row, place_at}
 use Rattle.lf_cone.proofs.Gathering.{marked-in, in-marked}
 use Rattle.lf_cone.proofs.RequiredLemmas.{is-admitted, is-fault, omission-added}
 use Rattle.lf_cone.proofs.required.tries_omission.Goals as goal
@@ -31,7 +32,7 @@ returns-then-slots-to-eq0 g c =
             p.supports.0,
             λ m. p.included
                 (marked-in v.marks.faults.now v.marks.rows c.requires.marks f
-                (is-fault (world_of s) v.effects.set s.spec v.reach v.marks.faults.now limits f p) (((c.args.step - 1) * 10 + c.args.from) * 8 + c.args.to)
+                (is-fault (world_of s) v.effects.set s.spec v.reach v.marks.faults.now limits f p) (place_at (sender_row c.args.from c.args.step) c.args.to)
                 (omega arith) m),
           ) in
           absurd (omega (arith, set, bit, c.if-slots-to-eq0.true)),
@@ -56,7 +57,7 @@ returns g c =
                 c.args.step c.requires.from c.requires.to c.if-from-to.false c.requires.first c.requires.last supports;
             included = λ k. sent.1 (in-marked v.marks.faults.now v.marks.rows c.requires.marks f (admitted-fault s.spec f limits
                 (c.requires.from, c.requires.to, c.if-from-to.false, c.requires.first, c.requires.last))
-                (((c.args.step - 1) * 10 + c.args.from) * 8 + c.args.to) (omega arith) k);
+                (place_at (sender_row c.args.from c.args.step) c.args.to) (omega arith) k);
           },
       λ p. c.is_heard.ensures.1 p.supports.1,
     )
