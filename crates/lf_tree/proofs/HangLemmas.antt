@@ -1,5 +1,5 @@
 -- The rows of a tree: their branches, their nodes, and how many they are.
-use Rattle.std.proofs.Common.{◌≡◌, ℕ, zero, suc, ◌+◌, ◌<◌, List, [], ◌∷◌, ◌++◌, length, length-append, refl, sym, ap, ◌∙◌, map, sum, arith}
+use Rattle.std.proofs.Common.{◌≡◌, ℕ, zero, suc, ◌+◌, List, [], ◌∷◌, ◌++◌, length, length-append, refl, sym, ap, ◌∙◌, map, sum, arith}
 use Rattle.std.specs.Prelude.{Some}
 use Rattle.std.specs.List.{AllByRecursion, flat_map, slice_get}
 use Rattle.std.specs.Option.{option_map}
@@ -9,15 +9,16 @@ use Rattle.std.proofs.lemmas.List.Sums.{sum_by-cons}
 use Rattle.std.proofs.lemmas.Option.{slice_get-map}
 use Rattle.lf_faults.specs.declared.fault.Parts.{Parts}
 use Rattle.lf_tree.specs.declared.tree.Tree.{Tree}
-use Rattle.lf_tree.specs.declared.tree.Node.{Node, fold-roll-Node, para-Node, para-roll-Node}
+use Rattle.lf_tree.specs.declared.tree.Node.{Node, para-Node, para-roll-Node}
 use Rattle.lf_tree.specs.declared.tree.Node.TheVariants.{rolls-Misses, rolls-Reaches, rolls-Branch}
 use Rattle.lf_tree.specs.declared.tree.Node.TheVariants as kind
 use Rattle.lf_tree.specs.declared.tree.Node.TheOpen.{Node-F}
-use Rattle.lf_tree.specs.Counts.{nodes_in, nodes_of, nodes_step}
-use Rattle.lf_tree.specs.Heirs.{AreLinked, HasBranch, IsHung, kids_of}
+use Rattle.lf_tree.specs.Counts.{nodes_in, nodes_of}
+use Rattle.lf_tree.specs.Heirs.{AreLinked, HasBranch, kids_of}
+use Rattle.lf_tree.specs.Preorder.{AreHung}
 use Rattle.lf_tree.specs.Rows.{Seen, beneath, preorder, preorder_step, rows_of}
 use Rattle.lf_tree.proofs.Inductions.{by_induction}
-use Rattle.lf_tree.proofs.KindLemmas.{nodes_in-Branch}
+use Rattle.lf_tree.proofs.KindLemmas.{nodes_in-Branch, nodes_in-Misses, nodes_in-Reaches}
 use Rattle.lf_tree.proofs.LinkLemmas.{linked, linked_rows}
 use Rattle.lf_tree.proofs.RowLemmas.{beneath-Branch, beneath-Misses, beneath-Reaches, kid_row, kids_rows}
 
@@ -33,7 +34,7 @@ to_map f xs k x is = slice_get-map f xs k ∙ ap (option_map f) is
 abbrev nothing : ℕ → Node → ℕ → ℕ
 nothing value n kid = 0
 
-pub hung : (tree : Tree) (k : ℕ) (r : Seen) → 0 < k → slice_get (rows_of tree) k ≡ Some r → IsHung (rows_of tree) k r
+pub hung : (tree : Tree) → AreHung (rows_of tree)
 hung tree k r later is =
     let rows : List (Seen × ℕ) = linked_rows nothing tree 0 in
     let are : AreLinked nothing tree 0 rows = linked nothing tree 0 in
@@ -116,13 +117,7 @@ counted-kids place depth next kid (k ∷ ks) all =
     let both : length (rows ++ rest) ≡ length rows + length rest = length-append rows rest in
     omega (arith, one, own, more, whole, both)
 
-nodes_in-Misses : nodes_in kind.Misses ≡ 1
-nodes_in-Misses = ap nodes_in (sym rolls-Misses) ∙ fold-roll-Node ℕ nodes_step Node-F.Misses
-
-nodes_in-Reaches : nodes_in kind.Reaches ≡ 1
-nodes_in-Reaches = ap nodes_in (sym rolls-Reaches) ∙ fold-roll-Node ℕ nodes_step Node-F.Reaches
-
-is_counted : (n : Node) → IsCounted n
+pub is_counted : (n : Node) → IsCounted n
 is_counted = by_induction IsCounted (record {
   misses = λ place depth next. ap (λ b. length (b place depth next) + 1) beneath-Misses ∙ sym nodes_in-Misses;
   reaches = λ place depth next. ap (λ b. length (b place depth next) + 1) beneath-Reaches ∙ sym nodes_in-Reaches;

@@ -34,6 +34,12 @@ has_pause-Branch reach edges kids =
     ap has_pause (sym (rolls-Branch reach edges kids)) ∙ fold-roll-Node Bool pauses_step (Node-F.Branch reach edges kids)
     ∙ ap (λ b. list_any is_pause edges || b) (list_any-same has_pause kids)
 
+pub nodes_in-Misses : nodes_in kind.Misses ≡ 1
+nodes_in-Misses = ap nodes_in (sym rolls-Misses) ∙ fold-roll-Node ℕ nodes_step Node-F.Misses
+
+pub nodes_in-Reaches : nodes_in kind.Reaches ≡ 1
+nodes_in-Reaches = ap nodes_in (sym rolls-Reaches) ∙ fold-roll-Node ℕ nodes_step Node-F.Reaches
+
 pub nodes_in-Branch : (reach : List ℕ) (edges : List Parts) (kids : List Node)
     → nodes_in (kind.Branch reach edges kids) ≡ 1 + sum (map nodes_in kids)
 nodes_in-Branch reach edges kids =

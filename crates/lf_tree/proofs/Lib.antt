@@ -13,6 +13,8 @@ mod ListLemmas
 mod Named
 mod NodeCases
 mod NodeSteps
+mod PlaceLemmas
+mod PlacedLists
 mod PutLemmas
 mod ReadBack
 mod ReadFacts

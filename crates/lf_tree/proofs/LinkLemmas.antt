@@ -1,7 +1,7 @@
 -- How the rows of a tree hang together.
 use Rattle.std.proofs.Common.{◌≡◌, ℕ, zero, suc, ◌+◌, ◌<◌, List, [], ◌∷◌, ◌++◌}
 use Rattle.std.proofs.Common.{length, length-append, refl, sym, ap, subst, ◌∙◌, map, append_assoc, inl, inr, arith}
-use Rattle.std.specs.Prelude.{◌⊎◌, ⊤, None, Some}
+use Rattle.std.specs.Prelude.{◌⊎◌, None, Some}
 use Rattle.std.specs.List.{AllByRecursion, slice_get}
 use Rattle.std.proofs.Math.Seq.{get_or-append_seam}
 use Rattle.std.proofs.lemmas.List.{append-nil, length-map, map-append}
@@ -9,13 +9,20 @@ use Rattle.std.proofs.lemmas.Option.{slice_get_read}
 use Rattle.lf_faults.specs.declared.fault.Parts.{Parts}
 use Rattle.lf_tree.specs.declared.tree.Tree.{Tree}
 use Rattle.lf_tree.specs.declared.tree.Node.{Node, para-Node, para-roll-Node}
-use Rattle.lf_tree.specs.declared.tree.Node.TheVariants.{rolls-Misses, rolls-Reaches, rolls-Branch, outs-Branch}
+use Rattle.lf_tree.specs.declared.tree.Node.TheVariants.{rolls-Misses, rolls-Reaches, rolls-Branch, outs-Misses, outs-Reaches, outs-Branch}
 use Rattle.lf_tree.specs.declared.tree.Node.TheVariants as kind
 use Rattle.lf_tree.specs.declared.tree.Node.TheOpen.{Node-F}
 use Rattle.lf_tree.specs.Heirs.{AreLinked, HasBranch, heirs, heirs_of, heirs_step, inherited, inherited_by, kids_in, kids_of}
 use Rattle.lf_tree.specs.Rows.{Seen, beneath}
 use Rattle.lf_tree.proofs.Inductions.{by_induction}
+use Rattle.lf_tree.proofs.PlacedLists.{AllFrom, all_from-append, all_from-at}
 use Rattle.lf_tree.proofs.RowLemmas.{beneath-Branch, beneath-Misses, beneath-Reaches, kid_row, kids_rows}
+
+pub kids_of-Misses : kids_of kind.Misses ≡ []
+kids_of-Misses = ap kids_in outs-Misses
+
+pub kids_of-Reaches : kids_of kind.Reaches ≡ []
+kids_of-Reaches = ap kids_in outs-Reaches
 
 pub kids_of-Branch : (reach : List ℕ) (edges : List Parts) (kids : List Node) → kids_of (kind.Branch reach edges kids) ≡ kids
 kids_of-Branch reach edges kids = ap kids_in (outs-Branch reach edges kids)
@@ -113,28 +120,7 @@ module _ {A : Type 0} (handed : A → Node → ℕ → A) where
 
   -- each of these rows, from a place of the whole list on, hangs in its branch
   abbrev Hang : List (Seen × A) → ℕ → List (Seen × A) → Type 0
-  Hang whole at [] = ⊤
-  Hang whole at (e ∷ es) = HasBranch handed whole at e × Hang whole (at + 1) es
-
-  hang-append : (whole : List (Seen × A)) (at after : ℕ) (xs ys : List (Seen × A)) → after ≡ at + length xs → Hang whole at xs → Hang whole after ys
-      → Hang whole at (xs ++ ys)
-  hang-append whole at after [] ys is front back =
-      let same : after ≡ at = omega (arith, is) in
-      subst (λ k. Hang whole k ys) same back
-  hang-append whole at after (x ∷ xs) ys is front back =
-      let more : length (x ∷ xs) ≡ suc (length xs) = refl in
-      (front.0, hang-append whole (at + 1) after xs ys (omega (arith, is, more)) front.1 back)
-
-  hang-at : (whole : List (Seen × A)) (at : ℕ) (xs : List (Seen × A)) → Hang whole at xs → (k : ℕ) (e : Seen × A) → slice_get xs k ≡ Some e
-      → HasBranch handed whole (at + k) e
-  hang-at whole at [] all k e is = absurd (cc)
-  hang-at whole at (x ∷ xs) all zero e is =
-      let same : x ≡ e = cc in
-      let here : at ≡ at + 0 = omega arith in
-      subst (λ j. HasBranch handed whole j e) here (subst (λ y. HasBranch handed whole at y) same all.0)
-  hang-at whole at (x ∷ xs) all (suc k) e is =
-      let there : (at + 1) + k ≡ at + suc k = omega arith in
-      subst (λ j. HasBranch handed whole j e) there (hang-at whole (at + 1) xs all.1 k e is)
+  Hang whole = AllFrom (HasBranch handed whole)
 
   -- what holds of the rows beneath a node
   record Told (n : Node) : Type 0 where
@@ -219,7 +205,7 @@ module _ {A : Type 0} (handed : A → Node → ℕ → A) where
       (all_kids ∙ sym (append_assoc done (k ∷ []) ks))
       (let last : length (k ∷ []) ≡ 1 = refl in omega (arith, kid_is, last, length-append done (k ∷ [])))
       whole_rest rest_counted (omega (arith, earlier)) there node_is depth_is in
-      hang-append whole next (next + length all) all rest refl (own, beneath_it) later
+      all_from-append (HasBranch handed whole) next (next + length all) all rest refl (own, beneath_it) later
 
   told_all : (n : Node) → Told n
   told_all = by_induction Told (record {
@@ -257,7 +243,7 @@ module _ {A : Type 0} (handed : A → Node → ℕ → A) where
       → slice_get ((root, value) ∷ below) k ≡ Some e → HasBranch handed whole k e
   hang_later whole root value below hangs zero e later is = absurd (omega (arith, later))
   hang_later whole root value below hangs (suc k) e later is =
-      subst (λ j. HasBranch handed whole j e) (let same : 1 + k ≡ suc k = omega arith in same) (hang-at whole 1 below hangs k e is)
+      subst (λ j. HasBranch handed whole j e) (let same : 1 + k ≡ suc k = omega arith in same) (all_from-at (HasBranch handed whole) 1 below hangs k e is)
 
   -- the rows of a tree, each with the value of its node
   abbrev pub linked_rows : Tree → A → List (Seen × A)

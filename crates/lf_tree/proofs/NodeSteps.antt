@@ -7,13 +7,10 @@ use Rattle.lf_tree.specs.declared.fault.TreeFault.TheVariants.{Form, TooDeep, Me
 use Rattle.lf_tree.specs.declared.tree.Node.{Node}
 use Rattle.lf_tree.specs.declared.tree.Node.TheVariants as kind
 use Rattle.lf_tree.specs.Reading.{◌>>=◌, edges_in, kids_in, reach_in}
-use Rattle.lf_tree.specs.Reading.{Reading, one_in, three_in, leaf_in, leaf_or, branch_in, node_in}
+use Rattle.lf_tree.specs.Reading.{BranchData, Reading, one_in, branch_parts, leaf_in, leaf_or, branch_in, node_in}
 
 abbrev misses_in : Data → Option Data
 misses_in d = one_in (codes "misses") d
-
-abbrev branch_parts : Data → Option (Data × (Data × Data))
-branch_parts d = three_in (codes "edges") (codes "kids") (codes "reach") d
 
 pub node_in-leaf : (room : ℕ) (d m : Data) → misses_in d ≡ Some m → node_in room d ≡ leaf_in m
 unfolding node_in
@@ -25,13 +22,13 @@ unfolding node_in
 node_in-form zero d no_leaf none = ap₂ (leaf_or (λ parts. Err TooDeep)) no_leaf none
 node_in-form (suc room) d no_leaf none = ap₂ (leaf_or (branch_in (node_in room))) no_leaf none
 
-pub node_in-deep : (room : ℕ) (d : Data) (parts : Data × (Data × Data)) → misses_in d ≡ None → branch_parts d ≡ Some parts → room ≡ 0
+pub node_in-deep : (room : ℕ) (d : Data) (parts : BranchData) → misses_in d ≡ None → branch_parts d ≡ Some parts → room ≡ 0
     → node_in room d ≡ Err TooDeep
 unfolding node_in
 node_in-deep zero d parts no_leaf is full = ap₂ (leaf_or (λ parts. Err TooDeep)) no_leaf is
 node_in-deep (suc room) d parts no_leaf is full = absurd (omega arith)
 
-pub node_in-branch : (room : ℕ) (d : Data) (parts : Data × (Data × Data)) → misses_in d ≡ None → branch_parts d ≡ Some parts → room ≢ 0
+pub node_in-branch : (room : ℕ) (d : Data) (parts : BranchData) → misses_in d ≡ None → branch_parts d ≡ Some parts → room ≢ 0
     → node_in room d ≡ branch_in (node_in (room - 1)) parts
 unfolding node_in
 node_in-branch zero d parts no_leaf is some = absurd (some refl)
@@ -40,16 +37,16 @@ node_in-branch (suc room) d parts no_leaf is some =
     ap₂ (leaf_or (branch_in (node_in room))) no_leaf is ∙ ap (λ n. branch_in (node_in n) parts) e
 
 -- a branch of which all is read, and one whose kids are wrong
-with_kids : (read : Data → Reading Node) (parts : Data × (Data × Data)) (es : List Parts) (rs : List ℕ) → edges_in parts.0 ≡ Ok es
-    → reach_in parts.1.1 ≡ Ok rs → branch_in read parts ≡ (kids_in read parts.1.0 >>= (λ ns. Ok (kind.Branch rs es ns)))
+with_kids : (read : Data → Reading Node) (parts : BranchData) (es : List Parts) (rs : List ℕ) → edges_in parts.edges ≡ Ok es
+    → reach_in parts.reach ≡ Ok rs → branch_in read parts ≡ (kids_in read parts.kids >>= (λ ns. Ok (kind.Branch rs es ns)))
 with_kids read parts es rs edges reach = rw (edges, reach) refl
 
-pub branch_in-all : (read : Data → Reading Node) (parts : Data × (Data × Data)) (es : List Parts) (rs : List ℕ) (ns : List Node)
-    → edges_in parts.0 ≡ Ok es → reach_in parts.1.1 ≡ Ok rs → kids_in read parts.1.0 ≡ Ok ns → branch_in read parts ≡ Ok (kind.Branch rs es ns)
+pub branch_in-all : (read : Data → Reading Node) (parts : BranchData) (es : List Parts) (rs : List ℕ) (ns : List Node)
+    → edges_in parts.edges ≡ Ok es → reach_in parts.reach ≡ Ok rs → kids_in read parts.kids ≡ Ok ns → branch_in read parts ≡ Ok (kind.Branch rs es ns)
 branch_in-all read parts es rs ns edges reach kids = with_kids read parts es rs edges reach ∙ ap (λ r. r >>= (λ ns. Ok (kind.Branch rs es ns))) kids
 
-pub branch_in-wrong : (read : Data → Reading Node) (parts : Data × (Data × Data)) (es : List Parts) (rs : List ℕ) (e : TreeFault)
-    → edges_in parts.0 ≡ Ok es → reach_in parts.1.1 ≡ Ok rs → kids_in read parts.1.0 ≡ Err e → branch_in read parts ≡ Err e
+pub branch_in-wrong : (read : Data → Reading Node) (parts : BranchData) (es : List Parts) (rs : List ℕ) (e : TreeFault)
+    → edges_in parts.edges ≡ Ok es → reach_in parts.reach ≡ Ok rs → kids_in read parts.kids ≡ Err e → branch_in read parts ≡ Err e
 branch_in-wrong read parts es rs e edges reach kids = with_kids read parts es rs edges reach ∙ ap (λ r. r >>= (λ ns. Ok (kind.Branch rs es ns))) kids
 
 -- what is said of a reading says the same of one that is equal

@@ -17,7 +17,8 @@ use Rattle.lf_tree.specs.Values.{fault_value, whole_value, listed, faults_value,
 use Rattle.lf_tree.specs.Reading.{Reading, ◌>>=◌, checked, some_or, fault_in, step_in, all_in, faults_in, edges_in, steps_in, reach_in, set_in, answer_in}
 use Rattle.lf_tree.specs.Reading.{format_in, kids_in, node_in, most_branches, tree_in}
 use Rattle.lf_tree.proofs.Named.{IsFault-true, named-spelling}
-use Rattle.lf_tree.proofs.NodeCases.{by_induction, fold-Misses, fold-Reaches, fold-Branch, all_true, both_of, each_of, depth-kids}
+use Rattle.lf_tree.proofs.Inductions.{by_induction}
+use Rattle.lf_tree.proofs.NodeCases.{fold-Misses, fold-Reaches, fold-Branch, all_true, both_of, each_of, depth-kids}
 use Rattle.lf_tree.proofs.NodeSteps.{node_in-leaf, node_in-branch}
 use Rattle.lf_tree.proofs.Written.{parts-Branch}
 
@@ -91,7 +92,7 @@ branch-back reach edges kids each room is shallow =
     let reach_read : reach_in (listed (map whole_value reach)) ≡ Ok reach = reach-back reach parts.count parts.steps in
     let value = fold-Branch Data value_step reach edges kids in
     ap (node_in room) value
-    ∙ node_in-branch room _ (faults_value edges, (listed (map node_value kids), listed (map whole_value reach))) refl refl some
+    ∙ node_in-branch room _ (record { edges = faults_value edges; kids = listed (map node_value kids); reach = listed (map whole_value reach) }) refl refl some
     ∙ ap (λ r. r >>= (λ es. reach_in (listed (map whole_value reach)) >>= (λ rs. kids_in (node_in (room - 1))
     (listed (map node_value kids)) >>= (λ ns. Ok (kind.Branch rs es ns))))) edges_read
     ∙ ap (λ r. r >>= (λ rs. kids_in (node_in (room - 1)) (listed (map node_value kids)) >>= (λ ns. Ok (kind.Branch rs edges ns)))) reach_read

@@ -14,7 +14,7 @@ use Rattle.lf_tree.specs.declared.tree.Node.TheVariants as kind
 use Rattle.lf_tree.specs.Texts.{depth_of, depth_step}
 use Rattle.lf_tree.specs.Trees.{is_ascending, is_count}
 use Rattle.lf_tree.specs.Reading.{Reading, ◌>>=◌, checked, some_or, fault_named, fault_in, whole_in, step_in, all_in, faults_in, edges_in, steps_in, reach_in}
-use Rattle.lf_tree.specs.Reading.{set_in, answer_in, format_in, one_in, three_in, leaf_in, leaf_or, kids_in, branch_in, node_in, most_branches, parts_in}
+use Rattle.lf_tree.specs.Reading.{BranchData, set_in, answer_in, format_in, one_in, branch_parts, tree_parts, leaf_in, leaf_or, kids_in, branch_in, node_in, most_branches, parts_in}
 use Rattle.lf_tree.specs.Reading.{tree_in}
 use Rattle.lf_tree.proofs.NodeCases.{fold-Misses, fold-Reaches, depth-Branch-le}
 
@@ -53,8 +53,8 @@ leaf-low room (string s) = tt
 leaf-low room (array ds) = tt
 leaf-low room (object ms) = tt
 
-leaf_or-low : (room : ℕ) (branch : Data × (Data × Data) → Reading Node) → ((parts : Data × (Data × Data)) → IfOk (branch parts) (IsLow room))
-    → (leaf : Option Data) (parts : Option (Data × (Data × Data))) → IfOk (leaf_or branch leaf parts) (IsLow room)
+leaf_or-low : (room : ℕ) (branch : BranchData → Reading Node) → ((parts : BranchData) → IfOk (branch parts) (IsLow room))
+    → (leaf : Option Data) (parts : Option BranchData) → IfOk (leaf_or branch leaf parts) (IsLow room)
 leaf_or-low room branch h (Some d) parts = leaf-low room d
 leaf_or-low room branch h None (Some parts) = h parts
 leaf_or-low room branch h None None = tt
@@ -68,34 +68,34 @@ kids-low room read h (string s) = tt
 kids-low room read h (array ds) = all-ok (IsLow room) read h ds
 kids-low room read h (object ms) = tt
 
-branch-low : (room : ℕ) (read : Data → Reading Node) → ((d : Data) → IfOk (read d) (IsLow room)) → (parts : Data × (Data × Data))
+branch-low : (room : ℕ) (read : Data → Reading Node) → ((d : Data) → IfOk (read d) (IsLow room)) → (parts : BranchData)
     → IfOk (branch_in read parts) (IsLow (suc room))
 branch-low room read h parts =
-    after-ok (λ _. ⊤) (IsLow (suc room)) (edges_in parts.0) _ (any-ok (edges_in parts.0))
-    (λ es e. after-ok (λ _. ⊤) (IsLow (suc room)) (reach_in parts.1.1) (λ rs. kids_in read parts.1.0 >>= (λ ns. Ok (kind.Branch rs es ns)))
-    (any-ok (reach_in parts.1.1))
-    (λ rs r. after-ok (AllByRecursion (IsLow room)) (IsLow (suc room)) (kids_in read parts.1.0) (λ ns. Ok (kind.Branch rs es ns))
-    (kids-low room read h parts.1.0)
+    after-ok (λ _. ⊤) (IsLow (suc room)) (edges_in parts.edges) _ (any-ok (edges_in parts.edges))
+    (λ es e. after-ok (λ _. ⊤) (IsLow (suc room)) (reach_in parts.reach) (λ rs. kids_in read parts.kids >>= (λ ns. Ok (kind.Branch rs es ns)))
+    (any-ok (reach_in parts.reach))
+    (λ rs r. after-ok (AllByRecursion (IsLow room)) (IsLow (suc room)) (kids_in read parts.kids) (λ ns. Ok (kind.Branch rs es ns))
+    (kids-low room read h parts.kids)
     (λ ns low. omega (arith, depth-Branch-le rs es ns room low))))
 
 pub node-low : (room : ℕ) (d : Data) → IfOk (node_in room d) (IsLow room)
 unfolding node_in
-node-low zero d = leaf_or-low zero (λ parts. Err TooDeep) (λ parts. tt) (one_in (codes "misses") d) (three_in (codes "edges") (codes "kids") (codes "reach") d)
+node-low zero d = leaf_or-low zero (λ parts. Err TooDeep) (λ parts. tt) (one_in (codes "misses") d) (branch_parts d)
 node-low (suc room) d =
     leaf_or-low (suc room) (branch_in (node_in room)) (branch-low room (node_in room) (node-low room)) (one_in (codes "misses") d)
-    (three_in (codes "edges") (codes "kids") (codes "reach") d)
+    (branch_parts d)
 
 abbrev IsShallow : Tree → Type 0
 IsShallow t = depth_of t.root ≤ 6
 
 pub tree-low : (d : Data) → IfOk (tree_in d) IsShallow
 tree-low d =
-    after-ok (λ _. ⊤) IsShallow (some_or Form (three_in (codes "answer") (codes "format") (codes "root") d)) parts_in
-    (any-ok (some_or Form (three_in (codes "answer") (codes "format") (codes "root") d)))
-    (λ parts p. after-ok (λ _. ⊤) IsShallow (answer_in parts.0) _ (any-ok (answer_in parts.0))
-    (λ a q. after-ok (λ _. ⊤) IsShallow (format_in parts.1.0) (λ f. node_in most_branches parts.1.1 >>= (λ n. Ok (record { answer = a; root = n })))
-    (any-ok (format_in parts.1.0))
-    (λ f r. after-ok (IsLow 6) IsShallow (node_in most_branches parts.1.1) (λ n. Ok (record { answer = a; root = n })) (node-low 6 parts.1.1) (λ n low. low))))
+    after-ok (λ _. ⊤) IsShallow (some_or Form (tree_parts d)) parts_in
+    (any-ok (some_or Form (tree_parts d)))
+    (λ parts p. after-ok (λ _. ⊤) IsShallow (answer_in parts.answer) _ (any-ok (answer_in parts.answer))
+    (λ a q. after-ok (λ _. ⊤) IsShallow (format_in parts.format) (λ f. node_in most_branches parts.root >>= (λ n. Ok (record { answer = a; root = n })))
+    (any-ok (format_in parts.format))
+    (λ f r. after-ok (IsLow 6) IsShallow (node_in most_branches parts.root) (λ n. Ok (record { answer = a; root = n })) (node-low 6 parts.root) (λ n low. low))))
 
 -- What can be wrong
 
@@ -194,29 +194,29 @@ kids-sound read h (string s) = refl
 kids-sound read h (array ds) = all-sound read h ds
 kids-sound read h (object ms) = refl
 
-leaf_or-sound : (branch : Data × (Data × Data) → Reading Node) → ((parts : Data × (Data × Data)) → IsSound (branch parts)) → (leaf : Option Data)
-    (parts : Option (Data × (Data × Data))) → IsSound (leaf_or branch leaf parts)
+leaf_or-sound : (branch : BranchData → Reading Node) → ((parts : BranchData) → IsSound (branch parts)) → (leaf : Option Data)
+    (parts : Option BranchData) → IsSound (leaf_or branch leaf parts)
 leaf_or-sound branch h (Some d) parts = leaf-sound d
 leaf_or-sound branch h None (Some parts) = h parts
 leaf_or-sound branch h None None = refl
 
-branch-sound : (read : Data → Reading Node) → ((d : Data) → IsSound (read d)) → (parts : Data × (Data × Data)) → IsSound (branch_in read parts)
+branch-sound : (read : Data → Reading Node) → ((d : Data) → IsSound (read d)) → (parts : BranchData) → IsSound (branch_in read parts)
 branch-sound read h parts =
-    after-sound (edges_in parts.0) _ (edges-sound parts.0)
-    (λ es. after-sound (reach_in parts.1.1) (λ rs. kids_in read parts.1.0 >>= (λ ns. Ok (kind.Branch rs es ns))) (reach-sound parts.1.1)
-    (λ rs. after-sound (kids_in read parts.1.0) (λ ns. Ok (kind.Branch rs es ns)) (kids-sound read h parts.1.0) (λ ns. tt)))
+    after-sound (edges_in parts.edges) _ (edges-sound parts.edges)
+    (λ es. after-sound (reach_in parts.reach) (λ rs. kids_in read parts.kids >>= (λ ns. Ok (kind.Branch rs es ns))) (reach-sound parts.reach)
+    (λ rs. after-sound (kids_in read parts.kids) (λ ns. Ok (kind.Branch rs es ns)) (kids-sound read h parts.kids) (λ ns. tt)))
 
 node-sound : (room : ℕ) (d : Data) → IsSound (node_in room d)
 unfolding node_in
-node-sound zero d = leaf_or-sound (λ parts. Err TooDeep) (λ parts. refl) (one_in (codes "misses") d) (three_in (codes "edges") (codes "kids") (codes "reach") d)
+node-sound zero d = leaf_or-sound (λ parts. Err TooDeep) (λ parts. refl) (one_in (codes "misses") d) (branch_parts d)
 node-sound (suc room) d =
     leaf_or-sound (branch_in (node_in room)) (branch-sound (node_in room) (node-sound room)) (one_in (codes "misses") d)
-    (three_in (codes "edges") (codes "kids") (codes "reach") d)
+    (branch_parts d)
 
 pub tree-sound : (d : Data) → IsSound (tree_in d)
 tree-sound d =
-    after-sound (some_or Form (three_in (codes "answer") (codes "format") (codes "root") d)) parts_in
-    (some-sound Form (three_in (codes "answer") (codes "format") (codes "root") d) refl)
-    (λ parts. after-sound (answer_in parts.0) _ (answer-sound parts.0)
-    (λ a. after-sound (format_in parts.1.0) (λ f. node_in most_branches parts.1.1 >>= (λ n. Ok (record { answer = a; root = n }))) (format-sound parts.1.0)
-    (λ f. after-sound (node_in most_branches parts.1.1) (λ n. Ok (record { answer = a; root = n })) (node-sound most_branches parts.1.1) (λ n. tt))))
+    after-sound (some_or Form (tree_parts d)) parts_in
+    (some-sound Form (tree_parts d) refl)
+    (λ parts. after-sound (answer_in parts.answer) _ (answer-sound parts.answer)
+    (λ a. after-sound (format_in parts.format) (λ f. node_in most_branches parts.root >>= (λ n. Ok (record { answer = a; root = n }))) (format-sound parts.format)
+    (λ f. after-sound (node_in most_branches parts.root) (λ n. Ok (record { answer = a; root = n })) (node-sound most_branches parts.root) (λ n. tt))))

@@ -1,5 +1,5 @@
 -- The rows of a tree, kid by kid.
-use Rattle.std.proofs.Common.{◌≡◌, ℕ, ◌+◌, ◌<◌, ◌≤◌, List, [], ◌∷◌, ◌++◌, length, length-append, get_or, drop, map, sym, ap, ◌∙◌, append_assoc, inl, inr, arith}
+use Rattle.std.proofs.Common.{◌≡◌, ℕ, ◌+◌, ◌<◌, ◌≤◌, List, [], ◌∷◌, ◌++◌, length, length-append, get_or, drop, map, refl, sym, ap, ◌∙◌, append_assoc, inl, inr, arith}
 use Rattle.std.specs.Prelude.{◌⊎◌, Some}
 use Rattle.std.proofs.lemmas.List.{append-nil, drop_more, drop_all, length-map, map-append}
 use Rattle.lf_faults.specs.declared.fault.Parts.{Parts}
@@ -25,6 +25,11 @@ pub beneath-Branch : (reach : List ℕ) (edges : List Parts) (kids : List Node) 
 beneath-Branch reach edges kids place depth next =
     ap (λ n. beneath n place depth next) (sym (rolls-Branch reach edges kids))
     ∙ ap (λ b. b place depth next) (para-roll-Node (ℕ → ℕ → ℕ → List Seen) beneath_step (Node-F.Branch reach edges kids))
+
+-- the nodes of rows
+pub nodes-seen : (rows : List Row) → map (λ (row : Row). row.node.now) rows ≡ map (λ (r : Seen). r.node) (map seen rows)
+nodes-seen [] = refl
+nodes-seen (row ∷ rows) = ap (λ ns. row.node.now ∷ ns) (nodes-seen rows)
 
 -- the row of a kid
 abbrev pub kid_row : ℕ → ℕ → ℕ → Node → Seen

@@ -32,7 +32,8 @@ use Rattle.lf_tree.specs.Trees.{is_fault, is_count, is_reach, is_node_step, is_n
 use Rattle.lf_tree.specs.Values.{fault_value, whole_value, listed, faults_value, keyed, value_step, node_value, answer_value, tree_value}
 use Rattle.lf_tree.proofs.Bytes.{ascii-append, ascii-plain, escape-plain, plain-decimal, plain-spelling}
 use Rattle.lf_tree.proofs.Named.{IsFault-true}
-use Rattle.lf_tree.proofs.NodeCases.{by_induction, fold-Misses, fold-Reaches, fold-Branch, of_map, all_true, both_of, each_of, depth-kids}
+use Rattle.lf_tree.proofs.Inductions.{by_induction}
+use Rattle.lf_tree.proofs.NodeCases.{fold-Misses, fold-Reaches, fold-Branch, of_map, all_true, both_of, each_of, depth-kids}
 
 -- the text is that of the value, which nests no deeper than so, and reads as the value
 pub record IsWritten (d : Data) (deep : ℕ) (text : List ℕ) : Type 0 where

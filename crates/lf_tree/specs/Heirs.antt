@@ -66,13 +66,3 @@ module _ {A : Type 0} (handed : A → Node → ℕ → A) where
     pub rows_are : map (λ e. e.0) rows ≡ rows_of tree
     pub values_are : map (λ e. (e.1, e.0.node)) rows ≡ inherited tree.root value
     pub hang : (k : ℕ) (e : Seen × A) → 0 < k → slice_get rows k ≡ Some e → HasBranch rows k e
-
--- the row at a place of the list names the place of a branch's row, which comes before, and is that of a kid of the branch
-pub record IsHung (rows : List Seen) (at : ℕ) (kid : Seen) : Type 0 where
-  pub place : ℕ
-  pub branch : Seen
-  pub named : kid.parent ≡ Some place
-  pub before : place < at
-  pub there : slice_get rows place ≡ Some branch
-  pub deeper : kid.depth ≡ branch.depth + 1
-  pub node : slice_get (kids_of branch.node) kid.kid ≡ Some kid.node

@@ -2,6 +2,7 @@ pub mod Counts
 pub mod Faults
 pub mod FirstFaults
 pub mod Heirs
+pub mod Preorder
 pub mod Reading
 pub mod Rests
 pub mod Rows

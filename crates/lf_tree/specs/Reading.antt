@@ -128,19 +128,38 @@ format_in d = whole_in d >>= (λ n. checked OutOfRange ((n == 1) || (n == 2)) n)
 
 -- Objects
 
-abbrev pub all_three : Option Data → Option Data → Option Data → Option (Data × (Data × Data))
-all_three (Some x) (Some y) (Some z) = Some (x, (y, z))
-all_three _ _ _ = None
+-- what is made of three values, where all are there
+abbrev pub all_three : {A : Type 0} → (Data → Data → Data → A) → Option Data → Option Data → Option Data → Option A
+all_three made (Some x) (Some y) (Some z) = Some (made x y z)
+all_three made _ _ _ = None
 
 -- the value of an object whose one key this is
 abbrev pub one_in : List ℕ → Data → Option Data
 one_in key (object ms) = if members_len ms == 1 then get_member key ms else None
 one_in key _ = None
 
--- the values of an object whose three keys these are
-abbrev pub three_in : List ℕ → List ℕ → List ℕ → Data → Option (Data × (Data × Data))
-three_in a b c (object ms) = if members_len ms == 3 then all_three (get_member a ms) (get_member b ms) (get_member c ms) else None
-three_in a b c _ = None
+-- what is made of the values of an object whose three keys these are
+abbrev pub three_in : {A : Type 0} → (Data → Data → Data → A) → List ℕ → List ℕ → List ℕ → Data → Option A
+three_in made a b c (object ms) = if members_len ms == 3 then all_three made (get_member a ms) (get_member b ms) (get_member c ms) else None
+three_in made a b c _ = None
+
+-- the parts of a branch, as they are written
+pub record BranchData : Type 0 where
+  pub edges : Data
+  pub kids : Data
+  pub reach : Data
+
+abbrev pub branch_parts : Data → Option BranchData
+branch_parts = three_in (λ e k r. record { edges = e; kids = k; reach = r }) (codes "edges") (codes "kids") (codes "reach")
+
+-- the parts of a tree, as they are written
+pub record TreeData : Type 0 where
+  pub answer : Data
+  pub format : Data
+  pub root : Data
+
+abbrev pub tree_parts : Data → Option TreeData
+tree_parts = three_in (λ a f r. record { answer = a; format = f; root = r }) (codes "answer") (codes "format") (codes "root")
 
 -- Nodes
 
@@ -153,22 +172,22 @@ abbrev pub kids_in : (Data → Reading Node) → Data → Reading (List Node)
 kids_in read (array ds) = all_in read ds
 kids_in read _ = Err Form
 
--- the parts of a branch
-abbrev pub branch_in : (Data → Reading Node) → Data × (Data × Data) → Reading Node
+-- the branch of its parts
+abbrev pub branch_in : (Data → Reading Node) → BranchData → Reading Node
 branch_in read parts = do
-  edges ← edges_in parts.0
-  reach ← reach_in parts.1.1
-  kids ← kids_in read parts.1.0
+  edges ← edges_in parts.edges
+  reach ← reach_in parts.reach
+  kids ← kids_in read parts.kids
   Ok (nodes.Branch reach edges kids)
 
 -- a leaf, or a branch
-abbrev pub leaf_or : (Data × (Data × Data) → Reading Node) → Option Data → Option (Data × (Data × Data)) → Reading Node
+abbrev pub leaf_or : (BranchData → Reading Node) → Option Data → Option BranchData → Reading Node
 leaf_or branch (Some d) parts = leaf_in d
 leaf_or branch None (Some parts) = branch parts
 leaf_or branch None None = Err Form
 
-abbrev pub node_with : (Data × (Data × Data) → Reading Node) → Data → Reading Node
-node_with branch d = leaf_or branch (one_in (codes "misses") d) (three_in (codes "edges") (codes "kids") (codes "reach") d)
+abbrev pub node_with : (BranchData → Reading Node) → Data → Reading Node
+node_with branch d = leaf_or branch (one_in (codes "misses") d) (branch_parts d)
 
 -- a node in which so many branches may stand one in the other
 unfoldable pub node_in : ℕ → Data → Reading Node
@@ -181,13 +200,14 @@ most_branches = 6
 
 -- Trees
 
-abbrev pub parts_in : Data × (Data × Data) → Reading Tree
+-- the tree of its parts
+abbrev pub parts_in : TreeData → Reading Tree
 parts_in parts = do
-  answer ← answer_in parts.0
-  format ← format_in parts.1.0
-  root ← node_in most_branches parts.1.1
+  answer ← answer_in parts.answer
+  format ← format_in parts.format
+  root ← node_in most_branches parts.root
   Ok (record { answer = answer; root = root })
 
 -- the tree of a value. What the format says is judged with the text
 abbrev pub tree_in : Data → Reading Tree
-tree_in d = some_or Form (three_in (codes "answer") (codes "format") (codes "root") d) >>= parts_in
+tree_in d = some_or Form (tree_parts d) >>= parts_in

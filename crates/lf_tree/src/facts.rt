@@ -1,10 +1,12 @@
 //! What holds of every tree: calls whose contracts are the laws.
 
-ghost use Rattle.std.specs.Prelude.{◌≡◌, true, Ok};
+ghost use Rattle.std.specs.Prelude.{◌≡◌, true, List, Ok};
 ghost use Rattle.std.specs.List.{list_all};
 ghost use Rattle.lf_tree.specs.declared.tree.Tree.{Tree};
 ghost use Rattle.lf_tree.specs.FirstFaults.{IsJson};
+ghost use Rattle.lf_tree.specs.Preorder.{AreRows};
 ghost use Rattle.lf_tree.specs.Reading.{tree_in};
+ghost use Rattle.lf_tree.specs.Rows.{Seen, rows_of};
 ghost use Rattle.lf_tree.specs.Texts.{IsInRange, tree_text};
 ghost use Rattle.lf_tree.specs.Trees.{IsTree, is_answer, is_fault, is_node};
 ghost use Rattle.lf_tree.specs.Values.{tree_value};
@@ -16,6 +18,11 @@ use lf_faults::{Fault, FaultSet};
 pub fn texts_are_json()
     ensures json { (t : Tree) → IsTree t → IsInRange t → IsJson (tree_text t) (tree_value t) }
     ensures read_back { (t : Tree) → IsTree t → IsInRange t → tree_in (tree_value t) ≡ Ok t }
+{}
+
+/// A tree has one list of rows alone, in which the root is first and each kid has the row that is its own.
+pub fn rows_are_one()
+    ensures { (t : Tree) (rows : List Seen) → AreRows t rows → rows ≡ rows_of t }
 {}
 
 /// Each tree that the code holds has faults, reaches and an answer as their types keep them.

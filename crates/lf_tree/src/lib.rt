@@ -15,10 +15,10 @@ mod tree;
 mod write;
 
 pub use counting::count;
-pub use facts::{texts_are_json, types_are_kept};
+pub use facts::{rows_are_one, texts_are_json, types_are_kept};
 pub use fault::TreeFault;
 pub use preorder::{Row, rows};
 pub use read::read_tree;
-pub use size::text_length;
+pub use size::{LONGEST_TREE, text_length};
 pub use tree::{Edges, Kids, Node, Tree};
 pub use write::to_text;

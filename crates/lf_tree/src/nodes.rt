@@ -3,8 +3,8 @@
 ghost use Rattle.std.specs.Prelude.{◌≡◌, ◌≢◌, ◌-◌, MatchOption, Some, None, Ok, Err, IfOk, IfErr};
 ghost use Rattle.serde_json.specs.View.{view, items_view, members_view};
 ghost use Rattle.serde_json.specs.Events.{members_len};
-ghost use Rattle.lf_tree.specs.Views.{three_view};
-ghost use Rattle.lf_tree.specs.Reading.{one_in, three_in, leaf_in, branch_in, kids_in, node_in, all_in};
+ghost use Rattle.lf_tree.specs.Views.{branch_view};
+ghost use Rattle.lf_tree.specs.Reading.{one_in, branch_parts, leaf_in, branch_in, kids_in, node_in, all_in};
 
 use crate::lists::{edges_in, reach_in};
 use crate::{Kids, Node, TreeFault};
@@ -12,23 +12,23 @@ use lf_list::Listed;
 use serde_json::{Map, Value};
 use std::alloc::Global;
 
-/// The values of an object with three keys.
+/// The parts of a branch, as they are written.
 #[derive(Clone, Copy)]
-pub(crate) struct Three<'a> {
-    pub(crate) first: &'a Value,
-    pub(crate) second: &'a Value,
-    pub(crate) third: &'a Value,
+struct BranchParts<'a> {
+    edges: &'a Value,
+    kids: &'a Value,
+    reach: &'a Value,
 }
 
 /// How many keys an object has.
-fn count_of(map: &Map<String, Value>) -> usize
+pub(crate) fn count_of(map: &Map<String, Value>) -> usize
     ensures { result ≡ members_len (members_view map.now.entries) }
 {
     map.len()
 }
 
 /// The value of an object whose one key this is.
-pub(crate) fn one_in<'a>(value: &'a Value, key: &str) -> Option<&'a Value>
+fn one_in<'a>(value: &'a Value, key: &str) -> Option<&'a Value>
     ensures { MatchOption result (one_in key.now (view value.entry.now) ≡ None) (λ v. one_in key.now (view value.entry.now) ≡ Some (view v.now)) }
 {
     match value {
@@ -37,16 +37,15 @@ pub(crate) fn one_in<'a>(value: &'a Value, key: &str) -> Option<&'a Value>
     }
 }
 
-/// The values of an object whose three keys these are.
-pub(crate) fn three_in<'a>(value: &'a Value, a: &str, b: &str, c: &str) -> Option<Three<'a>>
-    ensures { MatchOption result (three_in a.now b.now c.now (view value.entry.now) ≡ None)
-        (λ r. three_in a.now b.now c.now (view value.entry.now) ≡ Some (three_view r)) }
+/// The parts of a branch, where the value has their keys and no other.
+fn branch_parts(value: &Value) -> Option<BranchParts<'_>>
+    ensures { MatchOption result (branch_parts (view value.entry.now) ≡ None) (λ parts. branch_parts (view value.entry.now) ≡ Some (branch_view parts)) }
 {
     match value {
-        Value::Object(map) if count_of(map) == 3 => Some(Three {
-            first: value.get(a)?,
-            second: value.get(b)?,
-            third: value.get(c)?,
+        Value::Object(map) if count_of(map) == 3 => Some(BranchParts {
+            edges: value.get("edges")?,
+            kids: value.get("kids")?,
+            reach: value.get("reach")?,
         }),
         _ => None,
     }
@@ -72,7 +71,7 @@ pub(crate) fn node_in(alloc: Global, value: &Value, room: u32) -> Result<Node, T
     if let Some(misses) = one_in(value, "misses") {
         return leaf_in(misses);
     }
-    let Some(parts) = three_in(value, "edges", "kids", "reach") else {
+    let Some(parts) = branch_parts(value) else {
         return Err(TreeFault::Form);
     };
     if room == 0 {
@@ -83,13 +82,13 @@ pub(crate) fn node_in(alloc: Global, value: &Value, room: u32) -> Result<Node, T
 
 /// The branch of its edges, its kids and its reach, with at most so many branches in each kid one in the other.
 #[cycle(node)]
-fn branch_in(alloc: Global, parts: Three<'_>, room: u32) -> Result<Node, TreeFault>
-    ensures ok { IfOk result (λ node. branch_in (node_in room) (three_view parts.entry) ≡ Ok node) }
-    ensures err { IfErr result (λ e. e ≢ TreeFault.Memory → branch_in (node_in room) (three_view parts.entry) ≡ Err e) }
+fn branch_in(alloc: Global, parts: BranchParts<'_>, room: u32) -> Result<Node, TreeFault>
+    ensures ok { IfOk result (λ node. branch_in (node_in room) (branch_view parts.entry) ≡ Ok node) }
+    ensures err { IfErr result (λ e. e ≢ TreeFault.Memory → branch_in (node_in room) (branch_view parts.entry) ≡ Err e) }
 {
-    let edges = edges_in(alloc, parts.first)?;
-    let reach = reach_in(parts.third)?;
-    let kids = kids_in(alloc, parts.second, room)?;
+    let edges = edges_in(alloc, parts.edges)?;
+    let reach = reach_in(parts.reach)?;
+    let kids = kids_in(alloc, parts.kids, room)?;
     Ok(Node::Branch { reach, edges, kids })
 }
 

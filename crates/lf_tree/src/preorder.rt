@@ -1,7 +1,8 @@
 //! The nodes of a tree, one after another.
 
 ghost use Rattle.std.specs.Prelude.{◌≡◌, ◌<◌, ◌++◌, OnOk, IfOk, map, vec_len};
-ghost use Rattle.lf_tree.specs.Rows.{rows_of, beneath, seen};
+ghost use Rattle.lf_tree.specs.Preorder.{AreHung, AreRows};
+ghost use Rattle.lf_tree.specs.Rows.{rows_of, beneath, preorder, seen};
 
 use crate::{Node, Tree};
 use std::alloc::{AllocError, Global};
@@ -19,9 +20,14 @@ pub struct Row<'a> {
     pub node: &'a Node,
 }
 
-/// All nodes of a tree: the root first, and then each kid in order, with all that is beneath it.
+/// All nodes of a tree, one row for each: the root first, and then each kid in order, with all that is beneath it.
+///
+/// The root has no parent. Each later row names an earlier one as its parent: that of the branch whose kid its node is.
 pub fn rows(alloc: Global, tree: &Tree) -> Result<Vec<Row<'_>>, AllocError>
-    ensures { IfOk result (λ rows. map seen rows.items ≡ rows_of tree.now) }
+    ensures rows { IfOk result (λ rows. map seen rows.items ≡ rows_of tree.now) }
+    ensures preorder { IfOk result (λ rows. map (λ row. row.node.now) rows.items ≡ preorder tree.now.root) }
+    ensures hung { IfOk result (λ rows. AreHung (map seen rows.items)) }
+    ensures each { IfOk result (λ rows. AreRows tree.now (map seen rows.items)) }
 {
     let mut rows = Vec::new(alloc);
     rows.push(Row {

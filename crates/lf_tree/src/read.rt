@@ -1,20 +1,19 @@
 //! The reader of trees.
 
-ghost use Rattle.std.specs.Prelude.{◌≡◌, ◌≢◌, ◌<◌, ◌≤◌, length, Ok, Err, IfOk, IfErr, MatchResult};
+ghost use Rattle.std.specs.Prelude.{◌≡◌, ◌≢◌, ◌<◌, ◌≤◌, length, Some, None, Ok, Err, IfOk, IfErr, MatchOption, MatchResult};
 ghost use Rattle.serde_json.specs.Data.{Data};
 ghost use Rattle.serde_json.specs.View.{view};
 ghost use Rattle.lf_tree.specs.declared.tree.Tree.{Tree};
 ghost use Rattle.lf_tree.specs.FirstFaults.{IsJson, IsFirstFault};
-ghost use Rattle.lf_tree.specs.Reading.{parts_in, tree_in};
+ghost use Rattle.lf_tree.specs.Reading.{parts_in, tree_in, tree_parts};
 ghost use Rattle.lf_tree.specs.Texts.{IsInRange, most_bytes, tree_text};
 ghost use Rattle.lf_tree.specs.Trees.{IsTree};
-ghost use Rattle.lf_tree.specs.Views.{three_view};
+ghost use Rattle.lf_tree.specs.Views.{tree_view};
 
 use crate::lists::{answer_in, format_in};
-use crate::nodes::{Three, node_in, three_in};
+use crate::nodes::{count_of, node_in};
 use crate::own::is_own;
-use crate::size::MOST_BYTES;
-use crate::{Tree, TreeFault};
+use crate::{LONGEST_TREE, Tree, TreeFault};
 use serde_json::Value;
 use std::alloc::Global;
 
@@ -33,7 +32,7 @@ pub fn read_tree(alloc: Global, bytes: &[u8]) -> Result<Tree, TreeFault>
         MatchResult result (λ r. r ≡ t) (λ e. e ≡ TreeFault.Memory) }
     ensures refused { IfErr result (λ e. e ≢ TreeFault.Memory → IsFirstFault bytes.now e) }
 {
-    if bytes.len() > MOST_BYTES as usize {
+    if bytes.len() > LONGEST_TREE {
         return Err(TreeFault::TooLong);
     }
     let tree = said(alloc, bytes)?;
@@ -59,24 +58,46 @@ fn said(alloc: Global, bytes: &[u8]) -> Result<Tree, TreeFault>
     }
 }
 
+/// The parts of a tree, as they are written.
+#[derive(Clone, Copy)]
+struct TreeParts<'a> {
+    answer: &'a Value,
+    format: &'a Value,
+    root: &'a Value,
+}
+
+/// The parts of a tree, where the value has their keys and no other.
+fn tree_parts(value: &Value) -> Option<TreeParts<'_>>
+    ensures { MatchOption result (tree_parts (view value.entry.now) ≡ None) (λ parts. tree_parts (view value.entry.now) ≡ Some (tree_view parts)) }
+{
+    match value {
+        Value::Object(map) if count_of(map) == 3 => Some(TreeParts {
+            answer: value.get("answer")?,
+            format: value.get("format")?,
+            root: value.get("root")?,
+        }),
+        _ => None,
+    }
+}
+
 /// The tree of a value.
 fn tree_in(alloc: Global, value: &Value) -> Result<Tree, TreeFault>
     ensures ok { IfOk result (λ t. tree_in (view value.now) ≡ Ok t) }
     ensures err { IfErr result (λ e. e ≢ TreeFault.Memory → tree_in (view value.now) ≡ Err e) }
 {
-    let Some(parts) = three_in(value, "answer", "format", "root") else {
+    let Some(parts) = tree_parts(value) else {
         return Err(TreeFault::Form);
     };
     parts_in(alloc, parts)
 }
 
 /// The tree of its answer, its format and its root.
-fn parts_in(alloc: Global, parts: Three<'_>) -> Result<Tree, TreeFault>
-    ensures ok { IfOk result (λ t. parts_in (three_view parts.entry) ≡ Ok t) }
-    ensures err { IfErr result (λ e. e ≢ TreeFault.Memory → parts_in (three_view parts.entry) ≡ Err e) }
+fn parts_in(alloc: Global, parts: TreeParts<'_>) -> Result<Tree, TreeFault>
+    ensures ok { IfOk result (λ t. parts_in (tree_view parts.entry) ≡ Ok t) }
+    ensures err { IfErr result (λ e. e ≢ TreeFault.Memory → parts_in (tree_view parts.entry) ≡ Err e) }
 {
-    let answer = answer_in(alloc, parts.first)?;
-    let _format = format_in(parts.second)?;
-    let root = node_in(alloc, parts.third, MOST_BRANCHES)?;
+    let answer = answer_in(alloc, parts.answer)?;
+    let _format = format_in(parts.format)?;
+    let root = node_in(alloc, parts.root, MOST_BRANCHES)?;
     Ok(Tree { answer, root })
 }

@@ -8,11 +8,11 @@ use crate::{Node, Tree};
 use lf_faults::{Fault, Parts};
 use lf_outcome::Reach;
 
-/// The most bytes of a tree's text.
-pub(crate) const MOST_BYTES: u32 = 16_777_216;
+/// The most bytes that the text of a tree may have.
+pub const LONGEST_TREE: usize = 16_777_216;
 
 /// The length that stands for every length past the most.
-const PAST: u32 = MOST_BYTES + 1;
+const PAST: u32 = LONGEST_TREE as u32 + 1;
 
 /// How many bytes the text of the tree has: 16,777,217 where they are more than 16,777,216. It takes no memory.
 pub fn text_length(tree: &Tree) -> u32

@@ -7,8 +7,8 @@ ghost use Rattle.lf_faults.specs.Texts.{node_at_step, spelling};
 ghost use Rattle.lf_tree.specs.Texts.{answer_text, faults_text, in_brackets, most_bytes, node_text, quoted, tree_text};
 
 use crate::pauses::format_number;
-use crate::size::{MOST_BYTES, text_length};
-use crate::{Node, Tree, TreeFault};
+use crate::size::text_length;
+use crate::{LONGEST_TREE, Node, Tree, TreeFault};
 use lf_faults::{Fault, FaultSet, Parts};
 use lf_outcome::Reach;
 use std::alloc::{AllocError, Global};
@@ -22,11 +22,11 @@ pub fn to_text(alloc: Global, tree: &Tree) -> Result<Vec<u8>, TreeFault>
     ensures too_long { (result ≡ Err TreeFault.TooLong) ↔ (most_bytes < length (tree_text tree.now)) }
     ensures other { IfErr result (λ fault. fault ≢ TreeFault.TooLong → fault ≡ TreeFault.Memory) }
 {
-    let length = text_length(tree);
-    if length > MOST_BYTES {
+    let length = text_length(tree) as usize;
+    if length > LONGEST_TREE {
         return Err(TreeFault::TooLong);
     }
-    match written(alloc, tree, length as usize) {
+    match written(alloc, tree, length) {
         Ok(text) => Ok(text),
         Err(_) => Err(TreeFault::Memory),
     }

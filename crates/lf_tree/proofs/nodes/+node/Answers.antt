@@ -2,7 +2,7 @@ use Rattle.std.proofs.Common.{◌≡◌, ◌≢◌, [], ◌∷◌, ◌++◌, Ok,
 use Rattle.serde_json.specs.View.{view, items_view}
 use Rattle.lf_tree.specs.declared.fault.TreeFault.TheVariants.{Memory}
 use Rattle.lf_tree.specs.Reading.{all_in, branch_in, node_in}
-use Rattle.lf_tree.specs.Views.{three_view}
+use Rattle.lf_tree.specs.Views.{branch_view}
 use Rattle.lf_tree.proofs.Items.{read-last, read-more, read-wrong}
 use Rattle.lf_tree.proofs.NodeSteps.{branch_in-all, branch_in-wrong}
 use Rattle.lf_tree.proofs.NodeSteps.{node_in-leaf, node_in-form, node_in-deep, node_in-branch, ok_of, err_of, ok_same, err_same}
@@ -16,26 +16,26 @@ pub node_in-returns-in-Some-clause-err : goal.node_in-returns-in-Some-clause-err
 node_in-returns-in-Some-clause-err t c =
     err_same c.leaf_in.result _ (node_in-leaf c.args.room (view c.args.value.now) (view c.in-Some.misses.now) c.in-Some.ensures ∙ sym c.leaf_in.ensures)
 
-pub node_in-returns-in_default-three_in-clause-err : goal.node_in-returns-in_default-three_in-clause-err
-node_in-returns-in_default-three_in-clause-err t c =
-    λ other. node_in-form c.args.room (view c.args.value.now) c.in_default.ensures c.in_default-three_in.ensures
+pub node_in-returns-in_default-branch_parts-clause-err : goal.node_in-returns-in_default-branch_parts-clause-err
+node_in-returns-in_default-branch_parts-clause-err t c =
+    λ other. node_in-form c.args.room (view c.args.value.now) c.in_default.ensures c.in_default-branch_parts.ensures
 
 pub node_in-returns-then-room-eq0-clause-err : goal.node_in-returns-then-room-eq0-clause-err
 node_in-returns-then-room-eq0-clause-err t c =
-    λ other. node_in-deep c.args.room (view c.args.value.now) (three_view c.in-Some-three_in.parts) c.in_default.ensures c.in-Some-three_in.ensures
+    λ other. node_in-deep c.args.room (view c.args.value.now) (branch_view c.in-Some-branch_parts.parts) c.in_default.ensures c.in-Some-branch_parts.ensures
     c.if-room-eq0.true
 
 pub node_in-returns-clause-ok : goal.node_in-returns-clause-ok
 node_in-returns-clause-ok t c =
     ok_of c.branch_in.result _ _
-    (node_in-branch c.args.room (view c.args.value.now) (three_view c.in-Some-three_in.parts) c.in_default.ensures c.in-Some-three_in.ensures
+    (node_in-branch c.args.room (view c.args.value.now) (branch_view c.in-Some-branch_parts.parts) c.in_default.ensures c.in-Some-branch_parts.ensures
     c.if-room-eq0.false)
     c.branch_in.ensures.ok
 
 pub node_in-returns-clause-err : goal.node_in-returns-clause-err
 node_in-returns-clause-err t c =
     err_of c.branch_in.result _ _
-    (node_in-branch c.args.room (view c.args.value.now) (three_view c.in-Some-three_in.parts) c.in_default.ensures c.in-Some-three_in.ensures
+    (node_in-branch c.args.room (view c.args.value.now) (branch_view c.in-Some-branch_parts.parts) c.in_default.ensures c.in-Some-branch_parts.ensures
     c.if-room-eq0.false)
     c.branch_in.ensures.err
 
@@ -60,13 +60,13 @@ nodes_in-returns-clause-ok t c =
 
 pub branch_in-returns-clause-ok : goal.branch_in-returns-clause-ok
 branch_in-returns-clause-ok t c =
-    branch_in-all (node_in c.args.room) (three_view c.args.parts) c.in_ok-edges.edges c.in_ok-reach.reach c.in_ok-kids.kids
+    branch_in-all (node_in c.args.room) (branch_view c.args.parts) c.in_ok-edges.edges c.in_ok-reach.reach c.in_ok-kids.kids
     c.in_ok-edges.ensures.ok (sym c.in_ok-reach.ensures) c.in_ok-kids.ensures.ok
 
 pub branch_in-returns-in_err-kids-clause-err : goal.branch_in-returns-in_err-kids-clause-err
 branch_in-returns-in_err-kids-clause-err t c =
     let e = c.in_err-kids.field-0.0 in
-    let wrong : e ≢ Memory → branch_in (node_in c.args.room) (three_view c.args.parts) ≡ Err e =
-    λ other. branch_in-wrong (node_in c.args.room) (three_view c.args.parts) c.in_ok-edges.edges c.in_ok-reach.reach e
+    let wrong : e ≢ Memory → branch_in (node_in c.args.room) (branch_view c.args.parts) ≡ Err e =
+    λ other. branch_in-wrong (node_in c.args.room) (branch_view c.args.parts) c.in_ok-edges.edges c.in_ok-reach.reach e
     c.in_ok-edges.ensures.ok (sym c.in_ok-reach.ensures) (c.in_err-kids.ensures.err other) in
     search rules
