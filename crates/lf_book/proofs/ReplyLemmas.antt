@@ -68,18 +68,18 @@ module _ (jobs : List Job) (i : ℕ) (job : Job) (few : i < length jobs) (here :
     module _ (finding : Finding) (of : IsOfJob job finding) (new : State) where
       -- what is found is filed,
       pub filed-held : IsFoundOf finding
-          → FilesMark finding.path.items finding.ticket (task_of_finding finding) (mark_for finding.answer) (state_of book) new
+          → FilesMark finding.job.path.items finding.job.ticket (task_of_finding finding) (mark_for finding.answer) (state_of book) new
           → IsFound (world_of (scenario_of book).setting) (scenario_of book).setting.spec (scenario_of book).formula job.set job.excluded.items
           (mark_for finding.answer)
           × FilesMark job.path.items job.ticket (task_of_job job) (mark_for finding.answer) (state_of book) new
       filed-held found e =
           as_named (λ t s p task. IsFound (world_of s.setting) s.setting.spec s.formula task.faults task.excluded (mark_for finding.answer)
-          × FilesMark p t task (mark_for finding.answer) (state_of book) new) finding.ticket job.ticket (arc_value finding.scenario) (scenario_of book)
-          finding.path.items job.path.items finding.set job.set finding.excluded.items job.excluded.items of.ticket
+          × FilesMark p t task (mark_for finding.answer) (state_of book) new) finding.job.ticket job.ticket (arc_value finding.job.scenario) (scenario_of book)
+          finding.job.path.items job.path.items finding.job.set job.set finding.job.excluded.items job.excluded.items of.ticket
           (of.scenario ∙ job-held.scenario) of.path of.set of.excluded (found, e)
 
       pub files-held : IsFoundOf finding
-          → FilesMark finding.path.items finding.ticket (task_of_finding finding) (mark_for finding.answer) (state_of book) new
+          → FilesMark finding.job.path.items finding.job.ticket (task_of_finding finding) (mark_for finding.answer) (state_of book) new
           → DoesFile (scenario_of book) (slice_get (map held_of jobs) i) reply.Filed (state_of book) new
       files-held found e =
           let both = filed-held found e in
@@ -94,12 +94,12 @@ module _ (jobs : List Job) (i : ℕ) (job : Job) (few : i < length jobs) (here :
       refused-by refusal.OtherSet n is h = absurd (∥∥₁_elim (job-held.own h.0) (λ x y. absurd x) h.2)
 
       pub refuses-held : (r : Refusal) (n : ℕ) → n ≡ number_of r
-          → IsRefusedFor book finding.ticket (arc_value finding.scenario) finding.path.items (task_of_finding finding) r
+          → IsRefusedFor book finding.job.ticket (arc_value finding.job.scenario) finding.job.path.items (task_of_finding finding) r
           → IsSameState (state_of book) new
           → DoesFile (scenario_of book) (slice_get (map held_of jobs) i) (reply.Refused n) (state_of book) new
       refuses-held r n is h same =
-          let why = refused-by r n is (as_named (λ t s p task. IsRefusedFor book t s p task r) finding.ticket job.ticket (arc_value finding.scenario)
-          (scenario_of book) finding.path.items job.path.items finding.set job.set finding.excluded.items job.excluded.items of.ticket
+          let why = refused-by r n is (as_named (λ t s p task. IsRefusedFor book t s p task r) finding.job.ticket job.ticket (arc_value finding.job.scenario)
+          (scenario_of book) finding.job.path.items job.path.items finding.job.set job.set finding.job.excluded.items job.excluded.items of.ticket
           (of.scenario ∙ job-held.scenario) of.path of.set of.excluded h) in
           subst (λ (o : Option Held). DoesFile (scenario_of book) o (reply.Refused n) (state_of book) new) (sym held-at)
           (inr (ap reply.Refused why.0, why.1, same))

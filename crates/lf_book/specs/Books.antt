@@ -41,7 +41,7 @@ abbrev pub task_of_job : Job → Task
 task_of_job job = record { faults = job.set; excluded = job.excluded.items }
 
 abbrev pub task_of_finding : Finding → Task
-task_of_finding finding = record { faults = finding.set; excluded = finding.excluded.items }
+task_of_finding finding = task_of_job finding.job
 
 -- the job of the set at a path of a book, by a ticket
 pub record IsJobFor (book : Book) (p : List ℕ) (t : ℕ) (job : Job) : Type 0 where
@@ -92,13 +92,13 @@ IsRefusedFor book t s path task refusal.OtherSet =
 -- a finding is filed: its mark is that of the set that its ticket claims
 abbrev pub IsFiled : Finding → Book → Book → Type 0
 IsFiled finding old new =
-    FilesMark finding.path.items finding.ticket (task_of_finding finding) (mark_for finding.answer) (state_of old) (state_of new)
+    FilesMark finding.job.path.items finding.job.ticket (task_of_finding finding) (mark_for finding.answer) (state_of old) (state_of new)
 
 -- and it is what the run of the finding's set shows
 abbrev pub IsFoundOf : Finding → Type 0
 IsFoundOf finding =
-    IsFound (world_of (arc_value finding.scenario).setting) (arc_value finding.scenario).setting.spec (arc_value finding.scenario).formula
-    finding.set finding.excluded.items (mark_for finding.answer)
+    IsFound (world_of (arc_value finding.job.scenario).setting) (arc_value finding.job.scenario).setting.spec
+    (arc_value finding.job.scenario).formula finding.job.set finding.job.excluded.items (mark_for finding.answer)
 
 -- a job is given back: the set that its ticket claims is open
 abbrev pub IsGivenBack : Job → Book → Book → Type 0

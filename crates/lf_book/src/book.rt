@@ -10,6 +10,7 @@ ghost use Rattle.lf_search.specs.Closed.{IsClosed, IsFirstMissing};
 ghost use Rattle.lf_search.specs.States.{last_ticket};
 ghost use Rattle.lf_sim.specs.Settings.{world_of};
 
+use crate::facts::{marks_have_shape, scenarios_have_sets};
 use lf_certificate::settings_are_bounded;
 use lf_faults::FaultSet;
 use lf_marks::{Counts, Marks};
@@ -47,9 +48,9 @@ impl Book {
         ensures scenario { IfOk result (λ book. scenario_of book ≡ arc_value scenario) }
         ensures start { IfOk result (λ book. IsStart (state_of book)) }
     {
-        let _sets = scenario.max_sets();
         let marks = Marks::new(alloc)?;
-        let _level = marks.level();
+        marks_have_shape(&marks);
+        scenarios_have_sets(&scenario);
         Ok(Book {
             alloc,
             scenario,

@@ -7,6 +7,7 @@ ghost use Rattle.lf_marks.specs.Steps.{IsShape, IsUnmarked, WentDown};
 ghost use Rattle.lf_marks.specs.Steps as mark;
 
 use crate::book::Book;
+use crate::facts::marks_have_shape;
 use lf_certificate::settings_are_bounded;
 use lf_marks::Marks;
 
@@ -91,5 +92,5 @@ fn lower(marks: &mut Marks)
     ensures shape { IsShape (level_of marks.new) (mark_at marks.new) }
 {
     marks.go_down();
-    let _level = marks.level();
+    marks_have_shape(marks);
 }

@@ -12,19 +12,23 @@ ghost use Rattle.lf_marks.specs.Steps as marking;
 ghost use Rattle.lf_search.specs.Events.{Reclaims};
 
 use crate::book::Book;
-use lf_faults::{Fault, FaultSet};
+use crate::facts::marks_have_shape;
+use lf_faults::FaultSet;
 use lf_marks::{Answer, Marks};
-use lf_scenario::Scenario;
 use lf_work::{Finding, Job};
+use thiserror::Error;
 
 /// Why a finding is refused.
-#[derive(Clone, Copy, Debug, PartialEq, Eq)]
+#[derive(Clone, Copy, Debug, PartialEq, Eq, Error)]
 pub enum Refusal {
     /// No claim stands with its ticket.
+    #[error("no set is claimed by the ticket of the finding")]
     NoClaim,
     /// It is of another scenario.
+    #[error("the finding is of another scenario")]
     OtherScenario,
     /// It is of another set, another path or other exclusions than the claim.
+    #[error("the finding is of another set than its ticket claims, or of another path to it, or excludes other faults")]
     OtherSet,
 }
 
@@ -45,23 +49,16 @@ impl Book {
     /// Files a finding: its set is answered, and what is required beneath it waits for the next level. It is refused, and handed back, where
     /// it is of no claim of the book: the refusals are tested in their order. It takes no memory.
     pub fn file(&mut self, finding: Finding) -> Result<(), (Refusal, Finding)>
-        ensures ok { OnOk result (IsClaimOf self.old finding.ticket (arc_value finding.scenario) finding.path.items (task_of_finding finding)) }
+        ensures ok { OnOk result (IsClaimOf self.old finding.job.ticket (arc_value finding.job.scenario) finding.job.path.items (task_of_finding finding)) }
         ensures filed { OnOk result (IsFiled finding self.old self.new) }
         ensures found { OnOk result (IsFoundOf finding) }
-        ensures refused { IfErr result (λ back. IsRefusedFor self.old finding.ticket (arc_value finding.scenario) finding.path.items
+        ensures refused { IfErr result (λ back. IsRefusedFor self.old finding.job.ticket (arc_value finding.job.scenario) finding.job.path.items
             (task_of_finding finding) back.0) }
         ensures back { IfErr result (λ back. back.1 ≡ finding) }
         ensures unchanged { OnErr result (self.new ≡ self.old) }
         ensures scenario { scenario_of self.new ≡ scenario_of self.old }
     {
-        let refusal = self.refusal(
-            finding.ticket(),
-            finding.scenario(),
-            finding.path(),
-            &finding.set(),
-            finding.excluded(),
-        );
-        if let Some(refusal) = refusal {
+        if let Some(refusal) = self.refusal(finding.job()) {
             return Err((refusal, finding));
         }
         self.file_claimed(finding);
@@ -70,7 +67,7 @@ impl Book {
 
     /// Files a finding of a claim of the book.
     fn file_claimed(&mut self, finding: Finding)
-        requires { IsClaimOf self.old finding.ticket (arc_value finding.scenario) finding.path.items (task_of_finding finding) }
+        requires { IsClaimOf self.old finding.job.ticket (arc_value finding.job.scenario) finding.job.path.items (task_of_finding finding) }
         ensures filed { IsFiled finding self.old self.new }
         ensures found { IsFoundOf finding }
         ensures scenario { scenario_of self.new ≡ scenario_of self.old }
@@ -92,14 +89,7 @@ impl Book {
         ensures unchanged { OnErr result (self.new ≡ self.old) }
         ensures scenario { scenario_of self.new ≡ scenario_of self.old }
     {
-        let refusal = self.refusal(
-            job.ticket(),
-            job.scenario(),
-            job.path(),
-            &job.set(),
-            job.excluded(),
-        );
-        if let Some(_refusal) = refusal {
+        if let Some(_refusal) = self.refusal(&job) {
             return Err(job);
         }
         self.open_claimed(job);
@@ -123,32 +113,37 @@ impl Book {
         mark_unclaimed(&mut self.marks);
     }
 
-    /// Why what names these is of no claim of the book. None where it is of one.
-    fn refusal(
-        &self,
-        ticket: u64,
-        scenario: &Scenario,
-        path: &[usize],
-        set: &FaultSet,
-        excluded: &[Fault],
-    ) -> Option<Refusal>
+    /// Why a job is of no claim of the book. None where it is of one. Its ticket is looked for among the claims only where it doesn't claim
+    /// the set at the path.
+    fn refusal(&self, job: &Job) -> Option<Refusal>
         ensures { MatchOption result
-            (IsClaimOf self.now ticket scenario.now path.now (record { faults = set.now; excluded = excluded.now }))
-            (IsRefusedFor self.now ticket scenario.now path.now (record { faults = set.now; excluded = excluded.now })) }
+            (IsClaimOf self.now job.now.ticket (arc_value job.now.scenario) job.now.path.items (task_of_job job.now))
+            (IsRefusedFor self.now job.now.ticket (arc_value job.now.scenario) job.now.path.items (task_of_job job.now)) }
     {
-        if !self.marks.has_claim(ticket) {
-            return Some(Refusal::NoClaim);
+        if !self.marks.is_claimed_at(job.ticket(), job.path()) {
+            return Some(self.refusal_elsewhere(job));
         }
-        if !self.scenario.same(scenario) {
+        if !self.scenario.same(job.scenario()) {
             return Some(Refusal::OtherScenario);
         }
-        if !self.marks.is_claimed_at(ticket, path) {
-            return Some(Refusal::OtherSet);
-        }
-        if !self.is_task(path, set, excluded) {
+        if !self.is_task(job.path(), &job.set(), job.excluded()) {
             return Some(Refusal::OtherSet);
         }
         None
+    }
+
+    /// Why a job is refused whose ticket doesn't claim the set at its path.
+    fn refusal_elsewhere(&self, job: &Job) -> Refusal
+        requires { (state_of self.now).marks job.now.path.items ≢ Some (marking.Claimed job.now.ticket) }
+        ensures { IsRefusedFor self.now job.now.ticket (arc_value job.now.scenario) job.now.path.items (task_of_job job.now) result }
+    {
+        if !self.marks.has_claim(job.ticket()) {
+            return Refusal::NoClaim;
+        }
+        if !self.scenario.same(job.scenario()) {
+            return Refusal::OtherScenario;
+        }
+        Refusal::OtherSet
     }
 }
 
@@ -161,7 +156,7 @@ fn mark_answered(marks: &mut Marks, ticket: u64, answer: Answer)
     ensures shape { IsShape (level_of marks.new) (mark_at marks.new) }
 {
     marks.answer(ticket, answer);
-    let _level = marks.level();
+    marks_have_shape(marks);
 }
 
 /// Opens the set again that the ticket claims.
@@ -172,7 +167,7 @@ fn mark_open(marks: &mut Marks, ticket: u64)
     ensures shape { IsShape (level_of marks.new) (mark_at marks.new) }
 {
     marks.give_back(ticket);
-    let _level = marks.level();
+    marks_have_shape(marks);
 }
 
 /// Opens all sets again that are claimed.
@@ -182,7 +177,7 @@ fn mark_unclaimed(marks: &mut Marks)
     ensures shape { IsShape (level_of marks.new) (mark_at marks.new) }
 {
     marks.reclaim();
-    let _level = marks.level();
+    marks_have_shape(marks);
 }
 
 /// The first of the sets that miss, now that a set is answered. `first` was the first so far.

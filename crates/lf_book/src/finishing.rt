@@ -23,9 +23,11 @@ use lf_faults::{FaultSet, orders_are_total};
 use lf_tree::Tree;
 use std::alloc::AllocError;
 use std::cmp::Ordering;
+use thiserror::Error;
 
 /// The search hasn't ended.
-#[derive(Clone, Copy, Debug, PartialEq, Eq)]
+#[derive(Clone, Copy, Debug, PartialEq, Eq, Error)]
+#[error("the search hasn't ended")]
 pub struct Unfinished;
 
 impl Book {

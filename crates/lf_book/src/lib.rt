@@ -5,6 +5,7 @@
 mod book;
 mod deepening;
 mod driving;
+mod facts;
 mod filing;
 mod finishing;
 mod taking;

@@ -8,6 +8,7 @@ ghost use Rattle.lf_marks.specs.Steps as mark;
 ghost use Rattle.lf_search.specs.States.{last_ticket};
 
 use crate::book::Book;
+use crate::facts::marks_have_shape;
 use lf_marks::{Claimable, Steps};
 use lf_work::Job;
 use std::alloc::AllocError;
@@ -101,7 +102,7 @@ impl Book {
         };
         let job = self.job(path, ticket)?;
         self.marks.claim(ticket, room, steps);
-        let _level = self.marks.level();
+        marks_have_shape(&self.marks);
         self.next += 1;
         Ok(job)
     }

@@ -1,93 +1,120 @@
--- The claim of a ticket.
-use Rattle.std.proofs.Common.{◌≡◌, ◌≢◌, ℕ, ◌+◌, ◌<◌, ◌≤◌, refl, sym, ap, ◌∙◌, arith, cond, Option, Some, None, List, [], ◌∷◌, length, get_or, true, false, Bool}
+-- The claims of tickets.
+use Rattle.std.proofs.Common.{◌≡◌, ◌≢◌, ℕ, suc, ◌+◌, ◌<◌, ◌≤◌, refl, sym, ap, ◌∙◌, subst, arith, cond, Option, Some, None, List, [], ◌∷◌, length, get_or, true}
 use Rattle.std.proofs.Common.{inl, inr, is_some}
-use Rattle.std.specs.Prelude.{◌&&◌, ◌==◌, not}
-use Rattle.std.specs.List.{count_by, position, position_or_len, remove}
-use Rattle.std.proofs.lemmas.Bool.{cases_lt, cases_Bool, eqb-true, eq-eqb}
-use Rattle.std.proofs.lemmas.List.Sums.{sum_by-cons, sum_by-remove, passes_at_first, get_or-le-sum_by, count_by-le-length}
+use Rattle.std.specs.Prelude.{◌&&◌, ◌==◌, MatchOption}
+use Rattle.std.specs.List.{All, remove}
+use Rattle.std.specs.List.Sorted.{IsSearchInRange, IsBinarySearchResult, IsNonDecreasingBy}
+use Rattle.std.specs.Ordering.{nat_cmp, ordering_index}
+use Rattle.std.specs.Prelude.{Result, Ok, Err}
+use Rattle.std.specs.Result.{result_ok}
+use Rattle.std.proofs.lemmas.Bool.{cases_lt, cases_Bool, eqb-true, eq-eqb, and_parts, and_from}
+use Rattle.std.proofs.lemmas.Bool.Decides.{nat_tests}
+use Rattle.std.proofs.lemmas.Cmp.{ranked}
+use Rattle.std.proofs.lemmas.List.{get_or_default}
+use Rattle.std.proofs.lemmas.List.Quantifiers.{all_pairs_remove}
+use Rattle.std.proofs.lemmas.List.Sorted.{IsNonDecreasingBy-from_default}
+use Rattle.std.proofs.lemmas.List.Sums.{sum_by-cons, sum_by-remove, get_or-le-sum_by}
 use Rattle.std.specs.Option.{option_map}
-use Rattle.lf_marks.specs.Claims.{IsWithout}
+use Rattle.lf_marks.specs.Claims.{AreAscending, IsOfTicket}
 use Rattle.lf_marks.specs.Steps.{Mark, Marking, GaveBack, freed}
 use Rattle.lf_marks.specs.Steps as mark
 use Rattle.lf_marks.proofs.CountLemmas.{cases_path}
-use Rattle.lf_marks.specs.Walks.{once, times_ticket, times_claim}
+use Rattle.lf_marks.specs.Walks.{once, times_claim}
 use Rattle.lf_marks.specs.declared.claim.Claim.{Claim}
-use Rattle.lf_marks.proofs.WalkLemmas.{lt-is, lt-not}
 
-none-passes : {X : Type 0} (p : X → Bool) (xs : List X) → length xs ≤ position_or_len p xs → count_by p xs ≡ 0
-none-passes p [] h = refl
-none-passes p (x ∷ xs) h = elim (cases_Bool (p x)) [
-  | inl passes ↦
-      let e : position_or_len p (x ∷ xs) ≡ 0 = ap {B = ℕ} (λ b. cond (not b) (1 + position_or_len p xs) 0) passes in
-      let never : ⊥ = omega (arith, h, e) in absurd never
-  | inr fails ↦
-      let e : position_or_len p (x ∷ xs) ≡ 1 + position_or_len p xs = ap {B = ℕ} (λ b. cond (not b) (1 + position_or_len p xs) 0) fails in
-      sum_by-cons (λ y. cond (p y) 1 0) x xs ∙ omega (arith, ap {B = ℕ} (λ b. cond b 1 0) fails, none-passes p xs (omega (arith, h, e)))
-]
+-- what is read past the end of a list of claims
+abbrev pub unclaimed : Claim
+unclaimed = record { ticket = 0; place = 0 }
 
-pub position-none : {X : Type 0} (p : X → Bool) (xs : List X) → position p xs ≡ None → count_by p xs ≡ 0
-position-none p xs h = elim (cases_lt (position_or_len p xs) (length xs)) [
-  | inr far ↦ none-passes p xs far
-  | inl few ↦
-      let e : Some (position_or_len p xs) ≡ None = sym (ap (λ b. cond b (Some (position_or_len p xs)) None) (lt-is _ _ few)) ∙ h in absurd cc
-]
+-- one claim fewer, of a ticket at a place
+pub record IsWithout (old new : List Claim) (t x : ℕ) : Type 0 where
+  pub claims : (u y : ℕ) → times_claim u y new + once (t == u && x == y) ≡ times_claim u y old
+  pub ascending : AreAscending old → AreAscending new
+  pub count : length new + 1 ≡ length old
 
-pub position-some : {X : Type 0} (p : X → Bool) (xs : List X) (i : ℕ) → position p xs ≡ Some i → (i < length xs) × ((d : X) → p (get_or xs i d) ≡ true)
-position-some p xs i h = elim (cases_lt (position_or_len p xs) (length xs)) [
-  | inr far ↦
-      let e : None ≡ Some i = sym (ap (λ b. cond b (Some (position_or_len p xs)) None) (lt-not _ _ far)) ∙ h in absurd cc
-  | inl few ↦
-      let e : Some (position_or_len p xs) ≡ Some i = sym (ap (λ b. cond b (Some (position_or_len p xs)) None) (lt-is _ _ few)) ∙ h in
-      let same : position_or_len p xs ≡ i = cc in
-      (omega (arith, few, same), λ d. ap (λ k. p (get_or xs k d)) (sym same) ∙ passes_at_first p xs d few)
-]
-
-pub position-counts : {X : Type 0} (p : X → Bool) (xs : List X) → (is_some (position p xs) ≡ true → 0 < count_by p xs)
-    × (0 < count_by p xs → is_some (position p xs) ≡ true)
-position-counts {X} p xs = elim (cases_lt (position_or_len p xs) (length xs)) [
-  | inl few ↦ (λ h. passing xs few, λ h. ap is_some (ap (λ b. cond b (Some (position_or_len p xs)) None) (lt-is _ _ few)))
-  | inr far ↦
-      let is : position p xs ≡ None = ap (λ b. cond b (Some (position_or_len p xs)) None) (lt-not _ _ far) in (
-        λ h. let e : false ≡ true = sym (ap is_some is) ∙ h in absurd cc,
-        λ h. absurd (omega (arith, h, position-none p xs is)),
-      )
-]
-  where
-    passing : (ys : List X) → position_or_len p ys < length ys → 0 < count_by p ys
-    passing [] h = absurd (omega (arith, h))
-    passing (y ∷ ys) h =
-        omega (
-          arith,
-          get_or-le-sum_by (λ z. cond (p z) 1 0) (y ∷ ys) (position_or_len p (y ∷ ys)) y h,
-          ap {B = ℕ} (λ b. cond b 1 0) (passes_at_first p (y ∷ ys) y h),
-        )
-
-pub removed-claim : (claims rest : List Claim) (t i : ℕ) (c : Claim) → position (λ (d : Claim). d.ticket == t) claims ≡ Some i
-    → c ≡ get_or claims i c → rest ≡ remove claims i → length rest + 1 ≡ length claims → IsWithout claims rest t c.place
+pub removed-claim : (claims rest : List Claim) (t i : ℕ) (c : Claim) → IsOfTicket claims t i → c ≡ get_or claims i c → rest ≡ remove claims i
+    → length rest + 1 ≡ length claims → IsWithout claims rest t c.place
 removed-claim claims rest t i c found at is short =
-    let f = position-some (λ (d : Claim). d.ticket == t) claims i found in
-    let ticket : c.ticket ≡ t = eqb-true c.ticket t (ap (λ (d : Claim). d.ticket == t) at ∙ f.1 c) in record {
+    let ticket : c.ticket ≡ t = ap (λ (d : Claim). d.ticket) at ∙ found.ticket c in record {
       claims = λ u y.
           ap (λ r. times_claim u y r + once (t == u && c.place == y)) is
           ∙ ap (λ k. times_claim u y (remove claims i) + once (k == u && c.place == y)) (sym ticket)
           ∙ ap (λ (d : Claim). times_claim u y (remove claims i) + once (d.ticket == u && d.place == y)) at
-          ∙ sum_by-remove (λ (d : Claim). cond (d.ticket == u && d.place == y) 1 0) claims i c f.0;
-      tickets = λ u.
-          ap (λ r. times_ticket u r + once (t == u)) is ∙ ap (λ k. times_ticket u (remove claims i) + once (k == u)) (sym ticket)
-          ∙ ap (λ (d : Claim). times_ticket u (remove claims i) + once (d.ticket == u)) at
-          ∙ sum_by-remove (λ (d : Claim). cond (d.ticket == u) 1 0) claims i c f.0;
+          ∙ sum_by-remove (λ (d : Claim). cond (d.ticket == u && d.place == y) 1 0) claims i c found.within;
+      ascending = λ up. subst AreAscending (sym is) (all_pairs_remove (λ (d e : Claim). d.ticket < e.ticket) claims i found.within up);
       count = short;
     }
 
--- a claim in the list is one of its ticket's
-pub claims-some : (claims : List Claim) (i : ℕ) (c : Claim) → i < length claims → c ≡ get_or claims i c → 0 < times_ticket c.ticket claims
-claims-some claims i c few at =
-    let one : once (c.ticket == c.ticket) ≡ 1 = ap once (eq-eqb c.ticket c.ticket refl) in
-    let same : once (c.ticket == c.ticket) ≡ once ((get_or claims i c).ticket == c.ticket) = ap (λ (d : Claim). once (d.ticket == c.ticket)) at in
-    omega (arith, get_or-le-sum_by (λ (d : Claim). once (d.ticket == c.ticket)) claims i c few, one, same)
+-- each claim is one of its ticket,
+pub claim-here : (claims : List Claim) (i : ℕ) → i < length claims → IsOfTicket claims (get_or claims i unclaimed).ticket i
+claim-here claims i few = record { within = few; ticket = λ d. ap (λ (c : Claim). c.ticket) (get_or_default claims i d unclaimed few) }
 
-pub claims-none : (claims : List Claim) (t : ℕ) → length claims ≡ 0 → times_ticket t claims ≡ 0
-claims-none claims t none = omega (arith, none, count_by-le-length (λ (d : Claim). d.ticket == t) claims)
+-- and claims a place
+pub claim-place : (claims : List Claim) (t i : ℕ) → IsOfTicket claims t i → (x : ℕ) × (0 < times_claim t x claims)
+claim-place claims t i found =
+    let c = get_or claims i unclaimed in
+    let passes : (c.ticket == t && c.place == c.place) ≡ true =
+    and_from (c.ticket == t) (c.place == c.place) (eq-eqb c.ticket t (found.ticket unclaimed)) (eq-eqb c.place c.place refl) in
+    (c.place, omega (arith, get_or-le-sum_by (λ (d : Claim). once (d.ticket == t && d.place == c.place)) claims i unclaimed found.within, ap once passes))
+
+-- the claim of a place by a ticket
+pub record ClaimAt (t x : ℕ) (claims : List Claim) : Type 0 where
+  pub index : ℕ
+  pub is : IsOfTicket claims t index
+  pub place : (d : Claim) → (get_or claims index d).place ≡ x
+
+pub claim-at : (t x : ℕ) (claims : List Claim) → 0 < times_claim t x claims → ClaimAt t x claims
+claim-at t x [] h = absurd (omega (arith, h))
+claim-at t x (c ∷ cs) h = elim (cases_Bool (c.ticket == t && c.place == x)) [
+  | inl passes ↦
+      let both = and_parts (c.ticket == t) (c.place == x) passes in record {
+        index = 0;
+        is = record { within = omega arith; ticket = λ d. eqb-true c.ticket t both.0 };
+        place = λ d. eqb-true c.place x both.1;
+      }
+  | inr fails ↦
+      let r = claim-at t x cs (omega (arith, h, sum_by-cons (λ (d : Claim). cond (d.ticket == t && d.place == x) 1 0) c cs, ap once fails)) in record {
+        index = suc r.index;
+        is = record { within = omega (arith, r.is.within); ticket = λ d. r.is.ticket d };
+        place = λ d. r.place d;
+      }
+]
+
+-- no ticket has two claims
+pub claim-one : (claims : List Claim) (t i j : ℕ) → AreAscending claims → IsOfTicket claims t i → IsOfTicket claims t j → i ≡ j
+claim-one claims t i j up at to = elim (cases_lt i j) [
+  | inl before ↦ let never : ⊥ = omega (arith, up i j unclaimed before to.within, at.ticket unclaimed, to.ticket unclaimed) in absurd never
+  | inr from ↦ elim (cases_lt j i) [
+    | inl after ↦ let never : ⊥ = omega (arith, up j i unclaimed after at.within, at.ticket unclaimed, to.ticket unclaimed) in absurd never
+    | inr here ↦ omega (arith, from, here)
+  ]
+]
+
+-- what a search by a ticket finds
+module _ (claims : List Claim) (up : AreAscending claims) (t : ℕ) where
+  tickets_rise : IsNonDecreasingBy (λ (c : Claim). ordering_index (nat_cmp c.ticket t)) claims
+  tickets_rise = IsNonDecreasingBy-from_default (λ (c : Claim). ordering_index (nat_cmp c.ticket t)) claims unclaimed (λ i j le few.
+      let rise : (get_or claims i unclaimed).ticket ≤ (get_or claims j unclaimed).ticket =
+      grind (arith, up i j unclaimed, λ (same : i ≡ j). ap (λ k. (get_or claims k unclaimed).ticket) same) in
+      grind (arith, nat_tests))
+
+  pub claim-searched : (r : Result ℕ ℕ) → IsSearchInRange r (length claims) → IsBinarySearchResult (λ (c : Claim). nat_cmp c.ticket t) claims r
+      → MatchOption (result_ok r) (All (λ (c : Claim). c.ticket ≢ t) claims) (IsOfTicket claims t)
+  claim-searched (Ok i) few is = record { within = few; ticket = λ d. ranked (get_or claims i d).ticket t _ (sym (is d)) }
+  claim-searched (Err i) few parted = λ k d within same. elim (cases_lt k i) [
+    | inl before ↦
+        let less : (get_or claims k d).ticket < t = ranked (get_or claims k d).ticket t _ (sym ((parted tickets_rise).0 k d (omega arith) before)) in
+        omega (arith, less, same)
+    | inr from ↦
+        let more : t < (get_or claims k d).ticket = ranked (get_or claims k d).ticket t _ (sym ((parted tickets_rise).1 k d from within)) in
+        omega (arith, more, same)
+  ]
+
+-- whether it finds a claim
+pub claim-told : (claims : List Claim) (t : ℕ) (o : Option ℕ) → MatchOption o (All (λ (c : Claim). c.ticket ≢ t) claims) (IsOfTicket claims t)
+    → (is_some o ≡ true → (i : ℕ) × IsOfTicket claims t i) × ((i : ℕ) → IsOfTicket claims t i → is_some o ≡ true)
+claim-told claims t None none = (λ h. absurd cc, λ i found. absurd (none i unclaimed found.within (found.ticket unclaimed)))
+claim-told claims t (Some i) found = (λ h. (i, found), λ j other. refl)
 
 -- where all is freed, nothing changes for what is not claimed
 pub free-stays : (o : Option Mark) → ((t : ℕ) → o ≢ Some (mark.Claimed t)) → o ≡ option_map freed o

@@ -1,16 +1,17 @@
 -- The lists of places after each step.
-use Rattle.std.proofs.Common.{◌≡◌, ◌≢◌, ℕ, suc, ◌+◌, ◌<◌, ◌≤◌, refl, sym, ap, ◌∙◌, arith, cond, Option, Some, None, List, [], ◌∷◌, ◌++◌, true, false, Bool}
-use Rattle.std.proofs.Common.{nat_lt, inl, inr}
+use Rattle.std.proofs.Common.{◌≡◌, ◌≢◌, ℕ, ◌+◌, ◌<◌, ◌≤◌, refl, sym, ap, ◌∙◌, arith, cond, Option, Some, None, List, [], ◌∷◌, ◌++◌, true, false, Bool}
+use Rattle.std.proofs.Common.{nat_lt, inl, inr, get_or}
 use Rattle.std.specs.Prelude.{◌&&◌, ◌==◌, nat_le}
-use Rattle.std.specs.List.{slice_get}
+use Rattle.std.specs.List.{All, slice_get}
 use Rattle.std.proofs.lemmas.Bool.{cases_lt, cases_eq, cases_Bool, eq-eqb, ne_eqb, eqb-true, lt-leb, le-leb, and_left, and_right, and_from}
+use Rattle.std.proofs.lemmas.List.Quantifiers.{all_pairs_push}
 use Rattle.std.proofs.lemmas.List.Sums.{sum_by_push, sum_by-cons}
 use Rattle.lf_marks.specs.Steps.{Mark, kids_beneath}
 use Rattle.lf_marks.specs.Steps as mark
-use Rattle.lf_marks.specs.Claims.{IsWithout}
 use Rattle.lf_marks.specs.declared.claim.Claim.{Claim}
-use Rattle.lf_marks.specs.Walks.{Spot, width, width_of, is_set, is_open, is_claimed, once, times, times_ticket, times_claim, IsArena, IsRemarked, IsGrownBy}
+use Rattle.lf_marks.specs.Walks.{Spot, width, width_of, is_set, is_open, is_claimed, once, times, times_claim, IsArena, IsRemarked, IsGrownBy}
 use Rattle.lf_marks.specs.Walks.{AreListed, IsPartly}
+use Rattle.lf_marks.proofs.ClaimLemmas.{IsWithout, unclaimed, claim-at, claim-one}
 use Rattle.lf_marks.proofs.WalkLemmas.{lt-is, lt-not}
 
 pub once-yes : (b : Bool) → b ≡ true → once b ≡ 1
@@ -55,9 +56,6 @@ times-cons x y places = sum_by-cons (λ z. cond (z == x) 1 0) y places
 pub claim-push : (t x : ℕ) (c : Claim) (claims : List Claim) → times_claim t x (claims ++ c ∷ [])
     ≡ times_claim t x claims + once (c.ticket == t && c.place == x)
 claim-push t x c claims = sum_by_push (λ (d : Claim). cond (d.ticket == t && d.place == x) 1 0) claims c
-
-pub ticket-push : (t : ℕ) (c : Claim) (claims : List Claim) → times_ticket t (claims ++ c ∷ []) ≡ times_ticket t claims + once (c.ticket == t)
-ticket-push t c claims = sum_by_push (λ (d : Claim). cond (d.ticket == t) 1 0) claims c
 
 here : (x : ℕ) → (x == x) ≡ true
 here x = eq-eqb x x refl
@@ -115,9 +113,9 @@ module _ (start n : ℕ) (old new : ℕ → Spot) (x : ℕ) (m : Mark) (re : IsR
 
   -- an open place was claimed
   pub listed-claimed : (t : ℕ) (queue next back left : List ℕ) (claims : List Claim) → m ≡ mark.Claimed t → (old x).mark ≡ Some mark.Open
-      → AreListed start n old queue next back claims → ((y : ℕ) → times y left + once (x == y) ≡ times y back) → times_ticket t claims ≡ 0
+      → AreListed start n old queue next back claims → ((y : ℕ) → times y left + once (x == y) ≡ times y back) → All (λ (c : Claim). c.ticket < t) claims
       → AreListed start n new queue next left (claims ++ (record { ticket = t; place = x }) ∷ [])
-  listed-claimed t queue next back left claims is was l fewer fresh =
+  listed-claimed t queue next back left claims is was l fewer above =
       let w = widths (ap width_of was) (ap kids_beneath is) in
       let now : (new x).mark ≡ Some (mark.Claimed t) = re.is ∙ ap (λ k. Some k) is in
       let c : Claim = record { ticket = t; place = x } in record {
@@ -143,16 +141,9 @@ module _ (start n : ℕ) (old new : ℕ → Spot) (x : ℕ) (m : Mark) (re : IsR
               let d = ap (λ z. once (is_claimed u (new z).mark)) same in
               omega (arith, a, b, d, pair-here t u x, l.claimed x u, ap (λ k. once (is_claimed u k)) now, ap (λ k. once (is_claimed u k)) was)
         ];
-        tickets = λ u. elim (cases_eq t u) [
-          | inl same ↦ omega (arith, ticket-push u c claims, ap (λ z. times_ticket z claims) same, fresh, once-le (t == u))
-          | inr other ↦ omega (arith, ticket-push u c claims, l.tickets u, once-no _ (ne_eqb t u other))
-        ];
+        ascending = all_pairs_push (λ (d e : Claim). d.ticket < e.ticket) claims c l.ascending above;
         partly = λ y high some more. partly_same queue y (w y) some more (l.partly y high);
       }
-    where
-      once-le : (b : Bool) → once b ≤ 1
-      once-le true = omega arith
-      once-le false = omega arith
 
   -- a claimed place is open again
   pub listed-freed : (t : ℕ) (queue next back : List ℕ) (claims rest : List Claim) → m ≡ mark.Open
@@ -183,7 +174,7 @@ module _ (start n : ℕ) (old new : ℕ → Spot) (x : ℕ) (m : Mark) (re : IsR
               let d = ap (λ z. once (is_claimed u (new z).mark)) same in
               omega (arith, a, d, less.claims u x, pair-here t u x, l.claimed x u, ap (λ k. once (is_claimed u k)) now, ap (λ k. once (is_claimed u k)) was)
         ];
-        tickets = λ u. omega (arith, less.tickets u, l.tickets u);
+        ascending = less.ascending l.ascending;
         partly = λ y high some more. partly_same queue y (w y) some more (l.partly y high);
       }
 
@@ -230,7 +221,7 @@ module _ (start n : ℕ) (old new : ℕ → Spot) (x : ℕ) (m : Mark) (re : IsR
               let o = ap (λ k. once (is_claimed u k)) re.is in
               omega (arith, a, d, o, ap once (free u), less.claims u x, pair-here t u x, l.claimed x u, ap (λ k. once (is_claimed u k)) was)
         ];
-        tickets = λ u. omega (arith, less.tickets u, l.tickets u);
+        ascending = less.ascending l.ascending;
         partly = λ y high some more'. partly_same queue y (ap width_of (re.others y (omega (arith, high, low)))) some more' (l.partly y high);
       }
     where
@@ -261,7 +252,7 @@ listed-down level start n look queue next back claims a all past l = record {
   ];
   opened = l.opened;
   claimed = l.claimed;
-  tickets = l.tickets;
+  ascending = l.ascending;
   partly = λ y few some more. elim (cases_lt y start) [
     | inl high ↦ absurd (omega (arith, more, all y high))
     | inr low ↦ absurd (omega (arith, some, a.fresh y low))
@@ -312,11 +303,11 @@ module _ (level start n : ℕ) (old new : ℕ → Spot) (x t : ℕ) (arena : IsA
   ]
 
   -- a kid that nobody had taken was claimed, and its branch leaves the queue with its last kid
-  pub listed-grown : (rest queue next back : List ℕ) (claims : List Claim) → times_ticket t claims ≡ 0
+  pub listed-grown : (rest queue next back : List ℕ) (claims : List Claim) → All (λ (c : Claim). c.ticket < t) claims
       → ((old x).taken + 1 < width (old x) → queue ≡ x ∷ rest) → (width (old x) ≤ (old x).taken + 1 → queue ≡ rest)
       → AreListed start n old (x ∷ rest) next back claims
       → AreListed start (n + 1) new queue next back (claims ++ (record { ticket = t; place = n }) ∷ [])
-  listed-grown rest queue next back claims fresh stays leaves l =
+  listed-grown rest queue next back claims above stays leaves l =
       let c : Claim = record { ticket = t; place = n } in
       let taken : (new x).taken ≡ (old x).taken + 1 = ap (λ (s : Spot). s.taken) gr.grown in
       let one : times x (x ∷ rest) ≡ 1 = l.queued x ∙ once-yes _ (and_from (nat_lt x start) (nat_lt (old x).taken (width (old x))) (lt-is x start high)
@@ -358,10 +349,7 @@ module _ (level start n : ℕ) (old new : ℕ → Spot) (x t : ℕ) (arena : IsA
                 ap (λ (s : Spot). once (is_claimed u s.mark)) gr.kid,
               )
         ];
-        tickets = λ u. elim (cases_eq t u) [
-          | inl same ↦ omega (arith, ticket-push u c claims, ap (λ z. times_ticket z claims) same, fresh, once-one (t == u))
-          | inr other ↦ omega (arith, ticket-push u c claims, l.tickets u, once-no _ (ne_eqb t u other))
-        ];
+        ascending = all_pairs_push (λ (d e : Claim). d.ticket < e.ticket) claims c l.ascending above;
         partly = λ y before some few. elim (cases_eq y x) [
           | inl same ↦
               let still = stays (omega (arith, few, taken, grown_width y, ap (λ z. (new z).taken) same, ap (λ z. width (old z)) same)) in record {
@@ -376,10 +364,6 @@ module _ (level start n : ℕ) (old new : ℕ → Spot) (x t : ℕ) (arena : IsA
         ];
       }
     where
-      once-one : (b : Bool) → once b ≤ 1
-      once-one true = omega arith
-      once-one false = omega arith
-
       apart_queue : (y : ℕ) → y ≢ x → times y queue ≡ times y (x ∷ rest)
       apart_queue y other = elim (cases_lt ((old x).taken + 1) (width (old x))) [
         | inl some ↦ ap (times y) (stays some)
@@ -387,56 +371,9 @@ module _ (level start n : ℕ) (old new : ℕ → Spot) (x t : ℕ) (arena : IsA
       ]
 
 -- places claimed by one ticket are one
-two_claims : (t x y : ℕ) (claims : List Claim) → x ≢ y → times_claim t x claims + times_claim t y claims ≤ times_ticket t claims
-two_claims t x y [] apart = omega arith
-two_claims t x y (c ∷ cs) apart =
-    omega (
-      arith,
-      two_claims t x y cs apart,
-      sum_by-cons (λ (d : Claim). cond (d.ticket == t && d.place == x) 1 0) c cs,
-      sum_by-cons (λ (d : Claim). cond (d.ticket == t && d.place == y) 1 0) c cs,
-      sum_by-cons (λ (d : Claim). cond (d.ticket == t) 1 0) c cs,
-      one_place (c.ticket == t) c.place,
-    )
-  where
-    one_place : (b : Bool) (z : ℕ) → once (b && z == x) + once (b && z == y) ≤ once b
-    one_place false z = omega arith
-    one_place true z = elim (cases_eq z x) [
-      | inl same ↦ omega (arith, once-no (z == y) (ne_eqb z y (λ e. apart (sym same ∙ e))), at_most (z == x))
-      | inr other ↦ omega (arith, once-no (z == x) (ne_eqb z x other), at_most (z == y))
-    ]
-      where
-        at_most : (b : Bool) → once b ≤ 1
-        at_most true = omega arith
-        at_most false = omega arith
-
 pub one-claim : (start n : ℕ) (look : ℕ → Spot) (queue next back : List ℕ) (claims : List Claim) (t x y : ℕ)
     → AreListed start n look queue next back claims → (look x).mark ≡ Some (mark.Claimed t) → (look y).mark ≡ Some (mark.Claimed t) → x ≡ y
-one-claim start n look queue next back claims t x y l h k = elim (cases_eq x y) [
-  | inl same ↦ same
-  | inr apart ↦
-      let a = l.claimed x t ∙ once-yes _ (is-claimed t (look x).mark h) in
-      let b = l.claimed y t ∙ once-yes _ (is-claimed t (look y).mark k) in
-      let never : ⊥ = omega (arith, a, b, two_claims t x y claims apart, l.tickets t) in absurd never
-]
-
--- a ticket with a claim claims a place
-pub ticket-of : (t : ℕ) (claims : List Claim) → 0 < times_ticket t claims → (x : ℕ) × (0 < times_claim t x claims)
-ticket-of t [] h = absurd (omega (arith, h))
-ticket-of t (c ∷ cs) h = elim (cases_Bool (c.ticket == t)) [
-  | inl mine ↦ (
-    c.place,
-    omega (
-      arith,
-      sum_by-cons (λ (d : Claim). cond (d.ticket == t && d.place == c.place) 1 0) c cs,
-      once-yes _ (and_from (c.ticket == t) (c.place == c.place) mine (here c.place)),
-    ),
-  )
-  | inr other ↦
-      let r = ticket-of t cs (omega (arith, h, sum_by-cons (λ (d : Claim). cond (d.ticket == t) 1 0) c cs, once-no _ other)) in
-      (r.0, omega (arith, r.1, sum_by-cons (λ (d : Claim). cond (d.ticket == t && d.place == r.0) 1 0) c cs))
-]
-
--- and a claimed place has a ticket
-pub ticket-some : (t x : ℕ) (claims : List Claim) → times_claim t x claims ≤ times_ticket t claims
-ticket-some t x claims = omega (arith, two_claims t x (suc x) claims (λ e. let never : ⊥ = omega (arith, e) in never))
+one-claim start n look queue next back claims t x y l h k =
+    let a = claim-at t x claims (omega (arith, l.claimed x t, once-yes _ (is-claimed t (look x).mark h))) in
+    let b = claim-at t y claims (omega (arith, l.claimed y t, once-yes _ (is-claimed t (look y).mark k))) in
+    sym (a.place unclaimed) ∙ ap (λ i. (get_or claims i unclaimed).place) (claim-one claims t a.index b.index l.ascending a.is b.is) ∙ b.place unclaimed

@@ -5,23 +5,24 @@ use Rattle.std.specs.Prelude.{◌==◌, ◌&&◌, nat_le}
 use Rattle.std.proofs.lemmas.Bool.{cases_lt, eq-eqb, ne_eqb, ltb-true, and_parts, and_from, and_left, and_right}
 use Rattle.std.proofs.lemmas.List.{length_push, length-take-le, take_all, drop_more}
 use Rattle.std.proofs.lemmas.Option.{slice_get_read}
-use Rattle.std.specs.List.{slice_get}
-use Rattle.std.proofs.lemmas.List.Sums.{sum_by_more, sum_by-cons, count_by-le-length}
+use Rattle.std.specs.List.{All, slice_get}
+use Rattle.std.proofs.lemmas.List.Sums.{sum_by_more, count_by-le-length}
 use Rattle.lf_marks.specs.Steps.{Mark, Marking, kid_of, kids_beneath, IsAnswer, Took, Answered, GaveBack, WentDown, IsUnmarked, IsMarked, only_root}
 use Rattle.lf_marks.specs.Steps as mark
-use Rattle.lf_marks.specs.Claims.{IsWithout}
+use Rattle.lf_marks.specs.Claims.{IsOfTicket}
 use Rattle.lf_marks.specs.Counting.{AreCounts}
 use Rattle.lf_marks.specs.Arena.{look, marks_of, IsState}
 use Rattle.lf_marks.specs.declared.claim.Claim.{Claim}
 use Rattle.lf_marks.specs.declared.set.Set.{Set}
-use Rattle.lf_marks.specs.Walks.{Spot, led_from, untaken, width, width_of, is_set, is_open, is_claimed, is_waiting, is_answer, once, times, times_ticket}
+use Rattle.lf_marks.specs.Walks.{Spot, led_from, untaken, width, width_of, is_set, is_open, is_claimed, is_waiting, is_answer, once, times}
 use Rattle.lf_marks.specs.Walks.{IsArena, AreListed, IsRemarked, IsGrownBy}
+use Rattle.lf_marks.proofs.ClaimLemmas.{IsWithout, unclaimed, claim-here, claim-place, claim-at}
 use Rattle.lf_marks.proofs.WalkLemmas.{marked-led, marked-past, lt-is, lt-not, led-some}
 use Rattle.lf_marks.proofs.ChangeLemmas.{remarked-at, remarked-kids, remarked-others, remarked-arena}
 use Rattle.lf_marks.proofs.GrowLemmas.{kid-open, grown-was, grown-is, grown-others, grown-arena}
 use Rattle.lf_marks.proofs.DownLemmas.{raised-from, raised-arena, all-taken, past-width}
 use Rattle.lf_marks.proofs.ListedLemmas.{listed-claimed, listed-freed, listed-answered, listed-grown, listed-down, without-was, open-is, claimed-is, is-claimed}
-use Rattle.lf_marks.proofs.ListedLemmas.{from-once, once-yes, once-no, one-claim, ticket-of, ticket-some, times-cons}
+use Rattle.lf_marks.proofs.ListedLemmas.{from-once, once-yes, once-no, one-claim, times-cons}
 use Rattle.lf_marks.proofs.CountLemmas.{counts-took, counts-back, counts-answered, counts-down, counts-root, some-counted}
 use Rattle.lf_marks.proofs.ShapeLemmas.{bare, claimed-led, Stands, placed, opened, waits, stands}
 use Rattle.lf_marks.specs.declared.set.State.TheVariants as state
@@ -91,31 +92,28 @@ module _ (level start : ℕ) (sets : List Set) (queue next back : List ℕ) (cla
       (subst (λ z. IsState level start sets queue next z claims' untaken waiting answered) (sym eb)
       (subst (λ z. IsState level start sets queue next back z untaken waiting answered) (sym ec) s)))
 
-  -- a ticket above all claimed ones has no claim
-  pub fresh-ticket : (t : ℕ) → ((p : List ℕ) (u : ℕ) → marks_of sets start p ≡ Some (mark.Claimed u) → u < t) → times_ticket t claims ≡ 0
-  fresh-ticket t above = elim (cases_lt 0 (times_ticket t claims)) [
-    | inr none ↦ omega (arith, none)
-    | inl some ↦
-        let r = ticket-of t claims some in
-        let is = claimed-is t (look sets r.0).mark (from-once _ (omega (arith, r.1, s.listed.claimed r.0 t))) in
-        let few = set_within level start (length sets) (look sets) r.0 (mark.Claimed t) s.sound is in
-        let way = led-some level start (length sets) (look sets) s.sound (suc r.0) r.0 (omega arith) few in
-        let never : ⊥ = omega (arith, above way.0 t (marked-led (look sets) start 0 way.0 r.0 way.1 ∙ is)) in absurd never
-  ]
-
   -- a claimed ticket has a claim, and a ticket with a claim is claimed
-  pub claim-some : (t : ℕ) → IsMarked (marks_of sets start) (mark.Claimed t) → 0 < times_ticket t claims
+  pub claim-some : (t : ℕ) → IsMarked (marks_of sets start) (mark.Claimed t) → (i : ℕ) × IsOfTicket claims t i
   claim-some t h =
       let a = claimed-led level start (length sets) (look sets) s.sound t h.0 h.1 in
-      omega (arith, ticket-some t a.0 claims, s.listed.claimed a.0 t, once-yes _ (is-claimed t (look sets a.0).mark a.2))
+      let r = claim-at t a.0 claims (omega (arith, s.listed.claimed a.0 t, once-yes _ (is-claimed t (look sets a.0).mark a.2))) in
+      (r.index, r.is)
 
-  pub claim-marked : (t : ℕ) → 0 < times_ticket t claims → IsMarked (marks_of sets start) (mark.Claimed t)
-  claim-marked t some =
-      let r = ticket-of t claims some in
+  pub claim-marked : (t i : ℕ) → IsOfTicket claims t i → IsMarked (marks_of sets start) (mark.Claimed t)
+  claim-marked t i found =
+      let r = claim-place claims t i found in
       let is = claimed-is t (look sets r.0).mark (from-once _ (omega (arith, r.1, s.listed.claimed r.0 t))) in
       let few = set_within level start (length sets) (look sets) r.0 (mark.Claimed t) s.sound is in
       let way = led-some level start (length sets) (look sets) s.sound (suc r.0) r.0 (omega arith) few in
       (way.0, marked-led (look sets) start 0 way.0 r.0 way.1 ∙ is)
+
+  -- a ticket above all claimed ones is above those of all claims
+  pub claims-below : (t : ℕ) → ((p : List ℕ) (u : ℕ) → marks_of sets start p ≡ Some (mark.Claimed u) → u < t) → All (λ (c : Claim). c.ticket < t) claims
+  claims-below t above i d few =
+      let u = (get_or claims i unclaimed).ticket in
+      let here = claim-here claims i few in
+      let h = claim-marked u i here in
+      omega (arith, above h.0 u h.1, here.ticket d)
 
   -- where a set was given back
   pub again-was : (x : ℕ) → 0 < times x back → (look sets x).mark ≡ Some mark.Open
@@ -145,9 +143,9 @@ module _ (level start : ℕ) (sets : List Set) (queue next back : List ℕ) (cla
           (ap width_of (again-was x some_back)) p led q apart (λ i few. absurd (omega (arith, few)));
     }
 
-    pub state-again : times_ticket t claims ≡ 0
+    pub state-again : All (λ (c : Claim). c.ticket < t) claims
         → IsState level start sets' queue next left (claims ++ (record { ticket = t; place = x }) ∷ []) untaken waiting answered
-    state-again fresh =
+    state-again above =
         let c : Claim = record { ticket = t; place = x } in
         let way = led-some level start (length sets) (look sets) s.sound (suc x) x (omega arith) (again-within x some_back) in
         let low = set_low level start (length sets) (look sets) x mark.Open s.sound (again-was x some_back) refl in record {
@@ -156,7 +154,7 @@ module _ (level start : ℕ) (sets : List Set) (queue next back : List ℕ) (cla
               (remarked-arena level start (length sets) (look sets) (look sets') x (mark.Claimed t) s.sound re low (again-within x some_back) refl);
           listed = subst (λ n. AreListed start n (look sets') queue next left (claims ++ c ∷ [])) (sym long)
               (listed-claimed start (length sets) (look sets) (look sets') x (mark.Claimed t) re t queue next back left claims refl
-              (again-was x some_back) s.listed fewer fresh);
+              (again-was x some_back) s.listed fewer above);
           counted = counts-at (marks_of sets' start) (untaken + length left) (untaken + length left) (length claims + 1)
               (length (claims ++ c ∷ [])) answered answered waiting waiting
               refl (sym (length_push claims c)) refl refl
@@ -210,17 +208,17 @@ module _ (level start : ℕ) (sets : List Set) (queue next back : List ℕ) (cla
       others = grown-others level start (length sets) (look sets) (look sets') x t s.sound gr next_high next_more p led;
     }
 
-    pub state-next : (u : ℕ) → u + 1 ≡ untaken → times_ticket t claims ≡ 0
+    pub state-next : (u : ℕ) → u + 1 ≡ untaken → All (λ (c : Claim). c.ticket < t) claims
         → ((look sets x).taken + 1 < width (look sets x) → queue' ≡ x ∷ rest) → (width (look sets x) ≤ (look sets x).taken + 1 → queue' ≡ rest)
         → IsState level start sets' queue' next back (claims ++ (record { ticket = t; place = length sets }) ∷ []) u waiting answered
-    state-next u less fresh stays leaves =
+    state-next u less above stays leaves =
         let c : Claim = record { ticket = t; place = length sets } in
         let way = led-some level start (length sets) (look sets) s.sound (suc x) x (omega arith) (omega (arith, next_high, s.sound.begins)) in record {
           shallow = s.shallow;
           sound = subst (λ n. IsArena level start n (look sets')) (sym long)
               (grown-arena level start (length sets) (look sets) (look sets') x t s.sound gr next_high next_more);
           listed = subst (λ n. AreListed start n (look sets') queue' next back (claims ++ c ∷ [])) (sym long)
-              (listed-grown level start (length sets) (look sets) (look sets') x t s.sound gr next_high next_more rest queue' next back claims fresh stays
+              (listed-grown level start (length sets) (look sets) (look sets') x t s.sound gr next_high next_more rest queue' next back claims above stays
               leaves
               (subst (λ q. AreListed start (length sets) (look sets) q next back claims) head s.listed));
           counted = counts-at (marks_of sets' start) (u + length back) (u + length back) (length claims + 1)
@@ -357,15 +355,12 @@ module _ (level start : ℕ) (sets : List Set) (queue next back : List ℕ) (cla
                 times-cons' x xs = times-cons x x xs
 
     pub none-claimed : length claims ≡ 0
-    none-claimed = of_claims claims (λ t some. let h = claim-marked t some in free t h.0 h.1)
-      where
-        of_claims : (cs : List Claim) → ((t : ℕ) → 0 < times_ticket t cs → ⊥) → length cs ≡ 0
-        of_claims [] h = refl
-        of_claims (c ∷ cs) h = absurd (h c.ticket (omega (arith, ticket-head c cs)))
-          where
-            ticket-head : (c : Claim) (cs : List Claim) → times_ticket c.ticket (c ∷ cs) ≡ 1 + times_ticket c.ticket cs
-            ticket-head c cs = sum_by-cons (λ (d : Claim). once (d.ticket == c.ticket)) c cs
-                ∙ ap (λ b. b + times_ticket c.ticket cs) (once-yes _ (eq-eqb c.ticket c.ticket refl))
+    none-claimed = elim (cases_lt 0 (length claims)) [
+      | inr none ↦ omega (arith, none)
+      | inl some ↦
+          let h = claim-marked (get_or claims 0 unclaimed).ticket 0 (claim-here claims 0 some) in
+          absurd (free (get_or claims 0 unclaimed).ticket h.0 h.1)
+    ]
 
     pub state-down : waiting < 2 ^ 32 → level < 16 → IsState (level + 1) (length sets) sets next [] back claims waiting 0 answered
     state-down few high = record {
@@ -429,7 +424,7 @@ root_listed = record {
   coming = root_coming;
   opened = λ x. times-cons x 0 [] ∙ root_opened x;
   claimed = root_claimed;
-  tickets = λ t. omega arith;
+  ascending = λ i j d less few. absurd (omega (arith, few));
   partly = λ x h. absurd (omega (arith, h));
 }
   where

@@ -1,10 +1,13 @@
--- Lists of claims, by how often each comes.
-use Rattle.std.specs.Prelude.{◌≡◌, ℕ, ◌+◌, ◌&&◌, ◌==◌, List, length}
-use Rattle.lf_marks.specs.Walks.{once, times_ticket, times_claim}
+-- Lists of claims.
+use Rattle.std.specs.Prelude.{◌≡◌, ℕ, ◌<◌, List, length, slice_index_or}
+use Rattle.std.specs.List.{AllPairs}
 use Rattle.lf_marks.specs.declared.claim.Claim.{Claim}
 
--- one claim fewer, of a ticket at a place
-pub record IsWithout (old new : List Claim) (t x : ℕ) : Type 0 where
-  pub claims : (u y : ℕ) → times_claim u y new + once (t == u && x == y) ≡ times_claim u y old
-  pub tickets : (u : ℕ) → times_ticket u new + once (t == u) ≡ times_ticket u old
-  pub count : length new + 1 ≡ length old
+-- the tickets rise, so that no ticket claims two sets
+abbrev pub AreAscending : List Claim → Type 0
+AreAscending = AllPairs (λ (c d : Claim). c.ticket < d.ticket)
+
+-- the claim at a place of the list is of the ticket
+pub record IsOfTicket (claims : List Claim) (t i : ℕ) : Type 0 where
+  pub within : i < length claims
+  pub ticket : (d : Claim) → (slice_index_or claims i d).ticket ≡ t

@@ -3,6 +3,7 @@ use Rattle.std.specs.Prelude.{◌≡◌, ◌≢◌, ℕ, ◌+◌, ◌<◌, ◌�
 use Rattle.std.specs.List.{count_by, slice_get}
 use Rattle.lf_marks.specs.Steps.{Mark, kids_beneath}
 use Rattle.lf_marks.specs.Steps as mark
+use Rattle.lf_marks.specs.Claims.{AreAscending}
 use Rattle.lf_marks.specs.declared.claim.Claim.{Claim}
 
 -- what a place tells: the place of the branch above it and which of its kids it is, how deep it stands, the place of its own first
@@ -85,12 +86,9 @@ is_set (Some m) = true
 abbrev pub once : Bool → ℕ
 once b = if b then 1 else 0
 
--- how often a place comes in a list, a ticket, and a ticket with a place
+-- how often a place comes in a list, and a ticket with a place
 abbrev pub times : ℕ → List ℕ → ℕ
 times x places = count_by (λ y. y == x) places
-
-abbrev pub times_ticket : ℕ → List Claim → ℕ
-times_ticket t claims = count_by (λ (c : Claim). c.ticket == t) claims
 
 abbrev pub times_claim : ℕ → ℕ → List Claim → ℕ
 times_claim t x claims = count_by (λ (c : Claim). c.ticket == t && c.place == x) claims
@@ -132,13 +130,14 @@ pub record IsPartly (n : ℕ) (look : ℕ → Spot) (queue : List ℕ) (x : ℕ)
   pub last : (look x).first + (look x).taken ≡ n
 
 -- each list of places has exactly the places that it is kept for, once each: the branches above the level with kids that nobody
--- took, the branches of the level that have kids, the places that are open, and those that are claimed. No ticket claims two.
+-- took, the branches of the level that have kids, the places that are open, and those that are claimed. The claims stand in the order
+-- of their tickets.
 pub record AreListed (start n : ℕ) (look : ℕ → Spot) (queue next back : List ℕ) (claims : List Claim) : Type 0 where
   pub queued : (x : ℕ) → times x queue ≡ once (nat_lt x start && nat_lt (look x).taken (width (look x)))
   pub coming : (x : ℕ) → times x next ≡ once (nat_le start x && nat_lt 0 (width (look x)))
   pub opened : (x : ℕ) → times x back ≡ once (is_open (look x).mark)
   pub claimed : (x t : ℕ) → times_claim t x claims ≡ once (is_claimed t (look x).mark)
-  pub tickets : (t : ℕ) → times_ticket t claims ≤ 1
+  pub ascending : AreAscending claims
   pub partly : (x : ℕ) → x < start → 0 < (look x).taken → (look x).taken < width (look x) → IsPartly n look queue x
 
 -- the places are the same, but for the mark of one

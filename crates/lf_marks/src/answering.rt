@@ -3,12 +3,13 @@
 ghost use Rattle.std.specs.Prelude.{◌≡◌, ℕ, ◌+◌, ◌&&◌, ◌==◌, ◌<◌, ◌≤◌, List, length, Some, nat_lt, vec_capacity};
 ghost use Rattle.lf_marks.specs.Answers.{mark_for};
 ghost use Rattle.lf_marks.specs.Arena.{first_in, mark_in, taken_in};
+ghost use Rattle.lf_marks.specs.Claims.{IsOfTicket};
 ghost use Rattle.lf_marks.specs.Marks.{mark_at, level_of};
 ghost use Rattle.lf_marks.specs.Steps.{Answered, GaveBack, Reclaimed, IsMarked, kids_beneath};
 ghost use Rattle.lf_marks.specs.Steps as mark;
 ghost use Rattle.lf_marks.specs.Walks.{once, times};
 
-use crate::claims::unclaim;
+use crate::claims::claim_of;
 use crate::grown::{Answer, Grown};
 use crate::marks::Marks;
 use crate::set::State;
@@ -22,9 +23,10 @@ impl Marks {
             → Answered p ticket (mark_for answer) (mark_at self.old) (mark_at self.new) }
         ensures level { level_of self.new ≡ level_of self.old }
     {
-        let Some(place) = unclaim(&mut self.claims, ticket) else {
+        let Some(index) = claim_of(self.claims.as_slice(), ticket) else {
             unreachable!()
         };
+        let place = self.claims.remove(index).place;
         let kids = kids_of(&answer);
         put_if(&mut self.coming, place, kids > 0);
         self.waiting += u64::from(kids);
@@ -38,30 +40,32 @@ impl Marks {
         ensures gave_back { (p : List ℕ) → mark_at self.old p ≡ Some (mark.Claimed ticket) → GaveBack p ticket (mark_at self.old) (mark_at self.new) }
         ensures level { level_of self.new ≡ level_of self.old }
     {
-        self.free(ticket);
+        let Some(index) = claim_of(self.claims.as_slice(), ticket) else {
+            unreachable!()
+        };
+        self.free(index);
     }
 
-    /// Opens the set again that the ticket claims.
-    fn free(&mut self, ticket: u64)
-        requires { IsMarked (mark_at self.old) (mark.Claimed ticket) }
-        ensures gave_back { (p : List ℕ) → mark_at self.old p ≡ Some (mark.Claimed ticket) → GaveBack p ticket (mark_at self.old) (mark_at self.new) }
+    /// Opens the set of a claim again.
+    fn free(&mut self, index: usize)
+        requires { index < length self.old.claims.items }
+        ensures gave_back { (p : List ℕ) (t : ℕ) → IsOfTicket self.old.claims.items t index → mark_at self.old p ≡ Some (mark.Claimed t)
+            → GaveBack p t (mark_at self.old) (mark_at self.new) }
         ensures count { length self.new.claims.items + 1 ≡ length self.old.claims.items }
         ensures level { level_of self.new ≡ level_of self.old }
     {
-        let Some(place) = unclaim(&mut self.claims, ticket) else {
-            unreachable!()
-        };
+        let place = self.claims.remove(index).place;
         self.opened.push_reserved(place);
         put_state(&mut self.sets, place, State::Open);
     }
 
-    /// Opens all sets again that are claimed. It takes no memory.
+    /// Opens all sets again that are claimed. It takes no memory, and time in proportion to the number of claims.
     pub fn reclaim(&mut self)
         ensures reclaimed { Reclaimed (mark_at self.old) (mark_at self.new) }
         ensures level { level_of self.new ≡ level_of self.old }
     {
         'claims: while !self.claims.is_empty() {
-            let last = self.claims[self.claims.len() - 1].ticket;
+            let last = self.claims.len() - 1;
             self.free(last);
         }
     }

@@ -26,7 +26,7 @@ pub struct Marks {
     pub(crate) coming: Vec<usize>,
     /// The places of the sets that were given back.
     pub(crate) opened: Vec<usize>,
-    /// The sets that are worked.
+    /// The sets that are worked, in the order of their tickets.
     pub(crate) claims: Vec<Claim>,
     /// How many sets of the level nobody has taken.
     pub(crate) untaken: u64,

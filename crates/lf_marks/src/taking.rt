@@ -1,11 +1,11 @@
 //! Taking a set to work it.
 
 ghost use Rattle.std.specs.Prelude.{◌≡◌, ℕ, ◌+◌, ◌<◌, if◌then◌else◌, List, length, Some};
+ghost use Rattle.std.specs.List.{All};
 ghost use Rattle.lf_marks.specs.Marks.{mark_at, level_of, HasPlaces, IsNext, IsNextKid, LeadsToLast};
 ghost use Rattle.lf_marks.specs.Room.{FitsNext, HasRoom};
 ghost use Rattle.lf_marks.specs.Steps.{Took};
 ghost use Rattle.lf_marks.specs.Steps as mark;
-ghost use Rattle.lf_marks.specs.Walks.{times_ticket};
 
 use crate::claim::Claim;
 use crate::marks::Marks;
@@ -50,7 +50,7 @@ impl Marks {
     fn claim_again(&mut self, ticket: u64)
         requires some { 0 < length self.old.opened.items }
         requires room { HasPlaces self.old }
-        requires fresh { times_ticket ticket self.old.claims.items ≡ 0 }
+        requires above { All (λ c. c.ticket < ticket) self.old.claims.items }
         ensures took { (p : List ℕ) → LeadsToLast self.old.sets.items self.old.opened.items p
             → Took p ticket (mark_at self.old) (mark_at self.new) }
         ensures level { level_of self.new ≡ level_of self.old }
@@ -67,7 +67,7 @@ impl Marks {
         requires none { length self.old.opened.items ≡ 0 }
         requires room { HasPlaces self.old }
         requires kids { FitsNext self.old.sets.items self.old.queue.items self.old.at larger }
-        requires fresh { times_ticket ticket self.old.claims.items ≡ 0 }
+        requires above { All (λ c. c.ticket < ticket) self.old.claims.items }
         ensures took { (p : List ℕ) → IsNextKid self.old.sets.items self.old.queue.items self.old.at p
             → Took p ticket (mark_at self.old) (mark_at self.new) }
         ensures level { level_of self.new ≡ level_of self.old }

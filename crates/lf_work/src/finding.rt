@@ -5,25 +5,21 @@ ghost use Rattle.lf_marks.specs.Answers.{mark_for};
 ghost use Rattle.lf_sim.specs.Settings.{world_of};
 ghost use Rattle.lf_search.specs.Found.{IsFound};
 
+use crate::job::Job;
 use lf_faults::{Fault, FaultSet};
 use lf_marks::Answer;
 use lf_outcome::Reach;
 use lf_scenario::Scenario;
-use std::sync::Arc;
 
-/// What the run of a job's set shows: whether it misses the outcome, and where it reaches it and has fewer faults than the budget, the
-/// sharp reach of what the outcome rests on and the edges that are required within it. The type keeps that all of this is so: only a
-/// run makes a finding.
+/// A job with its answer, which is what the run of the job's set shows: whether it misses the outcome, and where it reaches it and has
+/// fewer faults than the budget, the sharp reach of what the outcome rests on and the edges that are required within it. The type keeps
+/// that all of this is so: only a run makes a finding.
 #[derive(Drop)]
 pub struct Finding {
-    pub(crate) scenario: Arc<Scenario>,
-    pub(crate) set: FaultSet,
-    pub(crate) excluded: Vec<Fault>,
-    pub(crate) path: Vec<usize>,
-    pub(crate) ticket: u64,
+    pub(crate) job: Job,
     pub(crate) answer: Answer,
-    ghost found: { ∥ IsFound (world_of (arc_value scenario).setting) (arc_value scenario).setting.spec (arc_value scenario).formula
-        set excluded.items (mark_for answer) ∥₁ },
+    ghost found: { ∥ IsFound (world_of (arc_value job.scenario).setting) (arc_value job.scenario).setting.spec (arc_value job.scenario).formula
+        job.set job.excluded.items (mark_for answer) ∥₁ },
 }
 
 impl Finding {
@@ -33,44 +29,52 @@ impl Finding {
     ghost use Rattle.lf_outcome.specs.Truth.{reaches};
     ghost use Rattle.lf_search.specs.Found.{IsBranch};
 
+    /// The job that was worked.
+    pub fn job(&self) -> &Job
+        ensures { result.now ≡ self.now.job }
+    {
+        &self.job
+    }
+
     /// The scenario that was searched.
     pub fn scenario(&self) -> &Scenario
-        ensures { result.now ≡ arc_value self.now.scenario }
+        ensures { result.now ≡ arc_value self.now.job.scenario }
     {
-        &self.scenario
+        self.job.scenario()
     }
 
     /// The set that was run.
     pub fn set(&self) -> FaultSet
-        ensures { result ≡ self.now.set }
+        ensures { result ≡ self.now.job.set }
     {
-        self.set
+        self.job.set()
     }
 
     /// The faults that no set beneath it is to hold.
     pub fn excluded(&self) -> &[Fault]
-        ensures { result.now ≡ self.now.excluded.items }
+        ensures { result.now ≡ self.now.job.excluded.items }
     {
-        self.excluded.as_slice()
+        self.job.excluded()
     }
 
     /// The places of the kids that lead to the set.
     pub fn path(&self) -> &[usize]
-        ensures { result.now ≡ self.now.path.items }
+        ensures { result.now ≡ self.now.job.path.items }
     {
-        self.path.as_slice()
+        self.job.path()
     }
 
     /// The ticket by which the set was claimed.
     pub fn ticket(&self) -> u64
-        ensures { result ≡ self.now.ticket }
+        ensures { result ≡ self.now.job.ticket }
     {
-        self.ticket
+        self.job.ticket()
     }
 
     /// Whether the run of the set misses the outcome.
     pub fn misses(&self) -> bool
-        ensures { IsTrue result ↔ (reaches (world_of (arc_value self.now.scenario).setting) self.now.set (arc_value self.now.scenario).formula ≡ false) }
+        ensures { IsTrue result ↔ (reaches (world_of (arc_value self.now.job.scenario).setting) self.now.job.set
+            (arc_value self.now.job.scenario).formula ≡ false) }
     {
         match &self.answer {
             Answer::Misses => true,
@@ -84,8 +88,8 @@ impl Finding {
         ensures { MatchOption result
             ((reach : List ℕ) (edges : List Parts) → mark_for self.now.answer ≢ mark.Branch reach edges)
             (λ found. (mark_for self.now.answer ≡ mark.Branch found.0.now found.1.now)
-            × IsBranch (world_of (arc_value self.now.scenario).setting) (arc_value self.now.scenario).setting.spec
-            (arc_value self.now.scenario).formula self.now.set self.now.excluded.items found.0.now found.1.now) }
+            × IsBranch (world_of (arc_value self.now.job.scenario).setting) (arc_value self.now.job.scenario).setting.spec
+            (arc_value self.now.job.scenario).formula self.now.job.set self.now.job.excluded.items found.0.now found.1.now) }
     {
         match &self.answer {
             Answer::Branch(grown) => Some((grown.reach(), grown.edges())),
@@ -93,11 +97,11 @@ impl Finding {
         }
     }
 
-    /// What was found, without what it was found of.
+    /// The answer, without its job.
     pub fn into_answer(self) -> Answer
         ensures value { result ≡ self.answer }
-        ensures found { IsFound (world_of (arc_value self.scenario).setting) (arc_value self.scenario).setting.spec (arc_value self.scenario).formula
-            self.set self.excluded.items (mark_for result) }
+        ensures found { IsFound (world_of (arc_value self.job.scenario).setting) (arc_value self.job.scenario).setting.spec
+            (arc_value self.job.scenario).formula self.job.set self.job.excluded.items (mark_for result) }
     {
         self.answer
     }

@@ -5,6 +5,7 @@ ghost use Rattle.std.specs.Arc.{arc_value};
 
 use lf_faults::{Fault, FaultSet};
 use lf_scenario::Scenario;
+use std::alloc::AllocError;
 use std::sync::Arc;
 
 /// A set of faults that is to be worked.
@@ -18,6 +19,9 @@ pub struct Job {
 }
 
 impl Job {
+    ghost use Rattle.std.specs.Prelude.{IfOk};
+    ghost use Rattle.lf_work.specs.Jobs.{IsSameJob};
+
     /// The job of a set of a scenario, which stands at a path of a search's tree and is claimed by a ticket there. No set beneath it
     /// is to hold what is excluded.
     pub fn new(
@@ -75,5 +79,23 @@ impl Job {
         ensures { result ≡ self.now.ticket }
     {
         self.ticket
+    }
+
+    /// The same job once more.
+    pub(crate) fn try_clone(&self) -> Result<Job, AllocError>
+        ensures { IfOk result (IsSameJob self.now) }
+    {
+        let alloc = *self.excluded.allocator();
+        let mut excluded = Vec::with_capacity(alloc, self.excluded.len())?;
+        excluded.extend_from_slice(self.excluded.as_slice())?;
+        let mut path = Vec::with_capacity(alloc, self.path.len())?;
+        path.extend_from_slice(self.path.as_slice())?;
+        Ok(Job {
+            scenario: Arc::try_clone(&self.scenario)?,
+            set: self.set,
+            excluded,
+            path,
+            ticket: self.ticket,
+        })
     }
 }

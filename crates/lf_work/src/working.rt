@@ -17,7 +17,6 @@ use lf_outcome::{Formula, Point, Reach, evidence, holds};
 use lf_protocols::{Fact, Protocol};
 use lf_sim::{Run, Setting, run, run_reusing};
 use std::alloc::{AllocError, Global};
-use std::sync::Arc;
 
 /// Memory that working a job leaves, and the next takes.
 #[derive(Drop)]
@@ -52,29 +51,16 @@ pub fn work_reusing(job: &Job, scratch: &mut Scratch) -> Result<Finding, AllocEr
     ensures { IfOk result (IsOfJob job.now) }
 {
     let answer = worked(job, scratch)?;
-    finding_of(job, answer)
+    let job = job.try_clone()?;
+    Ok(Finding { job, answer })
 }
 
-/// The same, where nobody needs the job any more: the finding takes over what it holds.
+/// The same, where nobody else needs the job any more: the finding takes it over.
 pub fn work_up(job: Job, scratch: &mut Scratch) -> Result<Finding, AllocError>
     ensures { IfOk result (IsOfJob job) }
 {
     let answer = worked(&job, scratch)?;
-    let Job {
-        scenario,
-        set,
-        excluded,
-        path,
-        ticket,
-    } = job;
-    Ok(Finding {
-        scenario,
-        set,
-        excluded,
-        path,
-        ticket,
-        answer,
-    })
+    Ok(Finding { job, answer })
 }
 
 /// What is found of a job's set.
@@ -96,27 +82,6 @@ fn worked(job: &Job, scratch: &mut Scratch) -> Result<Answer, AllocError>
     )?;
     scratch.run = Some(played);
     Ok(answer)
-}
-
-/// What is found of a job's set, with what it is found of.
-fn finding_of(job: &Job, answer: Answer) -> Result<Finding, AllocError>
-    requires { IsFound (world_of (arc_value job.now.scenario).setting) (arc_value job.now.scenario).setting.spec
-        (arc_value job.now.scenario).formula job.now.set job.now.excluded.items (mark_for answer) }
-    ensures { IfOk result (IsOfJob job.now) }
-{
-    let alloc = *job.excluded.allocator();
-    let mut excluded = Vec::with_capacity(alloc, job.excluded.len())?;
-    excluded.extend_from_slice(job.excluded.as_slice())?;
-    let mut path = Vec::with_capacity(alloc, job.path.len())?;
-    path.extend_from_slice(job.path.as_slice())?;
-    Ok(Finding {
-        scenario: Arc::try_clone(&job.scenario)?,
-        set: job.set,
-        excluded,
-        path,
-        ticket: job.ticket,
-        answer,
-    })
 }
 
 /// The run of a set, in the memory of one that is no longer needed, if there is one.

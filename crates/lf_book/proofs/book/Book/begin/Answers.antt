@@ -19,7 +19,7 @@ invariant_of-result c =
     } in
     record {
       closed = ∣ start_closed (world_of s.setting) s.setting.spec s.formula s.max_sets state
-          (omega (arith, c.max_sets-sets.ensures.value, c.max_sets-sets.ensures.some)) start c.level-level.ensures.shape ∣₁;
+          (rw c.deref.ensures at c.scenarios_have_sets.ensures) start c.marks_have_shape.ensures ∣₁;
       first = ∣ start_first state start ∣₁;
       tickets = omega arith;
     }

@@ -24,7 +24,7 @@ invariant_of-self g c =
     let level = c.claim.ensures.level in
     record {
       closed = claimed-closed (world_of s.setting) s.setting.spec s.formula s.max_sets (state_of m) new m.closed path c.requires.going
-          c.requires.room took refl level refl c.level-level.ensures.shape;
+          c.requires.room took refl level refl c.marks_have_shape.ensures;
       first = claimed-missing (world_of s.setting) s.setting.spec s.formula s.max_sets (state_of m) new m.closed path c.requires.going
           c.requires.room took refl level refl m.least m.first;
       tickets = omega (arith, c.requires.room);

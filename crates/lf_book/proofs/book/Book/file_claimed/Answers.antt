@@ -18,10 +18,10 @@ invariant_of-self c =
       finished = o.finished;
       marks = mark_at c.mark_answered.new.marks;
     } in
-    let e = files f.path.items c.ticket-ticket.result f.ticket (task_of_finding f) m m (state_of o) new c.ticket-ticket.ensures refl
+    let e = files f.job.path.items c.ticket-ticket.result f.job.ticket (task_of_finding f) m m (state_of o) new c.ticket-ticket.ensures refl
     c.requires.claims c.mark_answered.ensures.answered
     (record { level = c.mark_answered.ensures.level; next = refl; finished = refl }) in
-    let k = filed-keeps (arc_value o.scenario) (arc_value f.scenario) (state_of o) new f.path.items f.ticket c.set-set.result
+    let k = filed-keeps (arc_value o.scenario) (arc_value f.job.scenario) (state_of o) new f.job.path.items f.job.ticket c.set-set.result
     (task_of_finding f) m o.least c.lowered-self.result c.requires.same o.closed o.first e c.set-set.ensures
     c.into_answer-answer.ensures.found c.mark_answered.ensures.shape c.lowered-self.ensures.reaches c.lowered-self.ensures.misses in
     record { closed = k.0; first = k.1; tickets = o.tickets }
@@ -36,6 +36,6 @@ returns-clause-filed c =
       finished = o.finished;
       marks = mark_at c.mark_answered.new.marks;
     } in
-    files f.path.items c.ticket-ticket.result f.ticket (task_of_finding f) (mark_for c.into_answer-answer.result) (mark_for f.answer)
+    files f.job.path.items c.ticket-ticket.result f.job.ticket (task_of_finding f) (mark_for c.into_answer-answer.result) (mark_for f.answer)
     (state_of o) new c.ticket-ticket.ensures (ap mark_for c.into_answer-answer.ensures.value) c.requires.claims
     c.mark_answered.ensures.answered (record { level = c.mark_answered.ensures.level; next = refl; finished = refl })

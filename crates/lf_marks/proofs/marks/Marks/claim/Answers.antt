@@ -1,15 +1,15 @@
 use Rattle.std.proofs.Common.{◌≡◌, ℕ, ◌+◌, ◌<◌, ap, sym, subst, arith, length, drop, List}
 use Rattle.std.proofs.lemmas.Bool.{eqb-true, eqb-false}
+use Rattle.std.specs.List.{All}
 use Rattle.lf_marks.specs.Arena.{marks_of}
 use Rattle.std.proofs.lemmas.Option.{slice_get_within}
 use Rattle.lf_marks.specs.Marks.{IsNextKid, LeadsToLast, mark_at}
 use Rattle.lf_marks.specs.Room.{FitsNext}
 use Rattle.lf_marks.specs.Steps.{Took}
-use Rattle.lf_marks.specs.Walks.{times_ticket}
 use Rattle.lf_marks.specs.declared.claim.Claim.{Claim}
 use Rattle.lf_marks.specs.declared.set.Set.{Set}
 use Rattle.lf_marks.proofs.RoomLemmas.{fits-none}
-use Rattle.lf_marks.proofs.StateLemmas.{fresh-ticket}
+use Rattle.lf_marks.proofs.StateLemmas.{claims-below}
 use Rattle.lf_marks.proofs.marks.Marks.claim.Goals as goal
 
 pub enlarge-requires : goal.enlarge-requires
@@ -95,18 +95,18 @@ returns-then-is_empty-clause-level g c = c.claim_next.ensures.level
 pub returns-then-is_empty-clause-steps : goal.returns-then-is_empty-clause-steps
 returns-then-is_empty-clause-steps g c = c.tick.ensures
 
-pub claim_next-requires-clause-fresh : goal.claim_next-requires-clause-fresh
-claim_next-requires-clause-fresh g c =
+pub claim_next-requires-clause-above : goal.claim_next-requires-clause-above
+claim_next-requires-clause-above g c =
     let m = c.args.self.now in
-    subst (λ (cs : List Claim). times_ticket c.args.ticket cs ≡ 0) (sym {A = List Claim} c.enlarge-2.ensures.items)
-    (fresh-ticket m.level m.start m.sets.items (drop m.at m.queue.items) m.coming.items m.opened.items m.claims.items m.untaken m.waiting
+    subst (λ (cs : List Claim). All (λ (d : Claim). d.ticket < c.args.ticket) cs) (sym {A = List Claim} c.enlarge-2.ensures.items)
+    (claims-below m.level m.start m.sets.items (drop m.at m.queue.items) m.coming.items m.opened.items m.claims.items m.untaken m.waiting
     m.answered m.state c.args.ticket c.requires.above)
 
-pub claim_again-requires-clause-fresh : goal.claim_again-requires-clause-fresh
-claim_again-requires-clause-fresh g c =
+pub claim_again-requires-clause-above : goal.claim_again-requires-clause-above
+claim_again-requires-clause-above g c =
     let m = c.args.self.now in
-    subst (λ (cs : List Claim). times_ticket c.args.ticket cs ≡ 0) (sym {A = List Claim} c.enlarge-2.ensures.items)
-    (fresh-ticket m.level m.start m.sets.items (drop m.at m.queue.items) m.coming.items m.opened.items m.claims.items m.untaken m.waiting
+    subst (λ (cs : List Claim). All (λ (d : Claim). d.ticket < c.args.ticket) cs) (sym {A = List Claim} c.enlarge-2.ensures.items)
+    (claims-below m.level m.start m.sets.items (drop m.at m.queue.items) m.coming.items m.opened.items m.claims.items m.untaken m.waiting
     m.answered m.state c.args.ticket c.requires.above)
 
 pub returns-then-is_empty-clause-took : goal.returns-then-is_empty-clause-took

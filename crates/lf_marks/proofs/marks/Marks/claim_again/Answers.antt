@@ -38,7 +38,7 @@ invariant_of-self c =
     let short = last-short m.opened.items c.pop.new.self.items m.opened.len c.requires.some (omega (arith, m.opened.ok)) c.pop.ensures.rest in
     let s = state-again m.level m.start m.sets.items (drop m.at m.queue.items) m.coming.items m.opened.items m.claims.items m.untaken m.waiting
     m.answered m.state c.put_state.new.sets.items c.index-place.result.now c.args.ticket c.pop.new.self.items c.put_state.ensures.length
-    c.put_state.ensures.remarked fewer short c.requires.fresh in record {
+    c.put_state.ensures.remarked fewer short c.requires.above in record {
       state = rw c.push_reserved.ensures.items s;
       coming_room = omega (arith, c.requires.room.coming, c.push_reserved.ensures.len, m.claims.ok, c.push_reserved.new.self.ok);
       opened_room = omega (arith, m.opened_room, short, c.pop.ensures.capacity, c.push_reserved.ensures.len, m.claims.ok, c.push_reserved.new.self.ok);

@@ -59,7 +59,7 @@ invariant_of-self-2 c =
     m.answered m.state c.index-parent.result.now (drop (m.at + 1) m.queue.items) head in
     let s = state-next m.level m.start m.sets.items (drop m.at m.queue.items) m.coming.items m.opened.items m.claims.items m.untaken m.waiting
     m.answered m.state c.push_reserved.new.self.items c.index-parent.result.now c.args.ticket (drop (m.at + 1) m.queue.items)
-    (drop c.following-self.result m.queue.items) head long gr (m.untaken - 1) (omega (arith, some, c.requires.none)) c.requires.fresh
+    (drop c.following-self.result m.queue.items) head long gr (m.untaken - 1) (omega (arith, some, c.requires.none)) c.requires.above
     (λ more. ap (λ k. drop k m.queue.items) (c.following-self.ensures ∙ cond-true (nat_lt (c.taken-kid.result + 1) c.kids-kids.result) m.at (m.at + 1)
     (lt-is _ _ (omega (arith, more, taken, kids)))) ∙ head)
     (λ last. ap (λ k. drop k m.queue.items) (c.following-self.ensures ∙ cond-false (nat_lt (c.taken-kid.result + 1) c.kids-kids.result) m.at (m.at + 1)

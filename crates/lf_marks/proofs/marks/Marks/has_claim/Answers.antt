@@ -1,18 +1,22 @@
-use Rattle.std.proofs.Common.{◌≡◌, ◌∙◌, ap, sym, ◌==◌, drop, is_some}
-use Rattle.std.specs.List.{position}
-use Rattle.lf_marks.specs.declared.claim.Claim.{Claim}
-use Rattle.lf_marks.proofs.ClaimLemmas.{position-counts}
+use Rattle.std.proofs.Common.{◌∙◌, sym, subst, drop}
+use Rattle.lf_marks.specs.Claims.{AreAscending}
+use Rattle.lf_marks.proofs.ClaimLemmas.{claim-told}
 use Rattle.lf_marks.proofs.StateLemmas.{claim-some, claim-marked}
 use Rattle.lf_marks.proofs.marks.Marks.has_claim.Goals as goal
+
+pub claim_of-requires : goal.claim_of-requires
+claim_of-requires c = subst AreAscending (sym c.as_slice.ensures.value) c.args.self.now.state.listed.ascending
 
 pub returns : goal.returns
 returns c =
     let m = c.args.self.now in
-    let counts = position-counts (λ (d : Claim). d.ticket == c.args.ticket) m.claims.items in
-    let found : c.is_some.result ≡ is_some (position (λ (d : Claim). d.ticket == c.args.ticket) m.claims.items) =
-    c.is_some.ensures ∙ ap is_some (c.claim_of.ensures ∙ ap (position (λ (d : Claim). d.ticket == c.args.ticket)) c.as_slice.ensures.value) in (
-      λ h. claim-marked m.level m.start m.sets.items (drop m.at m.queue.items) m.coming.items m.opened.items m.claims.items m.untaken m.waiting
-          m.answered m.state c.args.ticket (counts.0 (sym found ∙ h)),
-      λ h. found ∙ counts.1 (claim-some m.level m.start m.sets.items (drop m.at m.queue.items) m.coming.items m.opened.items m.claims.items
-          m.untaken m.waiting m.answered m.state c.args.ticket h),
+    let told = claim-told m.claims.items c.args.ticket c.claim_of.result (rw c.as_slice.ensures.value at c.claim_of.ensures) in (
+      λ h.
+          let found = told.0 (sym c.is_some.ensures ∙ h) in
+          claim-marked m.level m.start m.sets.items (drop m.at m.queue.items) m.coming.items m.opened.items m.claims.items m.untaken m.waiting
+          m.answered m.state c.args.ticket found.0 found.1,
+      λ h.
+          let found = claim-some m.level m.start m.sets.items (drop m.at m.queue.items) m.coming.items m.opened.items m.claims.items m.untaken
+          m.waiting m.answered m.state c.args.ticket h in
+          c.is_some.ensures ∙ told.1 found.0 found.1,
     )

@@ -11,10 +11,10 @@ use Rattle.lf_work.proofs.finding.Finding.branch.Goals as goal
 pub returns-in-Branch : goal.returns-in-Branch
 returns-in-Branch c =
     let f = c.args.self.now in
-    let s = arc_value f.scenario in
+    let s = arc_value f.job.scenario in
     let is = ap mark_for c.in-Branch.is ∙ ap (λ (r : List ℕ). mark.Branch r (edges_of c.in-Branch.grown)) (sym c.reach.ensures)
     ∙ ap (λ (es : List Parts). mark.Branch c.reach.result.now es) (sym c.edges.ensures) in (
       is,
-      subst (IsFound (world_of s.setting) s.setting.spec s.formula f.set f.excluded.items) is
-          (found-again (world_of s.setting) s.setting.spec s.formula f.set f.excluded.items (mark_for f.answer) f.found),
+      subst (IsFound (world_of s.setting) s.setting.spec s.formula f.job.set f.job.excluded.items) is
+          (found-again (world_of s.setting) s.setting.spec s.formula f.job.set f.job.excluded.items (mark_for f.answer) f.found),
     )

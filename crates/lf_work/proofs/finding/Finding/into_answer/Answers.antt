@@ -7,5 +7,5 @@ use Rattle.lf_work.proofs.finding.Finding.into_answer.Goals as goal
 pub returns-clause-found : goal.returns-clause-found
 returns-clause-found c =
     let f = c.args.self in
-    let s = arc_value f.scenario in
-    found-again (world_of s.setting) s.setting.spec s.formula f.set f.excluded.items (mark_for f.answer) f.found
+    let s = arc_value f.job.scenario in
+    found-again (world_of s.setting) s.setting.spec s.formula f.job.set f.job.excluded.items (mark_for f.answer) f.found
