@@ -140,7 +140,7 @@ fn row_is_judged(
 }
 
 /// Each tree of a block is judged as it says.
-fn block_is_judged(rt: &(impl Abort + Threads + Sync), alloc: Global, block: &str) {
+pub(crate) fn block_is_judged(rt: &(impl Abort + Threads + Sync), alloc: Global, block: &str) {
     let (lines, rows) = block.split_once('\n').unwrap_or((block, ""));
     let scenario = scenario(alloc, lines);
     agrees(rt, scenario.is_some(), lines);
@@ -155,26 +155,5 @@ fn block_is_judged(rt: &(impl Abort + Threads + Sync), alloc: Global, block: &st
 fn trees_made_by_hand_are_judged_alike_by_one_thread_and_by_several(rt: HostRuntime) {
     for block in TREES.split('#') {
         block_is_judged(&rt, rt.alloc(), block);
-    }
-}
-
-/// A scenario of one note.
-const ONE_NOTE: &str =
-    "nodes = 2;horizon = 3;last_omission = 1;crashes = 0;budget = 1;protocol = \"retry\";tries = 1;outcome = \"delivered\"";
-
-/// A tree of three thousand kids and no edges, as a block.
-fn crowd(alloc: Global) -> Result<String, AllocError> {
-    let more = ",{\"misses\":true}".repeat(alloc, 2999)?;
-    format!(in alloc;
-        "{ONE_NOTE}\n{{\"answer\":[\"omit 0>1 @1\"],\"format\":1,\"root\":{{\"edges\":[],\"kids\":[{{\"misses\":true}}{more}],\"reach\":[3,3]}}}}|6 []"
-    )
-}
-
-#[test]
-fn of_three_thousand_kids_without_edges_the_edges_are_named(rt: HostRuntime) {
-    let block = crowd(rt.alloc());
-    agrees(&rt, block.is_ok(), "three thousand kids");
-    if let Ok(block) = block {
-        block_is_judged(&rt, rt.alloc(), block.as_str());
     }
 }

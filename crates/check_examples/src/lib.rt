@@ -14,6 +14,8 @@ mod growing;
 #[cfg(test)]
 mod grown_trees;
 #[cfg(test)]
+mod large;
+#[cfg(test)]
 mod lists;
 #[cfg(test)]
 mod plain;

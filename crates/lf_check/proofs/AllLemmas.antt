@@ -1,5 +1,5 @@
 -- What is found in all nodes of a tree, as a verdict.
-use Rattle.std.proofs.Common.{◌≡◌, ℕ, suc, zero, ◌+◌, ◌*◌, ◌<◌, ◌≤◌, ◌++◌, List, [], ◌∷◌, length, refl, sym, ap, ◌∙◌, subst, arith}
+use Rattle.std.proofs.Common.{◌≡◌, ℕ, suc, zero, ◌+◌, ◌<◌, ◌≤◌, ◌++◌, List, [], ◌∷◌, length, refl, sym, ap, ◌∙◌, subst, arith}
 use Rattle.std.specs.Prelude.{slice_get, IfOk, Result, Ok, Option, None, Some, MatchOption}
 use Rattle.std.specs.List.{AllZip, range_with_len}
 use Rattle.std.proofs.lemmas.List.{length-map}
@@ -40,27 +40,23 @@ long_range R start (suc n) [] all = absurd all
 long_range R start zero (y ∷ ys) all = absurd all
 long_range R start (suc n) (y ∷ ys) all = let more = long_range R (start + 1) n ys all.1 in omega (arith, more)
 
--- what is found in a part
-pub part_read : {State Note Fact E : Type 0} (w : World State Note Fact) (b : Bounds) (formula : Formula Fact) (last : ℕ) (tree : Tree)
-    (sets : List (Option (List Parts))) (parts : ℕ) (found : List (Result Found E))
-    → AllZip (λ part one. IfOk one (IsFound w b formula last tree sets (part * 256) (part * 256 + 256))) (range_with_len 0 parts) found
-    → (k : ℕ) (one : Result Found E) (it : Found) → slice_get found k ≡ Some one → one ≡ Ok it
-    → IsFound w b formula last tree sets (k * 256) (k * 256 + 256) it
-part_read w b formula last tree sets parts found all k one it is ok =
+-- what holds of what is found for a number, where it was found
+pub part_read : {A E : Type 0} (P : ℕ → A → Type 0) (n : ℕ) (found : List (Result A E))
+    → AllZip (λ i one. IfOk one (P i)) (range_with_len 0 n) found
+    → (k : ℕ) (one : Result A E) (it : A) → slice_get found k ≡ Some one → one ≡ Ok it → P k it
+part_read P n found all k one it is ok =
     let same : 0 + k ≡ k = omega arith in
-    subst (λ i. IsFound w b formula last tree sets (i * 256) (i * 256 + 256) it) same
-    (subst (λ r. IfOk r (IsFound w b formula last tree sets ((0 + k) * 256) ((0 + k) * 256 + 256))) ok
-    (from_range (λ part r. IfOk r (IsFound w b formula last tree sets (part * 256) (part * 256 + 256))) 0 parts found all k one is))
+    subst (λ i. P i it) same (subst (λ r. IfOk r (P (0 + k))) ok (from_range (λ i r. IfOk r (P i)) 0 n found all k one is))
 
 module _ {State Note Fact : Type 0} (w : World State Note Fact) (b : Bounds) (formula : Formula Fact) (last : ℕ) (tree : Tree) (places : Places)
     (are : ArePlaces places) (same : places.tree.now ≡ tree) (limits : IsInLimits b) (allowed : MatchOption tree.answer (Unit {0}) (IsAllowed b))
     (deep : last ≡ last_depth b tree.answer) (it : Found) (f : IsFoundInAll w b formula last places.tree.now places.sets.items it) where
-  of_answer : (answer : Option (List Parts)) → MatchOption answer (Unit {0}) (IsAllowed b) → IsAllowedAnswer w b formula answer
+  of_answer : (answer : Option (List Parts)) → MatchOption answer (Unit {0}) (IsAllowed b) → IsAllowedAnswer b answer
   of_answer None h = tt
   of_answer (Some answer) h = h
 
-  own_answer : IsAllowedAnswer w b formula places.tree.now.answer
-  own_answer = subst (λ (t : Tree). IsAllowedAnswer w b formula t.answer) (sym same) (of_answer tree.answer allowed)
+  own_answer : IsAllowedAnswer b places.tree.now.answer
+  own_answer = subst (λ (t : Tree). IsAllowedAnswer b t.answer) (sym same) (of_answer tree.answer allowed)
 
   own_depth : last ≡ last_depth b places.tree.now.answer
   own_depth = deep ∙ ap (λ (t : Tree). last_depth b t.answer) (sym same)

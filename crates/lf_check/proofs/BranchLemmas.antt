@@ -1,12 +1,9 @@
 -- The form of a reach, and the edges of a branch.
-use Rattle.std.proofs.Common.{◌≡◌, ◌==◌, ℕ, ◌<◌, ◌≤◌, Bool, true, false, List, [], ◌∷◌, ◌++◌, length, get_or, refl, sym, ap}
+use Rattle.std.proofs.Common.{◌≡◌, ◌==◌, ℕ, ◌<◌, ◌≤◌, Bool, true, false, List, [], ◌∷◌, ◌++◌, length, refl, sym, ap}
 use Rattle.std.proofs.Common.{◌∙◌, subst, inl, inr, arith}
 use Rattle.std.specs.Prelude.{◌⊎◌, ◌↔◌, Option, None, Some, MatchOption, IsTrue}
-use Rattle.std.specs.List.{All, Contains}
-use Rattle.std.proofs.lemmas.Bool.{cases_lt}
+use Rattle.std.specs.List.{Contains}
 use Rattle.std.proofs.lemmas.Bool.Decides.{Decides-eqb}
-use Rattle.std.proofs.lemmas.List.{get_or_default}
-use Rattle.std.proofs.Math.ListN.{get_or-eq_default}
 use Rattle.std.proofs.lemmas.List.Elements.{Contains-append_left, Contains-append_right, Contains-append_cases}
 use Rattle.lf_list.proofs.Laws.{none-in, Contains-first, Contains-more, cases_in}
 use Rattle.lf_faults.specs.declared.fault.Parts.{Parts}
@@ -15,7 +12,7 @@ use Rattle.lf_faults.proofs.Laws.{in_or_not}
 use Rattle.lf_sim.specs.Runs.{World}
 use Rattle.lf_outcome.specs.declared.formula.Formula.{Formula}
 use Rattle.lf_outcome.specs.Truth.{reaches}
-use Rattle.lf_cone.specs.Cones.{IsReachOf, IsClosed, IsRequired, AreRequired}
+use Rattle.lf_cone.specs.Cones.{IsClosed, IsRequired, AreRequired}
 use Rattle.lf_cone.proofs.Laws.{required_one}
 use Rattle.lf_tree.specs.declared.tree.Node.{Node}
 use Rattle.lf_certificate.specs.declared.reason.Reason.{Reason}
@@ -97,10 +94,10 @@ module _ {State Note Fact : Type 0} (w : World State Note Fact) (b : Bounds) (fa
 -- what is found of a reach, and of edges
 module _ {State Note Fact : Type 0} (w : World State Note Fact) (b : Bounds) (formula : Formula Fact) (faults : List Parts) where
   abbrev ReachFound : List ℕ → Option Reason → Type 0
-  ReachFound reach found = MatchOption found (Suffices w b formula faults reach × IsClosed w faults reach) (FirstOfReach w b formula faults reach)
+  ReachFound reach found = MatchOption found (Suffices w formula faults reach × IsClosed w faults reach) (FirstOfReach w formula faults reach)
 
   pub right-reach : (reach : List ℕ) (found : Option Reason) → found ≡ None → ReachFound reach found
-      → Suffices w b formula faults reach × IsClosed w faults reach
+      → Suffices w formula faults reach × IsClosed w faults reach
   right-reach reach found is h = subst (ReachFound reach) is h
 
 module _ {State Note Fact : Type 0} (w : World State Note Fact) (b : Bounds) (faults excluded : List Parts) (reach : List ℕ) (edges : List Parts) where
@@ -142,7 +139,7 @@ module _ {State Note Fact : Type 0} (w : World State Note Fact) (b : Bounds) (fo
     required = λ later. let never : ⊥ = omega (arith, later) in absurd never;
   }
 
-  pub branch-reach : depth < last → reaches w faults formula ≡ true → (why : Reason) → FirstOfReach w b formula faults reach why → First why
+  pub branch-reach : depth < last → reaches w faults formula ≡ true → (why : Reason) → FirstOfReach w formula faults reach why → First why
   branch-reach above reaching why (inl t) = subst First (sym t.0) (record {
     fails = t.1;
     above = λ _. above;
@@ -162,7 +159,7 @@ module _ {State Note Fact : Type 0} (w : World State Note Fact) (b : Bounds) (fo
     required = λ later. let never : ⊥ = omega (arith, later) in absurd never;
   })
 
-  pub branch-edges : depth < last → reaches w faults formula ≡ true → Suffices w b formula faults reach × IsClosed w faults reach
+  pub branch-edges : depth < last → reaches w faults formula ≡ true → Suffices w formula faults reach × IsClosed w faults reach
       → (why : Reason) → FirstOfEdges w b faults excluded reach edges why → First why
   branch-edges above reaching right why (inl t) = subst First (sym t.0) (record {
     fails = t.1;
@@ -183,7 +180,7 @@ module _ {State Note Fact : Type 0} (w : World State Note Fact) (b : Bounds) (fo
     required = λ later. let never : ⊥ = omega (arith, later) in absurd never;
   })
 
-  pub branch-kids : depth < last → reaches w faults formula ≡ true → Suffices w b formula faults reach × IsClosed w faults reach
+  pub branch-kids : depth < last → reaches w faults formula ≡ true → Suffices w formula faults reach × IsClosed w faults reach
       → AreRequired w faults b reach excluded edges → (length kids ≡ length edges → ⊥) → First reason.KidsDiffer
   branch-kids above reaching right are other = record {
     fails = other;
@@ -195,7 +192,7 @@ module _ {State Note Fact : Type 0} (w : World State Note Fact) (b : Bounds) (fo
     required = λ _. are;
   }
 
-  pub branch-right : depth < last → Suffices w b formula faults reach × IsClosed w faults reach → AreRequired w faults b reach excluded edges
+  pub branch-right : depth < last → Suffices w formula faults reach × IsClosed w faults reach → AreRequired w faults b reach excluded edges
       → length kids ≡ length edges → IsRightBranch w b formula last depth faults excluded reach edges kids
   branch-right above right are each = record {
     above = above;
@@ -204,19 +201,6 @@ module _ {State Note Fact : Type 0} (w : World State Note Fact) (b : Bounds) (fo
     required = are;
     each = each;
   }
-
--- no step is past the last
-pub ends-by : (nodes last : ℕ) (r : List ℕ) → length r ≡ nodes → All (λ t. t ≤ last) r ↔ IsReachOf nodes last r
-ends-by nodes last r e = (
-  λ h. record {
-    count = e;
-    within = λ n. elim (cases_lt n (length r)) [
-      | inl there ↦ h n 0 there
-      | inr past ↦ let none : get_or r n 0 ≡ 0 = get_or-eq_default r 0 {n = n} past in omega (arith, none)
-    ];
-  },
-  λ h k d l. let at : get_or r k d ≡ get_or r k 0 = get_or_default r k d 0 l in omega (arith, at, h.within k),
-)
 
 -- one list is put behind another
 pub joined : (xs ys none first both passed : List Parts) → none ≡ [] → first ≡ none ++ xs → both ≡ first ++ ys → passed ≡ both → passed ≡ xs ++ ys

@@ -164,6 +164,11 @@ module _ {State Note Fact : Type 0} (w : World State Note Fact) (b : Bounds) (fo
         ]) h.1,
   )
 
+  -- what fails is found in all
+  pub found-all : (to at : ℕ) (why : Reason) → rows.IsFound w b formula last tree sets 0 to (found.Fails at why)
+      → rows.IsFoundInAll w b formula last tree sets (found.Fails at why)
+  found-all to at why h = let high : at < to = h.1 in (to + length sets, omega arith, (h.0, omega arith, h.2, h.3))
+
   pub found-part : (from to far n : ℕ) (a : Option (List Parts)) → (to ≡ far) ⊎ (to ≡ n) → n ≡ length sets → to ≤ far
       → rows.IsFound w b formula last tree sets from to (found.Passes a) → rows.IsFound w b formula last tree sets from far (found.Passes a)
   found-part from to far n a (inl same) count more h = subst (λ k. rows.IsFound w b formula last tree sets from k (found.Passes a)) same h

@@ -1,5 +1,6 @@
 mod AllLemmas
 mod BranchLemmas
+mod ExcludedLemmas
 mod FirstsLemmas
 mod FoundLemmas
 mod ListLemmas

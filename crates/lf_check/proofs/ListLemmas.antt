@@ -1,5 +1,5 @@
 -- What is found in the list of all nodes of a tree is what stands in the tree.
-use Rattle.std.proofs.Common.{◌≡◌, ℕ, zero, suc, ◌+◌, ◌<◌, ◌≤◌, List, [], length, sym, ap, ◌∙◌, subst, arith, inl, inr}
+use Rattle.std.proofs.Common.{◌≡◌, ℕ, zero, suc, ◌+◌, ◌<◌, ◌≤◌, List, [], length, refl, sym, ap, ◌∙◌, subst, arith, inl, inr}
 use Rattle.std.specs.Prelude.{slice_get, slice_index_or, Option, None, Some}
 use Rattle.std.specs.List.{Contains}
 use Rattle.std.proofs.lemmas.Bool.{cases_lt}
@@ -10,6 +10,7 @@ use Rattle.lf_faults.specs.Allowed.{CanAdd, IsInLimits}
 use Rattle.lf_faults.proofs.Laws.{length-inserted}
 use Rattle.lf_sim.specs.Runs.{World}
 use Rattle.lf_outcome.specs.declared.formula.Formula.{Formula}
+use Rattle.lf_cone.proofs.Laws.{required_few}
 use Rattle.lf_tree.specs.declared.tree.Tree.{Tree}
 use Rattle.lf_tree.specs.declared.tree.Node.{Node, out-Node}
 use Rattle.lf_tree.specs.declared.tree.Node.TheOpen.{Node-F}
@@ -34,16 +35,27 @@ module _ {State Note Fact : Type 0} (w : World State Note Fact) (b : Bounds) (fo
   edge_added depth p Node-F.Reaches edge h among = let few : among.0 < length {A = Parts} [] = among.1 in absurd (omega (arith, few))
   edge_added depth p (Node-F.Branch reach edges kids) edge h among = ((h.required.each edge).0 among).allowed
 
+  -- and it has no more edges than there are faults
+  few_edges : (depth : ℕ) (p : Place) (y : Node-F Node) → IsInLimits b → IsRightNode w b formula last depth p.faults p.excluded y
+      → length (edges_in y) ≤ 3840
+  few_edges depth p Node-F.Misses limits h = let none : length {A = Parts} [] ≡ 0 = refl in omega (arith, none)
+  few_edges depth p Node-F.Reaches limits h = let none : length {A = Parts} [] ≡ 0 = refl in omega (arith, none)
+  few_edges depth p (Node-F.Branch reach edges kids) limits h = required_few w p.faults b reach p.excluded edges limits h.required
+
   module _ (tree : Tree) (sets : List (Option (List Parts))) (limits : IsInLimits b) (are : AreSets tree sets)
       (count : length sets ≡ length (ways_of tree)) where
     -- so what is barred comes after a place that isn't right
     not_barred : (at : ℕ)
         → ((j : ℕ) (way : List ℕ) (p : Place) → j < at → StandsAt tree j way p → IsRight w b formula last (length way) p) → IsBarred tree at → ⊥
     not_barred at right bar =
-        let added = edge_added (length bar.way) bar.place (out-Node bar.place.node) bar.edge (right bar.above bar.way bar.place bar.before bar.stands)
-        bar.among in
-        let few : length bar.place.faults < 6 = omega (arith, length-inserted bar.edge bar.place.faults, added.1.budget, limits.budget) in
-        bar.full (added.0, few)
+        let here = right bar.above bar.way bar.place bar.before bar.stands in
+        elim bar.wrong [
+          | inl f ↦
+              let added = edge_added (length bar.way) bar.place (out-Node bar.place.node) f.edge here f.among in
+              let few : length bar.place.faults < 6 = omega (arith, length-inserted f.edge bar.place.faults, added.1.budget, limits.budget) in
+              f.full (added.0, few)
+          | inr crowded ↦ omega (arith, crowded, few_edges (length bar.way) bar.place (out-Node bar.place.node) limits here)
+        ]
 
     -- each node with a place has a set, or is barred
     set_there : (at : ℕ) (way : List ℕ) (p : Place) → StandsAt tree at way p → (o : Option (List Parts)) × (slice_get sets at ≡ Some o)
@@ -115,7 +127,7 @@ module _ {State Note Fact : Type 0} (w : World State Note Fact) (b : Bounds) (fo
             path = stood.0;
             place = stood.1;
             leads = stood.2.leads;
-            last = ap length same ∙ m.3.deep ∙ deep;
+            here = omega (arith, ap length same, m.3.deep, deep);
             same = stood.3;
             misses = m.3.misses;
           }
@@ -133,7 +145,7 @@ module _ {State Note Fact : Type 0} (w : World State Note Fact) (b : Bounds) (fo
               way = m.path;
               way_is = h.way_is;
               set_is = o.1 ∙ ap Some (by_set h.at stands o.0 o.1);
-              deep = m.last ∙ sym deep;
+              deep = omega (arith, m.here, deep);
               misses = m.misses;
             },
           )
@@ -157,7 +169,7 @@ module _ {State Note Fact : Type 0} (w : World State Note Fact) (b : Bounds) (fo
 -- The verdict
 module _ {State Note Fact : Type 0} (w : World State Note Fact) (b : Bounds) (formula : Formula Fact) (last : ℕ) (tree : Tree)
     (sets : List (Option (List Parts))) (limits : IsInLimits b) (are : AreSets tree sets) (count : length sets ≡ length (ways_of tree))
-    (allowed : IsAllowedAnswer w b formula tree.answer) (deep : last ≡ last_depth b tree.answer) where
+    (allowed : IsAllowedAnswer b tree.answer) (deep : last ≡ last_depth b tree.answer) where
   pub fault_found : (n at : ℕ) (why : Reason) (way : List ℕ) → IsFound w b formula last tree sets 0 n (found.Fails at why)
       → slice_get (ways_of tree) at ≡ Some way → IsFirstFault w b formula tree why way
   fault_found n at why way f is =

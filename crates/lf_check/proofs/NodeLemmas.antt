@@ -84,11 +84,11 @@ module _ {State Note Fact : Type 0} (w : World State Note Fact) (b : Bounds) (fo
 
 -- a leaf that isn't at the last depth, and what is wrong with one that is
 module _ {State Note Fact : Type 0} (w : World State Note Fact) (b : Bounds) (formula : Formula Fact) (last depth : ℕ) (faults : List Parts) where
-  pub leaf-deep : (says : Bool) → (depth ≡ last → ⊥) → FirstOfLeaf w b formula last depth faults says reason.WrongDepth
+  pub leaf-deep : (says : Bool) → (depth ≡ last → ⊥) → FirstOfLeaf w formula last depth faults says reason.WrongDepth
   leaf-deep says other = record { fails = other; here = λ later. let never : ⊥ = omega (arith, later) in absurd never }
 
   leaf-says : (says reaching : Bool) → depth ≡ last → reaching ≡ reaches w faults formula
-      → MatchOption (said_wrongly says reaching) (IsRightLeaf w b formula last depth faults says) (FirstOfLeaf w b formula last depth faults says)
+      → MatchOption (said_wrongly says reaching) (IsRightLeaf w b formula last depth faults says) (FirstOfLeaf w formula last depth faults says)
   leaf-says true true here is = record { here = here; truth = sym is }
   leaf-says true false here is = record { fails = (refl, sym is); here = λ _. here }
   leaf-says false true here is = record { fails = (refl, sym is); here = λ _. here }
@@ -96,7 +96,7 @@ module _ {State Note Fact : Type 0} (w : World State Note Fact) (b : Bounds) (fo
 
   pub leaf-found : (says reaching : Bool) (found : Option Reason) → depth ≡ last → reaching ≡ reaches w faults formula
       → found ≡ said_wrongly says reaching
-      → MatchOption found (IsRightLeaf w b formula last depth faults says) (FirstOfLeaf w b formula last depth faults says)
+      → MatchOption found (IsRightLeaf w b formula last depth faults says) (FirstOfLeaf w formula last depth faults says)
   leaf-found says reaching found here is same =
-      subst (λ x. MatchOption x (IsRightLeaf w b formula last depth faults says) (FirstOfLeaf w b formula last depth faults says)) (sym same)
+      subst (λ x. MatchOption x (IsRightLeaf w b formula last depth faults says) (FirstOfLeaf w formula last depth faults says)) (sym same)
       (leaf-says says reaching here is)

@@ -1,6 +1,6 @@
 -- The rows of a tree with the ways to their nodes: how a row hangs in the row of its branch, and what it gets from there.
 use Rattle.std.proofs.Common.{◌≡◌, ℕ, zero, suc, ◌+◌, ◌<◌, List, [], ◌∷◌, ◌++◌, length, map, take}
-use Rattle.std.proofs.Common.{refl, sym, ap, ◌∙◌, subst, append_assoc, arith}
+use Rattle.std.proofs.Common.{refl, sym, ap, ◌∙◌, subst, append_assoc, arith, inl, inr}
 use Rattle.std.specs.Prelude.{◌↔◌, slice_get, IsSome, Option, None, Some}
 use Rattle.std.specs.List.{Contains}
 use Rattle.std.specs.Option.{IfSome, option_map, option_and_then}
@@ -18,7 +18,7 @@ use Rattle.lf_tree.specs.declared.preorder.Row.{Row}
 use Rattle.lf_tree.specs.Rows.{Seen, rows_of, seen}
 use Rattle.lf_tree.proofs.Laws.{linked}
 use Rattle.lf_certificate.specs.Places.{Place, kid_in, kid_at, place_from, root_of, place_at}
-use Rattle.lf_check.specs.Rows.{way_on, ways_of, StandsAt, IsSetAt, edges_in, edges_of}
+use Rattle.lf_check.specs.Rows.{way_on, ways_of, StandsAt, IsSetAt, ExcludesAt, edges_in, edges_of}
 use Rattle.lf_check.proofs.WayLemmas.{all_ways, has_node, way_once, kid_there, last_kid, kid_leads, through}
 
 -- an element of a list that is made of another
@@ -217,11 +217,9 @@ module _ (tree : Tree) (at above : ℕ) (r branch : Seen) (is : slice_get (rows_
         above = bar.above;
         way = bar.way;
         place = bar.place;
-        edge = bar.edge;
         before = omega arith;
         stands = bar.stands;
-        among = bar.among;
-        full = bar.full;
+        wrong = bar.wrong;
       }
 
   pub set_no_edge : slice_get (edges_of branch.node) r.kid ≡ None → IsSetAt tree at None
@@ -229,35 +227,47 @@ module _ (tree : Tree) (at above : ℕ) (r branch : Seen) (is : slice_get (rows_
       let b = beneath tree at above r branch way p is named there stands in
       absurd (none-some b.edge (sym none ∙ b.edge_is))
 
+  same_node : (set : List Parts) (has : IsSetAt tree above (Some set)) → branch.node ≡ has.1.node
+  same_node set has = node_at tree above branch has.0 has.1 there has.2
+
+  pub set_crowded : (set : List Parts) → IsSetAt tree above (Some set) → 3840 < length (edges_of branch.node) → IsSetAt tree at None
+  set_crowded set has crowded way p stands = record {
+    above = above;
+    way = has.0;
+    place = has.1;
+    before = above_before tree at above r is named;
+    stands = has.2;
+    wrong = inr (subst (λ n. 3840 < length (edges_of n)) (same_node set has) crowded);
+  }
+
   module _ (edge : Parts) (edge_is : slice_get (edges_of branch.node) r.kid ≡ Some edge) (set : List Parts)
       (has : IsSetAt tree above (Some set)) where
-    same_node : branch.node ≡ has.1.node
-    same_node = node_at tree above branch has.0 has.1 there has.2
-
     own_edge : slice_get (edges_of has.1.node) r.kid ≡ Some edge
-    own_edge = ap (λ n. slice_get (edges_of n) r.kid) (sym same_node) ∙ edge_is
+    own_edge = ap (λ n. slice_get (edges_of n) r.kid) (sym (same_node set has)) ∙ edge_is
 
     pub set_full : (((Contains set edge → ⊥) × (length set < 6)) → ⊥) → IsSetAt tree at None
     set_full full way p stands = record {
       above = above;
       way = has.0;
       place = has.1;
-      edge = edge;
       before = above_before tree at above r is named;
       stands = has.2;
-      among = (
-        r.kid,
-        slice_get_within (edges_of has.1.node) r.kid edge own_edge,
-        get_or_from_slice_get (edges_of has.1.node) r.kid edge edge own_edge,
-      );
-      full = λ room. full (subst (λ fs. (Contains fs edge → ⊥) × (length fs < 6)) has.3 room);
+      wrong = inl (record {
+        edge = edge;
+        among = (
+          r.kid,
+          slice_get_within (edges_of has.1.node) r.kid edge own_edge,
+          get_or_from_slice_get (edges_of has.1.node) r.kid edge edge own_edge,
+        );
+        full = λ room. full (subst (λ fs. (Contains fs edge → ⊥) × (length fs < 6)) has.3 room);
+      });
     }
 
     pub set_more : IsSetAt tree at (Some (inserted edge set))
     set_more =
         let h = hangs_in tree at above r branch is named there in
         let own_way : has.0 ≡ h.way = same_Some has.0 h.way (sym has.2.way_is ∙ h.above_way) in
-        let node_is : slice_get (kids_of has.1.node) r.kid ≡ Some r.node = ap (λ n. slice_get (kids_of n) r.kid) (sym same_node) ∙ h.node in
+        let node_is : slice_get (kids_of has.1.node) r.kid ≡ Some r.node = ap (λ n. slice_get (kids_of n) r.kid) (sym (same_node set has)) ∙ h.node in
         let kid : Place = record {
           node = r.node;
           faults = inserted edge has.1.faults;
@@ -370,6 +380,12 @@ module _ (tree : Tree) (rows : List Row) (at : ℕ) (parent : Option ℕ) (whole
           subst (IsSetAt tree at) (sym is)
           (set_no_edge tree at above (seen row) (seen branch) here_is (named_row (seen row) here_is) there_is (sym none))
 
+      pub next_crowded : (set : List Parts) → IsSetAt tree above (Some set) → 3840 < length (edges_of branch.node.now)
+          → (next : Option (List Parts)) → next ≡ None → IsSetAt tree at next
+      next_crowded set has crowded next none =
+          subst (IsSetAt tree at) (sym none)
+          (set_crowded tree at above (seen row) (seen branch) here_is (named_row (seen row) here_is) there_is set has crowded)
+
       pub next_set : (edge : Parts) (set : List Parts) (next : Option (List Parts)) → Some edge ≡ slice_get (edges_of branch.node.now) row.kid
           → IsSetAt tree above (Some set) → IsSome next ↔ ((Contains set edge → ⊥) × (length set < 6)) → IfSome next (λ s. s ≡ inserted edge set)
           → IsSetAt tree at next
@@ -387,6 +403,14 @@ module _ (tree : Tree) (rows : List Row) (at : ℕ) (parent : Option ℕ) (whole
           let b = beneath tree at above (seen row) (seen branch) way p here_is (named_row (seen row) here_is) there_is stands in
           grown ∙ ap (λ xs. xs ++ take row.kid (edges_of branch.node.now)) (before b.way b.place b.stands)
           ∙ append_assoc old b.place.excluded (take row.kid (edges_of branch.node.now)) ∙ ap (λ xs. old ++ xs) (sym b.excluded_is)
+
+    pub kid_excluded : (row : Row) → slice_get rows at ≡ Some row → (faults : List Parts) → ExcludesAt tree above row.kid faults
+        → (way : List ℕ) (p : Place) → StandsAt tree at way p → faults ≡ p.excluded
+    kid_excluded row here faults all way p stands =
+        let here_is = read_row tree rows at row whole here in
+        let b = beneath tree at above (seen row) above_row.0 way p here_is (named_row (seen row) here_is) above_row.1 stands in
+        let same : above_row.0.node ≡ b.place.node = node_at tree above above_row.0 b.way b.place above_row.1 b.stands in
+        all b.way b.place b.stands ∙ ap (λ n. b.place.excluded ++ take row.kid (edges_of n)) (sym same) ∙ sym b.excluded_is
 
     pub more_way : (row : Row) → slice_get rows at ≡ Some row → (old mid new : List ℕ)
         → ((v : List ℕ) → slice_get (ways_of tree) above ≡ Some v → mid ≡ old ++ v) → new ≡ mid ++ row.kid ∷ []

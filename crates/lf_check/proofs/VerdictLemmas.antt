@@ -18,7 +18,7 @@ use Rattle.lf_check.specs.Walks.{Stand, Lowers, IsWalkFrom}
 use Rattle.lf_check.proofs.WalkLemmas.{first_in}
 
 module _ {State Note Fact : Type 0} (w : World State Note Fact) (b : Bounds) (formula : Formula Fact) (tree : Tree) where
-  of_answer : (answer : Option (List Parts)) → MatchOption answer (Unit {0}) (IsAllowed b) → IsAllowedAnswer w b formula answer
+  of_answer : (answer : Option (List Parts)) → MatchOption answer (Unit {0}) (IsAllowed b) → IsAllowedAnswer b answer
   of_answer None h = tt
   of_answer (Some answer) h = h
 
@@ -48,7 +48,7 @@ module _ {State Note Fact : Type 0} (w : World State Note Fact) (b : Bounds) (fo
     first : FromRoot old new None → IsFirstIn w b formula tree new.first
     first h =
         first_in w b formula tree new.first
-        (subst (λ (s : Stand). Lowers (MissesFrom w b formula (last_depth b tree.answer) 0 (root_of tree)) s.first new.first) start h.1.first)
+        (subst (λ (s : Stand). Lowers (MissesFrom w formula (last_depth b tree.answer) 0 (root_of tree)) s.first new.first) start h.1.first)
 
     -- where nothing fails, the answer may be another than the first of the sets that miss,
     pub answer-fault : (found : Option Reason) → found ≡ None → FromRoot old new found → (new.first ≡ tree.answer → ⊥) → (path : List ℕ) → path ≡ []

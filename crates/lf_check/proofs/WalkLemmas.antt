@@ -58,7 +58,7 @@ module _ {State Note Fact : Type 0} (w : World State Note Fact) (b : Bounds) (fo
   passes-Misses old new is h excluded path lowers =
       let opened = opened-Misses p.node is in
       let leaf = opened_right Node-F.Misses opened h in
-      let M = MissesFrom w b formula last depth p in (
+      let M = MissesFrom w formula last depth p in (
         laws.wholly_right w b formula last depth p h (λ i kid k. absurd (laws.misses_no_kid p kid i opened k)),
         record {
           excluded = excluded;
@@ -78,7 +78,7 @@ module _ {State Note Fact : Type 0} (w : World State Note Fact) (b : Bounds) (fo
   passes-Reaches old new is h excluded path first =
       let opened = opened-Reaches p.node is in
       let leaf = opened_right Node-F.Reaches opened h in
-      let M = MissesFrom w b formula last depth p in (
+      let M = MissesFrom w formula last depth p in (
         laws.wholly_right w b formula last depth p h (λ i kid k. absurd (laws.reaches_no_kid p kid i opened k)),
         record {
           excluded = excluded;
@@ -103,10 +103,10 @@ module _ {State Note Fact : Type 0} (w : World State Note Fact) (b : Bounds) (fo
     same_kid : (i : ℕ) → kid_at p i ≡ kid i
     same_kid i = ap (λ y. kid_in y p.faults p.excluded i) opened
 
-    missing : (s : List Parts) → MissesBefore w b formula last depth kid (length edges) s → MissesFrom w b formula last depth p s
+    missing : (s : List Parts) → MissesBefore w b formula last depth kid (length edges) s → MissesFrom w formula last depth p s
     missing s m = laws.misses_beneath w b formula last depth p m.1 m.0 s (same_kid m.0 ∙ m.3) m.4
 
-    missed : (s : List Parts) → MissesFrom w b formula last depth p s → MissesBefore w b formula last depth kid (length edges) s
+    missed : (s : List Parts) → MissesFrom w formula last depth p s → MissesBefore w b formula last depth kid (length edges) s
     missed s m = elim (laws.cases_misses w b formula last depth p s m) [
       | inl here ↦
           let above : depth < last = (opened_right (Node-F.Branch reach edges kids) opened h).above in
@@ -124,7 +124,7 @@ module _ {State Note Fact : Type 0} (w : World State Note Fact) (b : Bounds) (fo
       record {
         excluded = over.1.excluded;
         path = over.1.path;
-        first = lowers-same (MissesBefore w b formula last depth kid (length edges)) (MissesFrom w b formula last depth p) old.first new.first
+        first = lowers-same (MissesBefore w b formula last depth kid (length edges)) (MissesFrom w formula last depth p) old.first new.first
             missing missed over.1.first;
       },
     )
@@ -173,7 +173,7 @@ module _ {State Note Fact : Type 0} (w : World State Note Fact) (b : Bounds) (fo
       | inr same ↦ subst (AreRight w b formula last (depth + 1)) (some_place one other (sym is ∙ ap kid (sym same) ∙ there)) right
     ]
 
-    missing-more : (s : List Parts) → MissesBefore w b formula last depth kid i s ⊎ MissesFrom w b formula last (depth + 1) one s
+    missing-more : (s : List Parts) → MissesBefore w b formula last depth kid i s ⊎ MissesFrom w formula last (depth + 1) one s
         → MissesBefore w b formula last depth kid (i + 1) s
     missing-more s m = elim m [
       | inl before ↦ let few : before.0 < i = before.2 in (before.0, before.1, omega arith, before.3, before.4)
@@ -181,10 +181,10 @@ module _ {State Note Fact : Type 0} (w : World State Note Fact) (b : Bounds) (fo
     ]
 
     missed-more : (s : List Parts) → MissesBefore w b formula last depth kid (i + 1) s
-        → MissesBefore w b formula last depth kid i s ⊎ MissesFrom w b formula last (depth + 1) one s
+        → MissesBefore w b formula last depth kid i s ⊎ MissesFrom w formula last (depth + 1) one s
     missed-more s m = elim (before_or_this m.0 m.2) [
       | inl less ↦ inl (m.0, m.1, less, m.3, m.4)
-      | inr same ↦ inr (subst (λ x. MissesFrom w b formula last (depth + 1) x s) (some_place m.1 one (sym m.3 ∙ ap kid same ∙ is)) m.4)
+      | inr same ↦ inr (subst (λ x. MissesFrom w formula last (depth + 1) x s) (some_place m.1 one (sym m.3 ∙ ap kid same ∙ is)) m.4)
     ]
 
     -- one kid more, wholly right: its place is put on the path and taken off it, and its edge is then excluded
@@ -197,7 +197,7 @@ module _ {State Note Fact : Type 0} (w : World State Note Fact) (b : Bounds) (fo
         let never : ⊥ = cc in absurd never
     so_far-more edges edge start here pushed met next at so same put put_first None none walked excluded path first =
         let P = MissesBefore w b formula last depth kid i in
-        let Q = MissesFrom w b formula last (depth + 1) one in
+        let Q = MissesFrom w formula last (depth + 1) one in
         let passes = walked.1 in
         record {
           excluded = excluded ∙ ap (λ xs. xs ++ edge ∷ []) (passes.excluded ∙ same ∙ so.excluded)
@@ -254,13 +254,13 @@ walk-at w b formula last depth node faults set given excluded old new found same
 
 -- From the root: the first of the sets that miss is the first in the tree
 module _ {State Note Fact : Type 0} (w : World State Note Fact) (b : Bounds) (formula : Formula Fact) (tree : Tree) where
-  pub first_in : (found : Option (List Parts)) → Lowers (MissesFrom w b formula (last_depth b tree.answer) 0 (root_of tree)) None found
+  pub first_in : (found : Option (List Parts)) → Lowers (MissesFrom w formula (last_depth b tree.answer) 0 (root_of tree)) None found
       → IsFirstIn w b formula tree found
-  first_in None l = λ s m. l s (inr ((laws.misses_iff w b formula tree s).1 m))
+  first_in None l = λ s m. l s (inr m)
   first_in (Some x) l = (
     elim l.0 [
       | inl e ↦ let never : ⊥ = none_some x e in absurd never
-      | inr m ↦ (laws.misses_iff w b formula tree x).0 m
+      | inr m ↦ m
     ],
-    λ s m. l.1 s (inr ((laws.misses_iff w b formula tree s).1 m)),
+    λ s m. l.1 s (inr m),
   )

@@ -33,21 +33,22 @@ module _ {State Note Fact : Type 0} (w : World State Note Fact) (b : Bounds) whe
       ⊎ ((why ≡ reason.EdgesDiffer) × ((f : Parts) → IsRequired w faults b reach excluded f → Contains edges f)
       × (¬ AreRequired w faults b reach excluded edges))
 
-module _ {State Note Fact : Type 0} (w : World State Note Fact) (b : Bounds) (formula : Formula Fact) where
-  -- what is wrong first at a place so far down, or nothing where it is right
-  abbrev pub IsFaultAt : ℕ → ℕ → Place → Option Reason → Type 0
-  IsFaultAt last depth p found = MatchOption found (IsRight w b formula last depth p) (FailsFirst w b formula last depth p)
-
+module _ {State Note Fact : Type 0} (w : World State Note Fact) (formula : Formula Fact) where
   -- a leaf fails by this reason, and by none before it
   pub record FirstOfLeaf (last depth : ℕ) (faults : List Parts) (says : Bool) (why : Reason) : Type 0 where
-    pub fails : LeafFails w b formula last depth faults says why
+    pub fails : LeafFails w formula last depth faults says why
     pub here : turn_of reason.WrongDepth < turn_of why → depth ≡ last
 
   -- the reach of a branch is wrong by this reason, and by none before it
   abbrev pub FirstOfReach : List Parts → List ℕ → Reason → Type 0
   FirstOfReach faults reach why =
-      ((why ≡ reason.ReachFallsShort) × (¬ Suffices w b formula faults reach))
-      ⊎ ((why ≡ reason.ReachNotClosed) × Suffices w b formula faults reach × (¬ IsClosed w faults reach))
+      ((why ≡ reason.ReachFallsShort) × (¬ Suffices w formula faults reach))
+      ⊎ ((why ≡ reason.ReachNotClosed) × Suffices w formula faults reach × (¬ IsClosed w faults reach))
+
+module _ {State Note Fact : Type 0} (w : World State Note Fact) (b : Bounds) (formula : Formula Fact) where
+  -- what is wrong first at a place so far down, or nothing where it is right
+  abbrev pub IsFaultAt : ℕ → ℕ → Place → Option Reason → Type 0
+  IsFaultAt last depth p found = MatchOption found (IsRight w b formula last depth p) (FailsFirst w b formula last depth p)
 
   -- a branch fails by this reason, and by none before it
   pub record FirstOfBranch (last depth : ℕ) (faults excluded : List Parts) (reach : List ℕ) (edges : List Parts) (kids : List Node)
@@ -55,7 +56,7 @@ module _ {State Note Fact : Type 0} (w : World State Note Fact) (b : Bounds) (fo
     pub fails : BranchFails w b formula last depth faults excluded reach edges kids why
     pub above : turn_of reason.WrongDepth < turn_of why → depth < last
     pub reaching : turn_of reason.BranchMisses < turn_of why → reaches w faults formula ≡ true
-    pub suffices : turn_of reason.ReachFallsShort < turn_of why → Suffices w b formula faults reach
+    pub suffices : turn_of reason.ReachFallsShort < turn_of why → Suffices w formula faults reach
     pub closed : turn_of reason.ReachNotClosed < turn_of why → IsClosed w faults reach
     pub tried : turn_of reason.EdgeMissing < turn_of why → (f : Parts) → IsRequired w faults b reach excluded f → Contains edges f
     pub required : turn_of reason.EdgesDiffer < turn_of why → AreRequired w faults b reach excluded edges

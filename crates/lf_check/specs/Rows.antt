@@ -1,5 +1,5 @@
 -- The nodes of a tree one after another, each with the way to it, and what a checker is to find that judges them one by one.
-use Rattle.std.specs.Prelude.{◌≡◌, ℕ, ◌<◌, ◌≤◌, false, List, [], ◌∷◌, ◌++◌, length, map, slice_get, Option, None, Some}
+use Rattle.std.specs.Prelude.{◌≡◌, ◌⊎◌, ℕ, ◌+◌, ◌*◌, ◌<◌, ◌≤◌, false, List, [], ◌∷◌, ◌++◌, length, map, take, slice_get, Option, None, Some, IfSome}
 use Rattle.std.specs.List.{Contains}
 use Rattle.lf_faults.specs.declared.fault.Parts.{Parts}
 use Rattle.lf_faults.specs.declared.spec.Bounds.{Bounds}
@@ -15,6 +15,7 @@ use Rattle.lf_certificate.specs.declared.reason.Reason.{Reason}
 use Rattle.lf_certificate.specs.Places.{Place, place_at}
 use Rattle.lf_certificate.specs.Accepted.{IsRight}
 use Rattle.lf_certificate.specs.Faults.{FailsFirst}
+use Rattle.lf_check.specs.declared.excluded.Excluded.{Excluded}
 use Rattle.lf_check.specs.declared.found.Found.{Found}
 use Rattle.lf_check.specs.declared.found.Found.TheVariants.{Fails, Passes}
 use Rattle.lf_check.specs.declared.places.Places.{Places}
@@ -43,16 +44,20 @@ edges_in (Node-F.Branch reach edges kids) = edges
 abbrev pub edges_of : Node → List Parts
 edges_of n = edges_in (out-Node n)
 
--- a branch earlier in the list has an edge that makes no set of at most six different faults
+-- a node has an edge that makes no set of at most six different faults with its own set
+pub record IsFull (p : Place) : Type 0 where
+  pub edge : Parts
+  pub among : Contains (edges_of p.node) edge
+  pub full : ¬ ((¬ Contains p.faults edge) × (length p.faults < 6))
+
+-- a branch earlier in the list can't be right: it is full, or has more edges than there are faults
 pub record IsBarred (tree : Tree) (at : ℕ) : Type 0 where
   pub above : ℕ
   pub way : List ℕ
   pub place : Place
-  pub edge : Parts
   pub before : above < at
   pub stands : StandsAt tree above way place
-  pub among : Contains (edges_of place.node) edge
-  pub full : ¬ ((¬ Contains place.faults edge) × (length place.faults < 6))
+  pub wrong : IsFull place ⊎ (3840 < length (edges_of place.node))
 
 -- the set of which the node at a place of the list speaks, or none where it has no place, or is barred
 abbrev pub IsSetAt : Tree → ℕ → Option (List Parts) → Type 0
@@ -67,6 +72,15 @@ pub record ArePlaces (places : Places) : Type 0 where
   pub rows : map seen places.rows.items ≡ rows_of places.tree.now
   pub count : length places.sets.items ≡ length places.rows.items
   pub sets : AreSets places.tree.now places.sets.items
+
+-- the list holds what is excluded at a kid of the branch at a place of the list of nodes
+abbrev pub ExcludesAt : Tree → ℕ → ℕ → List Parts → Type 0
+ExcludesAt tree branch kid faults =
+    (way : List ℕ) (p : Place) → StandsAt tree branch way p → faults ≡ p.excluded ++ take kid (edges_of p.node)
+
+-- it holds what is excluded at the node that was gone to last
+abbrev pub IsExcluded : Tree → Excluded → Type 0
+IsExcluded tree excluded = IfSome excluded.last (λ last. ExcludesAt tree last.branch last.kid excluded.faults.items)
 
 module _ {State Note Fact : Type 0} (w : World State Note Fact) (b : Bounds) (formula : Formula Fact) (last : ℕ) (tree : Tree)
     (sets : List (Option (List Parts))) where
@@ -101,6 +115,10 @@ module _ {State Note Fact : Type 0} (w : World State Note Fact) (b : Bounds) (fo
   abbrev pub IsFound : ℕ → ℕ → Found → Type 0
   IsFound from to (Fails at why) = (from ≤ at) × (at < to) × AreRightWithin from at × FailsAt at why
   IsFound from to (Passes first) = AreRightWithin from to × IsFirstOf (MissesWithin from to) first
+
+  -- the same of one part: each part has 256 nodes, but the last
+  abbrev pub IsFoundInPart : ℕ → Found → Type 0
+  IsFoundInPart part = IsFound (part * 256) (part * 256 + 256)
 
   -- the same of all nodes, which are no more than some number
   abbrev pub IsFoundInAll : Found → Type 0

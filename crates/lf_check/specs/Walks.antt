@@ -52,7 +52,7 @@ module _ {State Note Fact : Type 0} (w : World State Note Fact) (b : Bounds) (fo
   abbrev pub IsWalkFrom : Place → Stand → Stand → Option Reason → Type 0
   IsWalkFrom p old new found =
       MatchOption found
-      (AreRight w b formula last depth p × Passes (MissesFrom w b formula last depth p) old new)
+      (AreRight w b formula last depth p × Passes (MissesFrom w formula last depth p) old new)
       (λ why. Stops (FailsFirstFrom w b formula last depth p why) old new)
 
   module _ (kid : ℕ → Option Place) where
@@ -62,7 +62,7 @@ module _ {State Note Fact : Type 0} (w : World State Note Fact) (b : Bounds) (fo
 
     -- the set stands beneath one of these kids at the last depth, and its run misses
     abbrev pub MissesBefore : ℕ → List Parts → Type 0
-    MissesBefore i faults = (j : ℕ) × (one : Place) × (j < i) × (kid j ≡ Some one) × MissesFrom w b formula last (depth + 1) one faults
+    MissesBefore i faults = (j : ℕ) × (one : Place) × (j < i) × (kid j ≡ Some one) × MissesFrom w formula last (depth + 1) one faults
 
     -- the kids before one are wholly right, and in that one this fails first
     abbrev pub KidFails : Reason → List ℕ → Type 0

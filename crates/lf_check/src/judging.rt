@@ -8,7 +8,8 @@ ghost use Rattle.lf_sim.specs.Settings.{world_of};
 
 use crate::Verdict;
 use crate::same::are_same_answers;
-use crate::walk::{Judged, Walk, visit};
+use crate::site::Judged;
+use crate::walk::{Walk, visit};
 use lf_certificate::Reason;
 use lf_faults::{FaultSet, FaultSpec, admits};
 use lf_outcome::Formula;

@@ -5,29 +5,28 @@ ghost use Rattle.lf_check.specs.Nodes.{FirstOfLeaf, said_wrongly};
 ghost use Rattle.lf_certificate.specs.Accepted.{IsRightLeaf};
 ghost use Rattle.lf_sim.specs.Settings.{IsRun, set_of, world_of};
 
+use crate::site::{Judged, Site};
 use lf_certificate::Reason;
-use lf_outcome::{Formula, holds};
-use lf_sim::{Machine, Run, Setting};
+use lf_outcome::holds;
+use lf_sim::Machine;
 
-/// What is wrong first with a leaf, with `depth` branches above it, that says whether the run's set reaches the outcome.
-/// None where it is right.
+/// What is wrong first with a leaf where it stands, which says whether its set reaches the outcome. None where it is right.
 pub(crate) fn leaf_fault<M: Machine>(
-    setting: &Setting<M>,
-    formula: &Formula<M::Fact>,
-    run: &Run<M>,
-    last: u32,
-    depth: u32,
+    judged: &Judged<'_, M>,
+    site: &Site<'_, M>,
     says: bool,
 ) -> Option<Reason>
-    requires { IsRun (world_of setting.now) run.now }
+    requires { IsRun (world_of judged.now.setting.now) site.now.run.now }
     ensures { MatchOption result
-        (IsRightLeaf (world_of setting.now) setting.now.spec formula.now last depth (set_of run.now) says)
-        (FirstOfLeaf (world_of setting.now) setting.now.spec formula.now last depth (set_of run.now) says) }
+        (IsRightLeaf (world_of judged.now.setting.now) judged.now.setting.now.spec judged.now.formula.now judged.now.last
+        site.now.depth (set_of site.now.run.now) says)
+        (FirstOfLeaf (world_of judged.now.setting.now) judged.now.formula.now judged.now.last site.now.depth
+        (set_of site.now.run.now) says) }
 {
-    if depth != last {
+    if site.depth != judged.last {
         return Some(Reason::WrongDepth);
     }
-    said_wrongly(says, holds(setting, formula, run))
+    said_wrongly(says, holds(judged.setting, judged.formula, site.run))
 }
 
 /// What is wrong with what a leaf says, by whether its set reaches the outcome.

@@ -2,6 +2,8 @@
 #![tactic(auto)]
 
 mod branch;
+mod excluded;
+mod failing;
 mod found;
 mod judging;
 mod leaf;
@@ -12,6 +14,7 @@ mod places;
 mod rows;
 mod same;
 mod scenarios;
+mod site;
 mod tally;
 mod verdict;
 mod walk;

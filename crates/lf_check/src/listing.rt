@@ -1,11 +1,12 @@
 //! How the nodes of a tree are listed, and what is read of one by the rows of the branches above it.
 
-ghost use Rattle.std.specs.Prelude.{◌≡◌, ℕ, ◌<◌, ◌++◌, List, length, map, take, vec_len, slice_get, IfOk, IfSome, OnOk, Some};
+ghost use Rattle.std.specs.Prelude.{◌≡◌, ◌↔◌, ℕ, ◌<◌, ◌++◌, List, IsTrue, length, map, take, vec_len, slice_get, IfOk, IfSome, OnOk, Some};
 ghost use Rattle.lf_check.specs.Rows.{ArePlaces, AreSets, IsSetAt, StandsAt, edges_of, ways_of};
 ghost use Rattle.lf_certificate.specs.Places.{Place};
 ghost use Rattle.lf_tree.specs.Rows.{Seen, rows_of, seen};
 
 use crate::places::Places;
+use lf_cone::MOST_EDGES;
 use lf_faults::{Fault, FaultSet};
 use lf_tree::{Node, Row, Tree, rows};
 use std::alloc::{AllocError, Global};
@@ -38,7 +39,8 @@ fn sets_of(
     Ok(sets)
 }
 
-/// The set of the first node that has none so far: that of its branch with the edge that leads to it.
+/// The set of the first node that has none so far: that of its branch with the edge that leads to it. None where the branch
+/// can't be right.
 fn next_set(tree: &Tree, rows: &[Row<'_>], sets: &[Option<FaultSet>]) -> Option<FaultSet>
     requires rows { map seen rows.now ≡ rows_of tree.now }
     requires more { length sets.now < length rows.now }
@@ -50,12 +52,23 @@ fn next_set(tree: &Tree, rows: &[Row<'_>], sets: &[Option<FaultSet>]) -> Option<
         return Some(FaultSet::empty());
     };
     let set = sets[above]?;
-    let edge = edge_at(rows[above].node, rows[at].kid)?;
+    let branch = rows[above].node;
+    if is_crowded(branch) {
+        return None;
+    }
+    let edge = edge_at(branch, rows[at].kid)?;
     set.insert(edge)
 }
 
+/// Whether a node has more edges than any branch that is right.
+fn is_crowded(node: &Node) -> bool
+    ensures { IsTrue result ↔ (3840 < length (edges_of node.now)) }
+{
+    MOST_EDGES < edges(node).len()
+}
+
 /// The place in the list of the branch whose kid the node at a place is. None at the root.
-fn above(tree: &Tree, rows: &[Row<'_>], at: usize) -> Option<usize>
+pub(crate) fn above(tree: &Tree, rows: &[Row<'_>], at: usize) -> Option<usize>
     requires rows { map seen rows.now ≡ rows_of tree.now }
     requires at { at < length rows.now }
     ensures parent { (r : Seen) → slice_get (rows_of tree.now) at ≡ Some r → result ≡ r.parent }
@@ -72,7 +85,7 @@ fn edge_at(node: &Node, kid: usize) -> Option<Fault>
 }
 
 /// The edges before a place.
-fn edges_before(node: &Node, kid: usize) -> &[Fault]
+pub(crate) fn edges_before(node: &Node, kid: usize) -> &[Fault]
     ensures { result.now ≡ take kid (edges_of node.now) }
 {
     let edges = edges(node);

@@ -1,17 +1,18 @@
 //! The nodes of a part of a tree, judged one after another.
 
-ghost use Rattle.std.specs.Prelude.{◌≡◌, ℕ, ◌+◌, ◌<◌, ◌≤◌, List, length, slice_get, vec_len, IfOk, MatchOption, Some};
+ghost use Rattle.std.specs.Prelude.{◌≡◌, ℕ, ◌+◌, ◌<◌, ◌≤◌, List, length, slice_get, vec_len, IfOk, OnOk, MatchOption, Some};
 ghost use Rattle.lf_certificate.specs.Places.{Place};
 ghost use Rattle.lf_check.specs.Nodes.{IsFaultAt};
-ghost use Rattle.lf_check.specs.Rows.{ArePlaces, IsFound, StandsAt};
+ghost use Rattle.lf_check.specs.Rows.{ArePlaces, IsExcluded, IsFound, StandsAt};
 ghost use Rattle.lf_check.specs.Walks.{Lowers};
 ghost use Rattle.lf_sim.specs.Settings.{world_of};
 
+use crate::excluded::Excluded;
 use crate::found::Found;
-use crate::listing::put_excluded;
 use crate::node::node_fault;
 use crate::places::Places;
-use crate::walk::{Judged, lowered, run_of};
+use crate::site::{Judged, Site};
+use crate::walk::{lowered, run_of};
 use lf_certificate::Reason;
 use lf_faults::{Fault, FaultSet};
 use lf_sim::{Machine, Run};
@@ -36,8 +37,10 @@ pub(crate) fn lower(first: Option<FaultSet>, other: Option<FaultSet>) -> Option<
 struct Memory<M: Machine> {
     /// The run of the set that was run last, whose memory the next run takes.
     spent: Option<Run<M>>,
+    /// Memory for required edges.
     required: Vec<Fault>,
-    excluded: Vec<Fault>,
+    /// What is excluded at the node that was judged last.
+    excluded: Excluded,
 }
 
 /// What is found in the nodes of one part, which starts at a place of the list.
@@ -55,7 +58,7 @@ pub(crate) fn found_from<M: Machine>(
     let mut memory = Memory {
         spent: None,
         required: Vec::new(alloc),
-        excluded: Vec::new(alloc),
+        excluded: Excluded::new(alloc),
     };
     let to = end_of(places.rows.len(), from);
     found_within(alloc, judged, places, from, to, &mut memory)
@@ -73,6 +76,7 @@ fn found_within<M: Machine>(
     requires places { ArePlaces places.now }
     requires order { from ≤ to }
     requires within { to ≤ vec_len places.now.rows }
+    requires excluded { IsExcluded places.now.tree.now memory.old.excluded }
     ensures { IfOk result (IsFound (world_of judged.now.setting.now) judged.now.setting.now.spec judged.now.formula.now
         judged.now.last places.now.tree.now places.now.sets.items from to) }
 {
@@ -110,8 +114,10 @@ fn found_at<M: Machine>(
 ) -> Result<Found, AllocError>
     requires places { ArePlaces places.now }
     requires at { at < vec_len places.now.rows }
-    ensures { IfOk result (IsFound (world_of judged.now.setting.now) judged.now.setting.now.spec judged.now.formula.now
+    requires excluded { IsExcluded places.now.tree.now memory.old.excluded }
+    ensures found { IfOk result (IsFound (world_of judged.now.setting.now) judged.now.setting.now.spec judged.now.formula.now
         judged.now.last places.now.tree.now places.now.sets.items at (at + 1)) }
+    ensures excluded { OnOk result (IsExcluded places.now.tree.now memory.new.excluded) }
 {
     let Some(set) = places.sets[at] else {
         return Ok(Found::Passes { first: None });
@@ -139,23 +145,20 @@ fn fault_at<M: Machine>(
     requires places { ArePlaces places.now }
     requires at { at < vec_len places.now.rows }
     requires set { slice_get places.now.sets.items at ≡ Some (Some set.now) }
-    ensures { IfOk result (λ found. (way : List ℕ) (p : Place) → StandsAt places.now.tree.now at way p →
+    requires excluded { IsExcluded places.now.tree.now memory.old.excluded }
+    ensures fault { IfOk result (λ found. (way : List ℕ) (p : Place) → StandsAt places.now.tree.now at way p →
         IsFaultAt (world_of judged.now.setting.now) judged.now.setting.now.spec judged.now.formula.now judged.now.last
         (length way) p found) }
+    ensures excluded { OnOk result (IsExcluded places.now.tree.now memory.new.excluded) }
 {
-    memory.excluded.clear();
-    put_excluded(places, at, &mut memory.excluded)?;
+    memory.excluded.go_to(places, at)?;
     let run = run_of(alloc, judged.setting, set, memory.spent.take())?;
-    let found = node_fault(
-        judged.setting,
-        judged.formula,
-        &run,
-        judged.last,
-        set.len() as u32,
-        places.rows[at].node,
-        memory.excluded.as_slice(),
-        &mut memory.required,
-    );
+    let site = Site {
+        run: &run,
+        depth: set.len() as u32,
+        excluded: memory.excluded.faults(),
+    };
+    let found = node_fault(judged, places.rows[at].node, &site, &mut memory.required);
     memory.spent = Some(run);
     found
 }

@@ -9,7 +9,7 @@ pub(crate) struct Places<'a> {
     pub(crate) tree: &'a Tree,
     /// The root first, and then each kid in order, with all that is beneath it.
     pub(crate) rows: Vec<Row<'a>>,
-    /// The set of each node. None where no edge leads to the node, or one before it can't be added to its branch's set:
-    /// then something is wrong with a branch before it.
+    /// The set of each node. None where no edge leads to the node, or something is plainly wrong with a branch above it: an edge
+    /// that can't be added to its set, or more edges than there are faults.
     pub(crate) sets: Vec<Option<FaultSet>>,
 }

@@ -9,21 +9,12 @@ ghost use Rattle.lf_faults.specs.declared.fault.Parts.{Parts};
 ghost use Rattle.lf_sim.specs.Settings.{IsRun, set_of, world_of};
 
 use crate::node::node_fault;
+use crate::site::{Judged, Site};
 use lf_certificate::Reason;
 use lf_faults::{Fault, FaultSet, with};
-use lf_outcome::Formula;
 use lf_sim::{Machine, Run, Setting, run, run_reusing};
 use lf_tree::Node;
 use std::alloc::{AllocError, Global};
-
-/// What a tree is judged for.
-#[derive(Drop)]
-pub(crate) struct Judged<'a, M: Machine> {
-    pub(crate) setting: &'a Setting<M>,
-    pub(crate) formula: &'a Formula<M::Fact>,
-    /// How many branches stand above the last sets.
-    pub(crate) last: u32,
-}
 
 /// Where a walk stands, and the memory that it uses again.
 #[derive(Drop)]
@@ -178,16 +169,12 @@ fn fault_of<M: Machine>(
     ensures stand { stand_of walk.new ≡ stand_of walk.old }
 {
     let run = run_of(alloc, judged.setting, set, walk.spent.take())?;
-    let fault = node_fault(
-        judged.setting,
-        judged.formula,
-        &run,
-        judged.last,
+    let site = Site {
+        run: &run,
         depth,
-        node,
-        walk.excluded.as_slice(),
-        &mut walk.required,
-    );
+        excluded: walk.excluded.as_slice(),
+    };
+    let fault = node_fault(judged, node, &site, &mut walk.required);
     walk.spent = Some(run);
     fault
 }

@@ -12,6 +12,7 @@ loop-at-init g c =
       omega arith,
       c.requires.order,
       found-none (world_of s) s.spec j.formula.now j.last c.args.places.now.tree.now c.args.places.now.sets.items c.args.from,
+      c.requires.excluded,
     )
 
 pub returns-in-Fails : goal.returns-in-Fails
@@ -25,7 +26,10 @@ returns-in-Fails g c =
     let far : at + 1 ≤ c.args.to = omega (arith, near) in
     found-stop (world_of s) s.spec j.formula.now j.last places.tree.now places.sets.items c.args.from at (at + 1) low (omega arith) c.args.to
     c.in-Fails.at c.loop-at.first c.in-Fails.reason far c.loop-at.invariant.2
-    (subst (IsFound (world_of s) s.spec j.formula.now j.last places.tree.now places.sets.items at (at + 1)) c.in-Fails.is c.in_ok-at.ensures)
+    (subst (IsFound (world_of s) s.spec j.formula.now j.last places.tree.now places.sets.items at (at + 1)) c.in-Fails.is c.in_ok-at.ensures.found)
+
+pub found_at-requires-clause-excluded : goal.found_at-requires-clause-excluded
+found_at-requires-clause-excluded g c = c.loop-at.invariant.3
 
 pub loop-at-preserved : goal.loop-at-preserved
 loop-at-preserved g c =
@@ -39,8 +43,9 @@ loop-at-preserved g c =
       omega (arith, near),
       found-more (world_of s) s.spec j.formula.now j.last places.tree.now places.sets.items c.args.from at (at + 1) low (omega arith)
           c.loop-at.first c.in-Passes.other c.lower-first.result c.loop-at.invariant.2
-          (subst (IsFound (world_of s) s.spec j.formula.now j.last places.tree.now places.sets.items at (at + 1)) c.in-Passes.is c.in_ok-at.ensures)
+          (subst (IsFound (world_of s) s.spec j.formula.now j.last places.tree.now places.sets.items at (at + 1)) c.in-Passes.is c.in_ok-at.ensures.found)
           c.lower-first.ensures,
+      c.in_ok-at.ensures.excluded,
     )
 
 pub returns : goal.returns

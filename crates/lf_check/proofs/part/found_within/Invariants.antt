@@ -1,7 +1,7 @@
 use Rattle.std.proofs.Common.{◌≤◌}
 use Rattle.lf_sim.specs.Settings.{world_of}
 use Rattle.lf_check.specs.declared.found.Found.TheVariants as found
-use Rattle.lf_check.specs.Rows.{IsFound}
+use Rattle.lf_check.specs.Rows.{IsExcluded, IsFound}
 use Rattle.lf_check.proofs.part.found_within.Given as goal
 
 -- what is found in the nodes so far
@@ -10,3 +10,4 @@ invariant-loop-at g l =
     (l.from ≤ l.at) × (l.at ≤ l.to)
     × IsFound (world_of l.judged.setting.now) l.judged.setting.now.spec l.judged.formula.now l.judged.last l.places.tree.now
     l.places.sets.items l.from l.at (found.Passes l.first)
+    × IsExcluded l.places.tree.now l.memory.excluded
