@@ -37,7 +37,7 @@ claimed_by old mid path ticket task took =
 -- by what was found of it too
 pub claimed_for : (old mid : State) (job : Job) (finding : Finding) → IsOfJob job finding
     → TakesSet job.path.items job.ticket (task_of_job job) old mid
-    → Claims finding.path.items finding.ticket (task_of_finding finding) mid.marks
+    → Claims finding.job.path.items finding.job.ticket (task_of_finding finding) mid.marks
 claimed_for old mid job finding of took =
     rw (of.path, of.ticket, of.set, of.excluded) (claimed_by old mid job.path.items job.ticket (task_of_job job) took)
 

@@ -58,7 +58,7 @@ still-busy old new t is h same =
 pub filed-counted-book : (old new : Book) (finding : Finding) (n : ℕ) → ∥ IsClosedFor (scenario_of old) (state_of old) ∥₁ → IsFiled finding old new
     → IsAnsweredCount old n → IsAnsweredCount new (n + 1)
 filed-counted-book old new finding n closed e c = ∥∥₁_elim closed ∥∥₁_prop (λ k.
-    filed-counted (state_of old).level (state_of old).marks (state_of new).marks finding.path.items finding.ticket (mark_for finding.answer)
+    filed-counted (state_of old).level (state_of old).marks (state_of new).marks finding.job.path.items finding.job.ticket (mark_for finding.answer)
     k.shape (answer_is finding.answer) e.marks n c)
 
 -- what a result says of its cases

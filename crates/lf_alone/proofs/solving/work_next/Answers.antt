@@ -17,9 +17,9 @@ unreachable-requires-in_default-filed c =
     let finding = c.in_ok-finding.finding in
     let of = c.in_ok-finding.ensures in
     let mid = c.take.new.self in
-    let same : scenario_of mid ≡ arc_value finding.scenario = c.in_ok-taken.ensures.scenario ∙ sym took.0 ∙ sym of.scenario in
-    not_refused mid finding.ticket (arc_value finding.scenario) finding.path.items (task_of_finding finding) c.in_default-filed.field-0.0
-    (claimed_for (state_of c.args.book.now) (state_of mid) job finding of took.1) (same_as (scenario_of mid) (arc_value finding.scenario) same)
+    let same : scenario_of mid ≡ arc_value finding.job.scenario = c.in_ok-taken.ensures.scenario ∙ sym took.0 ∙ sym of.scenario in
+    not_refused mid finding.job.ticket (arc_value finding.job.scenario) finding.job.path.items (task_of_finding finding) c.in_default-filed.field-0.0
+    (claimed_for (state_of c.args.book.now) (state_of mid) job finding of took.1) (same_as (scenario_of mid) (arc_value finding.job.scenario) same)
     c.in_default-filed.ensures.refused
 
 pub returns-clause-underway : goal.returns-clause-underway
