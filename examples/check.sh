@@ -16,6 +16,9 @@ top=$(dirname -- "$here")
 program="$top/crates/leastfault_cli/out/leastfault_cli"
 passed=0
 failed=0
+status=0
+out=''
+err=''
 
 # ---- running and comparing ----
 
@@ -193,6 +196,12 @@ test_tree() {
     expect 3 '' 'read*' 'leastfault search nowhere.toml --tree kept.json'
     holds kept.json 'as it was' 'a scenario that is not there'
 
+    # Some 600,000 sets: the text of their tree is longer than a certificate may be.
+    put long.toml "$(printf '%s\n' 'nodes = 2' 'horizon = 21' 'last_omission = 20' 'crashes = 0' 'budget = 5' 'max_sets = 1000000' \
+        'protocol = "redundant"' 'tries = 48' 'outcome = "delivered"')"
+    expect 2 'refused tree 1' '?*' 'leastfault search long.toml --workers 4 --tree kept.json'
+    holds kept.json 'as it was' 'a certificate that is too long'
+
     # A certificate that can't be written has no reply.
     expect 3 '' 'write*' 'leastfault search examples/one_try.toml --tree nowhere/tree.json'
     expect 3 '' 'write*' 'leastfault search examples/one_try.toml --tree examples'
@@ -228,12 +237,12 @@ test_run() {
     expect 2 'refused 6 budget' '?*' "leastfault run examples/out_of_range.toml nonsense"
 }
 
-# wrong FAULT OLD NEW: writes claimed_away.json with one piece changed, and has it judged.
+# wrong STATUS REPLY OLD NEW: claimed_away.json with one piece changed is judged so.
 wrong() {
     local text=''
     slurp text "$room/work/examples/claimed_away.json"
-    put wrong.json "${text/"$2"/"$3"}"
-    expect "$([ "${1#no}" = "$1" ] && echo 2 || echo 1)" "$1" '*' 'leastfault check examples/claimed_away.toml wrong.json'
+    put wrong.json "${text/"$3"/"$4"}"
+    expect "$1" "$2" '*' 'leastfault check examples/claimed_away.toml wrong.json'
 }
 
 # nested N: a tree of N branches, one in the other.
@@ -247,16 +256,16 @@ test_check() {
     expect 0 yes '' 'leastfault check examples/claimed_away.toml examples/claimed_away.json'
     expect 0 yes '' 'leastfault check examples/claimed_away.toml - --quiet <examples/claimed_away.json'
     expect 0 yes '' 'leastfault check - examples/claimed_away.json <examples/claimed_away.toml'
-    wrong 'no 2 0.1' '{"misses":true}' '{"misses":false}'
-    wrong 'no 3 0.0' '{"misses":false}' '{"misses":true}'
-    wrong 'no 4 1' '"kids":[{"misses":false}],"reach":[5,5,6]' '"kids":[{"misses":false}],"reach":[5,5,7]'
-    wrong 'no 8 2' '"edges":[],"kids":[]' '"edges":[],"kids":[{"misses":false}]'
-    wrong 'no 10 -' '"answer":["omit 0>1 @1"' '"answer":["omit 0>2 @1"'
-    wrong 'refused tree 2' '}}' '}'
-    wrong 'refused tree 3' ',' ', '
-    wrong 'refused tree 3' '"format":1' '"format":2'
-    wrong 'refused tree 4' '"reach":[5' '"reach":[49'
-    wrong 'refused tree 4' 'omit 0>1 @1' 'omit 0>8 @1'
+    wrong 1 'no 2 0.1' '{"misses":true}' '{"misses":false}'
+    wrong 1 'no 3 0.0' '{"misses":false}' '{"misses":true}'
+    wrong 1 'no 4 1' '"kids":[{"misses":false}],"reach":[5,5,6]' '"kids":[{"misses":false}],"reach":[5,5,7]'
+    wrong 1 'no 8 2' '"edges":[],"kids":[]' '"edges":[],"kids":[{"misses":false}]'
+    wrong 1 'no 10 -' '"answer":["omit 0>1 @1"' '"answer":["omit 0>2 @1"'
+    wrong 2 'refused tree 2' '}}' '}'
+    wrong 2 'refused tree 3' ',' ', '
+    wrong 2 'refused tree 3' '"format":1' '"format":2'
+    wrong 2 'refused tree 4' '"reach":[5' '"reach":[49'
+    wrong 2 'refused tree 4' 'omit 0>1 @1' 'omit 0>8 @1'
     put nested.json "$(nested 7)"
     expect 2 'refused tree 5' '?*' 'leastfault check examples/claimed_away.toml nested.json'
     expect 2 'refused tree 1' '?*' 'head -c 16777217 /dev/zero | leastfault check examples/claimed_away.toml -'
@@ -425,7 +434,7 @@ case $* in
     exit 2
     ;;
 esac
-echo "$program: its commands, the examples, and what the pages show"
+echo 'The built program: its commands and options, the examples, and what the pages show'
 if [ ! -f "$program" ]; then
     echo 'FAILED: the program is not there; rt ci builds it'
     echo '0 passed, 1 failed'
