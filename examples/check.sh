@@ -407,12 +407,15 @@ test_pages() {
     # The guide's script for continuous integration.
     put promises.sh "$script"
     run 'mkdir promises; cp examples/relayed.toml examples/three_tries.toml promises'
-    run "{ echo max_sets = 5; cat examples/three_tries.toml; } >promises/full.toml"
-    expect 0 $'kept    promises/full.toml: none 6\nkept    promises/relayed.toml: none 3\nkept    promises/three_tries.toml: none 6' \
-        '*' 'sh promises.sh'
+    run '{ echo max_sets = 5; cat examples/three_tries.toml; } >promises/full.toml'
+    expect 0 'kept    promises/full.toml: none 6
+kept    promises/relayed.toml: none 3
+kept    promises/three_tries.toml: none 6' '*' 'sh promises.sh'
     run 'rm promises/*; cp examples/one_try.toml examples/out_of_range.toml examples/relayed.toml promises'
-    expect 1 $'broken  promises/one_try.toml: least 1\nomit 0>1 @1\nunknown promises/out_of_range.toml: refused 6 budget\nkept    promises/relayed.toml: none 3' \
-        '*' 'sh promises.sh'
+    expect 1 'broken  promises/one_try.toml: least 1
+omit 0>1 @1
+unknown promises/out_of_range.toml: refused 6 budget
+kept    promises/relayed.toml: none 3' '*' 'sh promises.sh'
 }
 
 # ---- all of it ----
