@@ -202,7 +202,9 @@ test_tree() {
     expect 2 'refused tree 1' '?*' 'leastfault search long.toml --workers 4 --tree kept.json'
     holds kept.json 'as it was' 'a certificate that is too long'
 
-    # A certificate that can't be written has no reply.
+    # The certificate is written before the reply, and without it there is no reply.
+    expect 3 '' 'write*' 'leastfault search examples/claimed_away.toml --tree before.json >/dev/full'
+    holds before.json "$certificate" 'a reply that could not be written'
     expect 3 '' 'write*' 'leastfault search examples/one_try.toml --tree nowhere/tree.json'
     expect 3 '' 'write*' 'leastfault search examples/one_try.toml --tree examples'
     expect 3 '' 'write*' 'leastfault search examples/one_try.toml --tree /dev/full'
@@ -368,7 +370,7 @@ test_shown() {
 # test_page PAGE: runs each line `$ ..` of a block, and compares the lines behind it. A TOML block that has nodes is a whole scenario, and
 # is searched. The last TOML block is left in `scenario`, and the last block of shell in `script`.
 test_page() {
-    local page=$1 line block='' command='' text=''
+    local page=$1 line block='' command='' text='' before=$((passed + failed))
     scenario='' script=''
     while IFS= read -r line; do
         case $block,$line in
@@ -393,6 +395,7 @@ test_page() {
         *) text+=$line$'\n' ;;
         esac
     done <"$top/$page"
+    [ $((passed + failed)) -gt "$before" ] || count "$page" '    it shows no command'
 }
 
 test_pages() {
