@@ -1,111 +1,467 @@
 #!/usr/bin/env bash
-# Runs the built program on each example beside this script, and compares the report and the status with the example's
-# first comment; then runs the commands that the READMEs and the guide show, and compares what they print. What goes to
-# standard error counts as printed too.
-# Wants the Rattle kit; the first time it proves the program, which takes some twenty minutes.
+# Tests the built program: every command and option, the examples beside this script, and the commands that the pages show.
+#
+#     check.sh [--built]
+#
+# With --built the program is the one that `rt ci` leaves in crates/leastfault_cli/out/. Without it, `rt run` proves and builds
+# the program first, which takes the Rattle kit and some twenty minutes. The tests themselves need bash and coreutils alone.
+#
+# A test runs one command and compares the status, standard output to the last byte, and standard error. What standard error says
+# in words may change, so most tests ask only whether it says anything. Prints each test that fails, with the lines that differ,
+# and last `N passed, M failed`. The status is 1 if a test fails.
 set -euo pipefail
-here=$(cd "$(dirname "$0")" && pwd)
-top=$(dirname "$here")
+export LC_ALL=C
+here=$(CDPATH='' cd -- "$(dirname -- "${BASH_SOURCE[0]}")" && pwd)
+top=$(dirname -- "$here")
 program="$top/crates/leastfault_cli/out/leastfault_cli"
-wrong=0
+passed=0
+failed=0
+status=0
+out=''
+err=''
 
-# The commands run in a folder of their own, in which they may write.
-room=$(mktemp -d)
-trap 'rm -rf "$room"' EXIT
-ln -s "$here" "$room/examples"
+# ---- running and comparing ----
 
-# Proves and builds the program, and shows what was said where that fails.
-build() {
-    local said status=0
-    said=$(cd "$top/crates/leastfault_cli" && rt run -- search "$here/relayed.toml" 2>&1) || status=$?
-    if [ "$status" -gt 1 ] || [ ! -x "$program" ]; then
-        printf '%s\n' "$said"
-        echo "the program was not built (status $status)"
-        exit 1
+# slurp NAME FILE: reads a file into a variable, to the last byte.
+slurp() { IFS= read -r -d '' "$1" <"$2" || true; }
+
+# run COMMAND: runs it in the folder `work`, with nothing on standard input. Leaves `status`, `out` and `err`.
+run() {
+    status=0
+    (cd "$room/work" && exec timeout 60 bash -c "$1") >"$room/out" 2>"$room/err" </dev/null || status=$?
+    slurp out "$room/out"
+    slurp err "$room/err"
+}
+
+# differ WHAT WANTED FOUND: prints the lines in which two texts differ, and nothing if they are the same.
+differ() {
+    local -a wanted=() found=()
+    local i lines=''
+    [ "$2" != "$3" ] || return 0
+    mapfile -t wanted < <(printf '%s' "$2")
+    mapfile -t found < <(printf '%s' "$3")
+    for ((i = 0; i < ${#wanted[@]} || i < ${#found[@]}; i++)); do
+        [ "${wanted[i]-}" != "${found[i]-}" ] || continue
+        [ "$i" -ge "${#wanted[@]}" ] || lines+="        $((i + 1)) wanted: ${wanted[i]}"$'\n'
+        [ "$i" -ge "${#found[@]}" ] || lines+="        $((i + 1)) found:  ${found[i]}"$'\n'
+    done
+    printf '    %s:\n%s' "$1" "${lines:-        the last line feed alone$'\n'}"
+}
+
+# count NAME DIFFERENCES: counts a test, which passes if there are none.
+count() {
+    if [ -z "$2" ]; then
+        passed=$((passed + 1))
+    else
+        failed=$((failed + 1))
+        printf 'FAILED: %s\n%s\n' "$1" "$2"
     fi
 }
 
-# The program, as it is called once it is installed.
-leastfault() { "$program" "$@"; }
+# expect STATUS OUT ERR COMMAND: OUT is standard output without its last line feed, ERR a pattern for standard error.
+expect() {
+    run "$4"
+    count "$4" "$(
+        differ status "$1" "$status"
+        differ 'standard output' "${2:+$2$'\n'}" "$out"
+        # shellcheck disable=SC2053
+        [[ $err == $3 ]] || differ 'standard error' "${3:-(nothing)}" "$err"
+    )"
+}
 
-# The status that a reply ends with, by its first and its last line. A command that isn't the program's prints nothing.
-status_of() {
-    case "$1" in
-    least* | all*) echo 1 ;;
-    none* | yes) echo 0 ;;
-    "no "*) echo 1 ;;
-    refused* | full*) echo 2 ;;
-    read* | write* | memory*) echo 3 ;;
-    *reaches) echo 0 ;;
-    *misses) echo 1 ;;
-    "") echo 0 ;;
-    *) echo "no known reply" ;;
+# ends STATUS LINE COMMAND: LINE is the last line of standard output, and standard error is empty.
+ends() {
+    local last
+    run "$3"
+    last=${out%$'\n'}
+    count "$3" "$(
+        differ status "$1" "$status"
+        differ 'the last line' "$2" "${last##*$'\n'}"
+        differ 'standard error' '' "$err"
+    )"
+}
+
+# helps COMMAND: tells how to use the program, on standard output.
+helps() {
+    run "$1"
+    count "$1" "$(
+        differ status 0 "$status"
+        [[ $out == *'Usage: leastfault'* ]] || differ 'standard output' 'Usage: leastfault ..' "$out"
+        differ 'standard error' '' "$err"
+    )"
+}
+
+# holds FILE TEXT AFTER: the file has these bytes after that command.
+holds() {
+    local text='(no file)'
+    [ ! -e "$room/work/$1" ] || slurp text "$room/work/$1"
+    count "$1 after $3" "$(differ "$1" "$2" "$text")"
+}
+
+# put FILE TEXT: makes a file.
+put() { printf '%s' "$2" >"$room/work/$1"; }
+
+# ---- the examples ----
+
+# report_of FILE: the lines of its first comment that are set in by three blanks.
+report_of() {
+    local line report=''
+    while IFS= read -r line; do
+        case $line in
+        '#   '*) report+="${line#'#   '}"$'\n' ;;
+        *) [ -z "$report" ] || break ;;
+        esac
+    done <"$1"
+    printf '%s' "${report%$'\n'}"
+}
+
+# test_example FILE: searches, answers, runs and certifies an example, and compares the report with its first comment.
+test_example() {
+    local file=$1 report code=1 faults certificate='' workers
+    report=$(report_of "$room/work/$file")
+    case $report in
+    refused*)
+        expect 2 "${report%%$'\n'*}" "${report#*$'\n'}"$'\n' "leastfault search $file"
+        return
+        ;;
+    none*) code=0 ;;
+    esac
+    expect "$code" "$report" '' "leastfault search $file"
+    expect "$code" "$report" '' "leastfault answer $file"
+    expect "$code" "$report" '' "leastfault search $file --tree tree.json"
+    slurp certificate "$room/work/tree.json"
+    expect 0 yes '' "leastfault check $file tree.json"
+    for workers in 1 3 32; do
+        expect "$code" "$report" '' "leastfault search $file --workers $workers --tree workers.json"
+        holds workers.json "$certificate" "$workers workers, $file"
+    done
+    case $report in
+    least*)
+        faults=${report#*$'\n'}
+        [ "$report" != 'least 0' ] || faults=''
+        ends 1 misses "leastfault run $file '${faults//$'\n'/,}'"
+        ;;
+    *) ends 0 reaches "leastfault run $file ''" ;;
     esac
 }
 
-# compare NAME EXPECTED PRINTED STATUS
-compare() {
-    if [ "$3" != "$2" ]; then
-        printf "%s: should print '%s', and prints '%s'\n" "$1" "$2" "$3"
-        wrong=1
-    elif [ "$4" != "$(status_of "$2")" ]; then
-        echo "$1: should end with status $(status_of "$2"), and ends with $4"
-        wrong=1
-    else
-        echo "$1: as it says"
-    fi
-}
-
-# Each example's report is the first run of lines that are set in by three blanks.
-check_examples() {
-    local example report printed status
-    for example in "$here"/*.toml; do
-        report=$(awk '/^#   / { sub(/^#   /, ""); print; seen = 1; next } seen { exit }' "$example")
-        status=0
-        printed=$(leastfault search "$example" 2>&1) || status=$?
-        compare "$(basename "$example")" "$report" "$printed" "$status"
+test_examples() {
+    local example
+    for example in "$room"/work/examples/*.toml; do
+        test_example "examples/${example##*/}"
     done
 }
 
-# check_command FILE COMMAND EXPECTED
-check_command() {
-    local printed status=0
+# ---- commands and options ----
+
+test_search() {
+    expect 1 $'least 1\nomit 0>1 @1' '' 'leastfault <examples/one_try.toml'
+    expect 1 $'least 1\nomit 0>1 @1' '' 'leastfault search - <examples/one_try.toml'
+    expect 1 $'least 1\nomit 0>1 @1' '' 'cat examples/one_try.toml | leastfault'
+    expect 1 $'least 1\nomit 0>1 @1' '' 'leastfault search --quiet examples/one_try.toml'
+    expect 1 $'least 1\nomit 0>1 @1' '' 'cp examples/one_try.toml -- -dash.toml; leastfault search -- -dash.toml'
+    expect 1 $'all 1 2\nomit 0>1 @1\nomit 0>2 @1' '' 'leastfault search examples/one_try.toml --all'
+    expect 1 $'all 1 2\nomit 0>1 @1\nomit 0>2 @1' '' 'leastfault search --all --workers=3 --quiet examples/one_try.toml'
+    expect 1 $'all 2 2\nomit 0>1 @1,pause 0 @2\npause 0 @1,omit 0>1 @3' '' 'leastfault search examples/guided.toml --all'
+    expect 1 $'all 0 1\n-' '' 'leastfault search examples/slow_link.toml --all'
+    expect 0 'none 6' '' 'leastfault search examples/three_tries.toml --all'
+    expect 1 $'least 1\nomit 0>1 @1' '' 'leastfault answer - --quiet <examples/one_try.toml'
+}
+
+# The words of a search with a level that is too full.
+full='{ echo max_sets = 5; cat examples/three_tries.toml; } | leastfault'
+
+test_tree() {
+    local certificate=''
+    slurp certificate "$room/work/examples/claimed_away.json"
+    expect 1 $'least 2\nomit 0>1 @1\nomit 0>1 @2' '' 'leastfault search examples/claimed_away.toml --tree made.json'
+    holds made.json "$certificate" 'search --tree'
+    expect 1 $'all 2 1\nomit 0>1 @1,omit 0>1 @2' '' 'leastfault search examples/claimed_away.toml --all --tree=all.json'
+    holds all.json "$certificate" 'search --all --tree'
+    expect 1 $'least 2\nomit 0>1 @1\nomit 0>1 @2' '' 'leastfault search - --tree - <examples/claimed_away.toml'
+    holds - "$certificate" 'search - --tree -, a file of that name'
+    expect 1 $'least 2\nomit 0>1 @1\nomit 0>1 @2' '' 'printf %70000s x >long; leastfault search examples/claimed_away.toml --tree long'
+    holds long "$certificate" 'a longer file was written anew'
+
+    # Without an answer the file stays as it was, and none is made.
+    put kept.json 'as it was'
+    expect 2 'refused 6 budget' '?*' 'leastfault search examples/out_of_range.toml --tree kept.json'
+    holds kept.json 'as it was' 'a refused scenario'
+    expect 2 'full 2 6' '?*' "$full search - --tree kept.json"
+    holds kept.json 'as it was' 'a full level'
+    expect 2 'full 2 6' '?*' "$full search - --all --workers 3 --tree kept.json"
+    holds kept.json 'as it was' 'a full level, by three workers'
+    expect 2 'refused 6 budget' '?*' 'leastfault search examples/out_of_range.toml --tree none.json'
+    holds none.json '(no file)' 'a refused scenario'
+    expect 3 '' 'read*' 'leastfault search nowhere.toml --tree kept.json'
+    holds kept.json 'as it was' 'a scenario that is not there'
+
+    # Some 600,000 sets: the text of their tree is longer than a certificate may be.
+    put long.toml "$(printf '%s\n' 'nodes = 2' 'horizon = 21' 'last_omission = 20' 'crashes = 0' 'budget = 5' 'max_sets = 1000000' \
+        'protocol = "redundant"' 'tries = 48' 'outcome = "delivered"')"
+    expect 2 'refused tree 1' '?*' 'leastfault search long.toml --workers 4 --tree kept.json'
+    holds kept.json 'as it was' 'a certificate that is too long'
+
+    # The certificate is written before the reply, and without it there is no reply.
+    expect 3 '' 'write*' 'leastfault search examples/claimed_away.toml --tree before.json >/dev/full'
+    holds before.json "$certificate" 'a reply that could not be written'
+    expect 3 '' 'write*' 'leastfault search examples/one_try.toml --tree nowhere/tree.json'
+    expect 3 '' 'write*' 'leastfault search examples/one_try.toml --tree examples'
+    expect 3 '' 'write*' 'leastfault search examples/one_try.toml --tree /dev/full'
+}
+
+test_own_file() {
+    local scenario=''
+    slurp scenario "$room/work/examples/one_try.toml"
+    put own.toml "$scenario"
+    expect 2 '' '?*' 'leastfault search own.toml --tree own.toml'
+    holds own.toml "$scenario" 'a search whose certificate would replace its scenario'
+}
+
+test_full() {
+    expect 2 'full 2 6' '?*' "$full search -"
+    expect 2 'full 2 6' '?*' "$full search - --all"
+    expect 2 'full 2 6' '?*' "$full search - --workers 3"
+    expect 0 'none 6' '' "$full answer -"
+}
+
+test_run() {
+    local tail=$'step 2\n0 has\n1 has\n2 has\nstep 3\n0 has\n1 has\n2 has\nstep 4\n0 has\n1 has\n2 has\nreaches'
+    expect 0 $'step 1\n0 has\n1 lacks\n2 lacks\n0>1 data 2\n0>2 data 2\n'"$tail" '' "leastfault run examples/one_try.toml ''"
+    expect 0 $'step 1\n0 has\n1 lacks\n2 lacks\n0>1 data 2\n0>2 data 2\n'"$tail" '' "leastfault run - '' <examples/one_try.toml"
+    ends 1 misses "leastfault run examples/crash_between_tries.toml 'omit 0>1 @1,crash 0 @2'"
+    ends 1 misses "leastfault run examples/crash_between_tries.toml 'crash 0 @2,omit 0>1 @1'"
+    ends 0 reaches "leastfault run examples/crash_between_tries.toml 'crash 0 @2'"
+    expect 2 'refused faults' '?*' "leastfault run examples/one_try.toml 'omit 0>1 @1,omit 0>1 @1'"
+    expect 2 'refused faults' '?*' "leastfault run examples/one_try.toml 'crash 0 @1'"
+    expect 2 'refused faults' '?*' "leastfault run examples/one_try.toml 'omit 0>1 @1, omit 0>2 @1'"
+    expect 2 'refused faults' '?*' "leastfault run examples/one_try.toml ,"
+    expect 2 'refused 6 budget' '?*' "leastfault run examples/out_of_range.toml nonsense"
+}
+
+# wrong STATUS REPLY OLD NEW: claimed_away.json with one piece changed is judged so.
+wrong() {
+    local text=''
+    slurp text "$room/work/examples/claimed_away.json"
+    put wrong.json "${text/"$3"/"$4"}"
+    expect "$1" "$2" '*' 'leastfault check examples/claimed_away.toml wrong.json'
+}
+
+# nested N: a tree of N branches, one in the other.
+nested() {
+    local i tree='{"misses":false}'
+    for ((i = 0; i < $1; i++)); do tree='{"edges":[],"kids":['$tree'],"reach":[6,6,6]}'; done
+    printf '{"answer":null,"format":1,"root":%s}' "$tree"
+}
+
+test_check() {
+    expect 0 yes '' 'leastfault check examples/claimed_away.toml examples/claimed_away.json'
+    expect 0 yes '' 'leastfault check examples/claimed_away.toml - --quiet <examples/claimed_away.json'
+    expect 0 yes '' 'leastfault check - examples/claimed_away.json <examples/claimed_away.toml'
+    wrong 1 'no 2 0.1' '{"misses":true}' '{"misses":false}'
+    wrong 1 'no 3 0.0' '{"misses":false}' '{"misses":true}'
+    wrong 1 'no 4 1' '"kids":[{"misses":false}],"reach":[5,5,6]' '"kids":[{"misses":false}],"reach":[5,5,7]'
+    wrong 1 'no 8 2' '"edges":[],"kids":[]' '"edges":[],"kids":[{"misses":false}]'
+    wrong 1 'no 10 -' '"answer":["omit 0>1 @1"' '"answer":["omit 0>2 @1"'
+    wrong 2 'refused tree 2' '}}' '}'
+    wrong 2 'refused tree 3' ',' ', '
+    wrong 2 'refused tree 3' '"format":1' '"format":2'
+    wrong 2 'refused tree 4' '"reach":[5' '"reach":[49'
+    wrong 2 'refused tree 4' 'omit 0>1 @1' 'omit 0>8 @1'
+    put nested.json "$(nested 7)"
+    expect 2 'refused tree 5' '?*' 'leastfault check examples/claimed_away.toml nested.json'
+    expect 2 'refused tree 1' '?*' 'head -c 16777217 /dev/zero | leastfault check examples/claimed_away.toml -'
+    expect 2 'refused 6 budget' '?*' 'leastfault check examples/out_of_range.toml examples/README.md'
+    expect 2 '' 'refused usage*' 'leastfault check - - <examples/claimed_away.toml'
+}
+
+test_words() {
+    local words
+    for words in --help -h 'search --help' 'answer --help' 'run --help' 'check --help'; do
+        helps "leastfault $words"
+    done
+    expect 0 'leastfault 0.1.0' '' 'leastfault --version'
+    expect 0 'leastfault 0.1.0' '' 'leastfault -V'
+    for words in serach 'serach examples/one_try.toml' search 'search examples/one_try.toml more' \
+        'search examples/one_try.toml --workers' 'search examples/one_try.toml --workers 0' \
+        'search examples/one_try.toml --workers 33' 'search examples/one_try.toml --workers=33' \
+        'search nowhere.toml --workers 33' 'search examples/one_try.toml --workers three' \
+        'search examples/one_try.toml --all --all' 'search examples/one_try.toml --tree' \
+        'answer examples/one_try.toml --all' "run examples/one_try.toml '' --quiet" 'run examples/one_try.toml' \
+        'check examples/claimed_away.toml' "search \$'\\xff'"; do
+        expect 2 '' '?*' "leastfault $words"
+    done
+}
+
+test_devices() {
+    expect 3 '' $'read\n*' 'leastfault search nowhere.toml'
+    expect 3 '' $'read\n*' 'leastfault answer nowhere.toml'
+    expect 3 '' $'read\n*' "leastfault run nowhere.toml ''"
+    expect 3 '' $'read\n*' 'leastfault check examples/claimed_away.toml nowhere.json'
+    expect 3 '' $'read\n*' 'leastfault search examples'
+    expect 3 '' $'write\n*' 'leastfault search examples/one_try.toml >/dev/full'
+    expect 3 '' $'write\n*' "leastfault run examples/one_try.toml '' >/dev/full"
+    expect 3 '' $'write\n*' 'leastfault check examples/claimed_away.toml examples/claimed_away.json >/dev/full'
+}
+
+# ---- refused scenarios ----
+
+# refused REPLY KEY VALUE: a scenario with that value in place of its own (`-`: without the key) has that reply.
+refused() {
+    local line scenario=''
+    for line in 'nodes = 3' 'horizon = 4' 'last_omission = 2' 'crashes = 0' 'budget = 1' 'protocol = "retry"' 'tries = 1' \
+        'outcome = "delivered"'; do
+        [ "${line%% *}" = "$2" ] || scenario+="$line"$'\n'
+    done
+    [ "$3" = - ] || scenario+="$2 = $3"$'\n'
+    put refused.toml "$scenario"
+    expect 2 "refused $1" '?*' 'leastfault search refused.toml'
+}
+
+test_refused() {
+    refused 2 nodes ''
+    refused '3 crashes' crashes -
+    refused '3 links' links '[{ from = 0 }]'
+    refused 4 speed 1
+    refused '4 patience' patience 3
+    refused '5 nodes' nodes '"3"'
+    refused '6 nodes' nodes 9
+    refused '7 seed' seed '"5eed"'
+    refused '8 links' links '[{ from = 0, to = 0 }]'
+    refused '9 protocol' protocol '"paxos"'
+    refused '10 outcome' outcome '"durable"'
+    refused '11 outcome' outcome '["shows", 0, 9, "has"]'
+    expect 1 $'least 1\nomit 0>1 @1' '' '{ cat examples/one_try.toml; yes "#"; } 2>/dev/null | head -c 65536 | leastfault'
+    expect 2 'refused 1' '?*' '{ cat examples/one_try.toml; yes "#"; } 2>/dev/null | head -c 65537 | leastfault'
+}
+
+# ---- the pages ----
+
+# status_of OUT ERR: the status that belongs to what a command prints; 0 for a silent command, which isn't the program's.
+status_of() {
+    case $1 in
+    none* | yes*) echo 0 ;;
+    least* | all* | 'no '*) echo 1 ;;
+    refused* | full*) echo 2 ;;
+    *$'\nreaches\n') echo 0 ;;
+    *$'\nmisses\n') echo 1 ;;
+    '') case $2 in
+        read* | write* | memory* | pool*) echo 3 ;;
+        '') echo 0 ;;
+        *) echo 2 ;;
+        esac ;;
+    *) echo 'no known reply' ;;
+    esac
+}
+
+# test_shown PAGE COMMAND TEXT: the page shows what goes to standard output, alone or with what goes to standard error behind it.
+test_shown() {
+    local shown
     [ -n "$2" ] || return 0
-    printed=$(cd "$room" && eval "$2" 2>&1) || status=$?
-    compare "$(basename "$1"), $2" "${3%$'\n'}" "$printed" "$status"
+    run "$2"
+    shown=$out
+    [ "$3" = "$out" ] || shown=$out$err
+    count "$1: $2" "$(
+        differ status "$(status_of "$out" "$err")" "$status"
+        differ 'what is shown' "$3" "$shown"
+    )"
 }
 
-# Of a page: each line '$ ..' of a block, with the lines that follow it in the block.
-check_page() {
-    local line command="" expected="" inside=0
+# test_page PAGE: runs each line `$ ..` of a block, and compares the lines behind it. A TOML block that has nodes is a whole scenario, and
+# is searched. The last TOML block is left in `scenario`, and the last block of shell in `script`.
+test_page() {
+    local page=$1 line block='' command='' text='' before=$((passed + failed))
+    scenario='' script=''
     while IFS= read -r line; do
-        case "$line" in
-        '```'*)
-            check_command "$1" "$command" "$expected"
-            command="" expected="" inside=$((1 - inside))
+        case $block,$line in
+        ,'```'*)
+            block=${line:3}
+            block=${block:-plain}
+            command='' text=''
             ;;
-        '$ '*)
-            check_command "$1" "$command" "$expected"
-            command=${line#'$ '} expected=""
+        *,'```')
+            test_shown "$page" "$command" "$text"
+            case $block,$text in
+            toml,*nodes*) scenario=$text ;;
+            sh,*) script=$text ;;
+            esac
+            block=''
             ;;
-        *) [ "$inside" = 0 ] || [ -z "$command" ] || expected+="$line"$'\n' ;;
+        ,*) ;;
+        plain,'$ '*)
+            test_shown "$page" "$command" "$text"
+            command=${line#'$ '} text=''
+            ;;
+        *) text+=$line$'\n' ;;
         esac
-    done <"$1"
+    done <"$top/$page"
+    [ $((passed + failed)) -gt "$before" ] || count "$page" '    it shows no command'
 }
 
-# The guide shows its first example whole.
-check_guide() {
-    if ! awk '/^```toml$/ { inside = 1; next } /^```$/ { if (inside) exit } inside' "$top/docs/GUIDE.md" |
-        cmp -s - "$here/guided.toml"; then
-        echo "GUIDE.md: its first scenario is not examples/guided.toml"
-        wrong=1
+test_pages() {
+    test_page README.md
+    put readme.toml "$scenario"
+    expect 1 $'least 1\ncrash 0 @2' '' 'leastfault search readme.toml'
+    test_page examples/README.md
+    test_page docs/GUIDE.md
+    put guide.toml "$scenario"
+    holds examples/guided.toml "$scenario" 'its copy in docs/GUIDE.md'
+
+    # The guide's script for continuous integration.
+    put promises.sh "$script"
+    run 'mkdir promises; cp examples/relayed.toml examples/three_tries.toml promises'
+    run '{ echo max_sets = 5; cat examples/three_tries.toml; } >promises/full.toml'
+    expect 0 'kept    promises/full.toml: none 6
+kept    promises/relayed.toml: none 3
+kept    promises/three_tries.toml: none 6' '*' 'sh promises.sh'
+    run 'rm promises/*; cp examples/one_try.toml examples/out_of_range.toml examples/relayed.toml promises'
+    expect 1 'broken  promises/one_try.toml: least 1
+omit 0>1 @1
+unknown promises/out_of_range.toml: refused 6 budget
+kept    promises/relayed.toml: none 3' '*' 'sh promises.sh'
+}
+
+# ---- all of it ----
+
+# Proves and builds the program, and shows what was said if that fails.
+build() {
+    local said code=0
+    said=$(cd "$top/crates/leastfault_cli" && rt run -- search "$here/relayed.toml" 2>&1) || code=$?
+    if [ "$code" -gt 1 ]; then
+        printf '%s\nthe program was not built (status %s)\n' "$said" "$code"
     fi
 }
 
-build
-check_examples
-check_page "$top/README.md"
-check_page "$here/README.md"
-check_page "$top/docs/GUIDE.md"
-check_guide
-exit "$wrong"
+case $* in
+'') build ;;
+--built) ;;
+*)
+    echo 'usage: check.sh [--built]' >&2
+    exit 2
+    ;;
+esac
+echo 'The built program: its commands and options, the examples, and what the pages show'
+if [ ! -f "$program" ]; then
+    echo 'FAILED: the program is not there; rt ci builds it'
+    echo '0 passed, 1 failed'
+    exit 1
+fi
+room=$(mktemp -d)
+trap 'rm -rf "$room"' EXIT
+mkdir "$room/bin" "$room/work"
+install -m 755 "$program" "$room/bin/leastfault"
+cp -R "$here" "$room/work/examples"
+export PATH="$room/bin:$PATH"
+test_examples
+test_search
+test_tree
+test_own_file
+test_full
+test_run
+test_check
+test_words
+test_devices
+test_refused
+test_pages
+echo "$passed passed, $failed failed"
+[ "$failed" = 0 ]
