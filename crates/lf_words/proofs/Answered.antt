@@ -1,5 +1,5 @@
 -- What an answer says, from what is known of it for all words.
-use Rattle.std.proofs.Common.{◌≡◌, ℕ, List, String, Global, map, true, false, codes, [], ◌∷◌, subst, sym, arith}
+use Rattle.std.proofs.Common.{◌≡◌, ℕ, List, String, Global, map, true, codes, [], ◌∷◌, subst, sym, arith}
 use Rattle.std.specs.Prelude.{◌⊎◌, Option, None, Some, Result, Ok, Err, IfOk, MatchResult, IsErrAnd}
 use Rattle.std.specs.String.{string_bytes}
 use Rattle.clap.specs.Words.{Row, Text, first_of, subcommand_of}

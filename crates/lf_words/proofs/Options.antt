@@ -1,12 +1,12 @@
 -- Searches with one option.
 use Rattle.std.proofs.Common.{◌≡◌, ◌&&◌, not, ◌∙◌, ℕ, List, [], ◌∷◌, Option, Some, None, String, Global, inl, inr, refl, sym, ap, subst}
-use Rattle.std.proofs.Common.{true, false, codes, map, option_map, arith}
+use Rattle.std.proofs.Common.{true, false, codes, map, option_map}
 use Rattle.std.specs.Prelude.{Bool, ◌⊎◌}
 use Rattle.std.specs.Str.{bytes_eq}
 use Rattle.std.specs.String.{string_bytes}
 use Rattle.std.proofs.lemmas.Bool.{not-true}
 use Rattle.std.proofs.lemmas.Slice.Eq.{bytes_eq-Decides}
-use Rattle.clap.specs.Words.{Kinds, Row, Text, fault_of, first_of, subcommand_of}
+use Rattle.clap.specs.Words.{Kinds, Row, Text, fault_of, subcommand_of}
 use Rattle.lf_words.specs.Commands.{program}
 use Rattle.lf_words.specs.Plain.{is_overwriting, is_plain}
 use Rattle.lf_words.specs.Words.{AreNamed, Asks, HasStatus, IsAskedIn, IsRefusal, IsUncounted, TellsOfOverwriting, TellsOfWorkers}
@@ -16,7 +16,7 @@ use Rattle.lf_words.specs.declared.types.Asked.TheVariants as asked
 use Rattle.lf_words.specs.declared.unasked.Unasked.{Unasked}
 use Rattle.lf_words.specs.declared.unasked.Unasked.TheVariants as unasked
 use Rattle.lf_words.proofs.Plain.{counted_fault, counted_names, is_taken, named_search, written_fault, written_names}
-use Rattle.lf_words.proofs.Plainly.{Search, answer_or_search, both, check_or_search, counted, no_thing, run_or_search, some_is}
+use Rattle.lf_words.proofs.Plainly.{Search, answer_or_search, both, check_or_search, no_thing, run_or_search, some_is}
 use Rattle.lf_words.proofs.Reading.{no_truth}
 
 -- a certificate for the scenario of a file would be written into it

@@ -24,7 +24,7 @@ const NOTES: &str = "Arguments:
 Exit status:
   0  no allowed faults make the scenario miss its outcome, the run reaches it, or the certificate is right; also help and the version
   1  faults that make it miss were found, the run misses it, or the certificate is wrong
-  2  the arguments, the scenario, the faults or the certificate's text are refused, or a level of the search has too many sets
+  2  the arguments, the scenario, the faults or the certificate's text are refused, or a level of the search has too many sets (`full`)
   3  out of memory (`memory`), a file or stream failed (`read`, `write`), or the workers gave no answer (`pool NUMBER`)
 
 Examples:

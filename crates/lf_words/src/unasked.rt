@@ -60,14 +60,7 @@ impl Unasked {
     pub fn is_error(&self) -> bool
         ensures { result ≡ goes_to_error self.now }
     {
-        match self {
-            Unasked::Told(_) => false,
-            Unasked::Wrong(_)
-            | Unasked::Workers(_)
-            | Unasked::Overwrites(_)
-            | Unasked::SharedInput
-            | Unasked::Memory => true,
-        }
+        !matches!(self, Unasked::Told(_))
     }
 }
 
