@@ -25,8 +25,20 @@ fn why(unasked: &Unasked) -> &'static str {
     match (unasked.status(), unasked.is_error()) {
         (0, false) if text == "leastfault 0.1.0\n" => "version",
         (0, false) if text.contains("Usage: leastfault ") => "help",
-        (2, false) if text == "refused usage\n" => "shared",
-        (2, true) if text.starts_with("error: ") && text.ends_with("\n") => "wrong",
+        (2, true) if text.ends_with("\n") => wrong(unasked),
+        _ => "something else",
+    }
+}
+
+/// Which words are refused, by the text.
+fn wrong(unasked: &Unasked) -> &'static str {
+    let text = unasked.text();
+    match unasked {
+        Unasked::SharedInput if text.starts_with("refused usage\n") => "shared",
+        Unasked::Workers(_) if text.starts_with("--workers = ") => "workers",
+        Unasked::Overwrites(_) if text.starts_with("--tree = ") => "overwrites",
+        Unasked::Wrong(_) if text.starts_with("error: ") => "wrong",
+        Unasked::Wrong(_) if text.contains(": no such command; ") => "wrong",
         _ => "something else",
     }
 }
@@ -154,11 +166,17 @@ fn searches_name_their_file(rt: HostRuntime) {
         ";search;a;--workers;1|;search;a;1\n",
         ";search;a;--workers=32|;search;a;32\n",
         ";search;--workers;3;a;--all|;search;a;all;3\n",
-        ";search;a;--workers;0|wrong\n",
-        ";search;a;--workers;33|wrong\n",
+        ";search;a;--workers;0|workers\n",
+        ";search;a;--workers;33|workers\n",
         ";search;a;--workers;-1|wrong\n",
-        ";search;a;--workers;two|wrong\n",
-        ";search;a;--workers;4294967297|wrong\n",
+        ";search;a;--workers;two|workers\n",
+        ";search;a;--workers;|workers\n",
+        ";search;a;--workers;+3|;search;a;3\n",
+        ";search;a;--workers;4294967297|workers\n",
+        ";search;a;--tree;a|overwrites\n",
+        ";search;--tree=a;a;--all|overwrites\n",
+        ";search;a;--tree;./a|;search;a;tree;./a;1\n",
+        ";search;a;--tree;a;--workers;0|workers\n",
         ";search;a;--workers|wrong\n",
         ";search;a;--workers;2;--workers;2|wrong\n",
         ";search;a;--quiet|;search;a;1;quiet\n",
@@ -274,4 +292,55 @@ fn help_and_the_version_are_no_errors(rt: HostRuntime) {
         ";--version;search|version\n",
     );
     check_lines(&rt, rt.alloc(), table);
+}
+
+/// A command line, `|`, and what is told of it, up to its first line feed.
+const TOLD: &str = concat!(
+    ";a.toml|a.toml: no such command; did you mean `leastfault search a.toml`?\n",
+    ";-|-: no such command; did you mean `leastfault search -`?\n",
+    ";two words|'two words': no such command; did you mean `leastfault search 'two words'`?\n",
+    ";serach;a.toml|serach: no such command; did you mean `leastfault search`?\n",
+    ";Check|Check: no such command; did you mean `leastfault check`?\n",
+    ";help|help: no such command; did you mean `leastfault --help`?\n",
+    ";search;a;--workers;33|--workers = 33: a whole number from 1 to 32\n",
+    ";search;a;--workers;x|--workers = x: a whole number from 1 to 32\n",
+    ";search;x.toml;--tree;x.toml|--tree = x.toml: it would overwrite the scenario\n",
+    ";check;-;-|refused usage\n",
+    ";search;a;--al|error: unexpected argument '--al' found\n",
+);
+
+/// Whether of a command line of a table the text is told that stands behind it, and the same is displayed.
+fn is_told(alloc: Global, line: &str) -> bool {
+    let Some((words, expected)) = line.split_once('|') else {
+        return false;
+    };
+    let mut owned = Vec::new(alloc);
+    if !add_words(alloc, &mut owned, words) {
+        return false;
+    }
+    match asked(alloc, owned.as_slice()) {
+        Ok(_) => false,
+        Err(unasked) => begins(alloc, &unasked, expected),
+    }
+}
+
+/// Whether the first line of what is told is this one, nothing of it advises `--`, and it is displayed as it is told.
+fn begins(alloc: Global, unasked: &Unasked, line: &str) -> bool {
+    let text = unasked.text();
+    match format!(in alloc; "{unasked}\n") {
+        Ok(displayed) => {
+            text.lines().next() == Some(line)
+                && !text.contains("'-- ")
+                && displayed.as_str() == text
+        }
+        Err(_) => false,
+    }
+}
+
+#[test]
+fn wrong_words_are_told_in_words(rt: HostRuntime) {
+    for line in TOLD.lines() {
+        let is_told = is_told(rt.alloc(), line);
+        assert!(&rt; is_told, "at {line}");
+    }
 }

@@ -1,14 +1,22 @@
 //! What is wrong with words that are to name a set of faults.
 
-use crate::hint::{Hint, Words, in_quotes, said};
+use crate::hint::{Hint, Words, bound, in_quotes, said};
+use crate::misspelt::misspelt;
 use lf_faults::{Fault, FaultSet, FaultSpec, Parts, read_fault};
+
+/// How faults are joined.
+pub(crate) const JOINED: &str = "faults are joined by single commas, no blanks";
 
 /// Why words name no set of faults that these bounds allow: the first word that can't be added to those before it.
 pub(crate) fn faults_hint(spec: &FaultSpec, words: &str) -> Option<Hint> {
+    if words.is_empty() {
+        return None;
+    }
     let mut set = FaultSet::empty();
     for word in words.split(',') {
         match added(spec, &set, word) {
             Ok(larger) => set = larger,
+            Err(_) if word.is_empty() => return Some(said("a comma too many", JOINED)),
             Err(bar) => return Some(said(in_quotes(word).as_str(), bar.as_str())),
         }
     }
@@ -18,9 +26,7 @@ pub(crate) fn faults_hint(spec: &FaultSpec, words: &str) -> Option<Hint> {
 /// The set with the fault that a word spells, or what bars it.
 fn added(spec: &FaultSpec, set: &FaultSet, word: &str) -> Result<FaultSet, Words> {
     let Some(fault) = read_fault(word) else {
-        return Err(Words::of(
-            "no fault, which is written as omit 0>1 @2, crash 0 @2 or pause 0 @2, with nodes from 0 to 7 and steps from 1 to 48",
-        ));
+        return Err(misspelt(spec, word));
     };
     if set.contains(&fault) {
         return Err(Words::of("named twice"));
@@ -36,31 +42,36 @@ fn added(spec: &FaultSpec, set: &FaultSet, word: &str) -> Result<FaultSet, Words
 
 /// What bars a fault that the set hasn't, but for the budget.
 fn bar_of(spec: &FaultSpec, set: &FaultSet, fault: &Fault) -> Option<Words> {
-    match fault.parts() {
+    let parts = fault.parts();
+    bar_of_numbers(spec, parts).or(match parts {
+        Parts::Omit { .. } => None,
+        Parts::Crash { node, .. } => bar_of_crash(spec, set, node),
+        Parts::Pause { node, .. } => bar_of_pause(spec, set, node),
+    })
+}
+
+/// What bars a fault with these parts, in whatever set: its first number that is out of range.
+pub(crate) fn bar_of_numbers(spec: &FaultSpec, parts: Parts) -> Option<Words> {
+    match parts {
+        Parts::Omit { from, to, .. } if from == to => {
+            Some(Words::of("no note goes from a node to itself"))
+        }
         Parts::Omit { from, to, step } => {
             bar_of_point(spec, from.max(to), step).or(bar_of_omission(spec, step))
         }
-        Parts::Crash { node, step } => {
-            bar_of_point(spec, node, step).or(bar_of_crash(spec, set, node))
-        }
-        Parts::Pause { node, step } => {
-            bar_of_point(spec, node, step).or(bar_of_pause(spec, set, node))
-        }
+        Parts::Crash { node, step } | Parts::Pause { node, step } => bar_of_point(spec, node, step),
     }
-}
-
-/// A bound of the scenario, and what follows from it.
-fn bound(key: &str, number: u32, so: &str) -> Words {
-    Words::of(format_args!("{key} = {number}, and {so}"))
 }
 
 /// What bars a fault of a node at a step.
 fn bar_of_point(spec: &FaultSpec, node: u32, step: u32) -> Option<Words> {
-    if node >= spec.nodes() {
-        return Some(bound("nodes", spec.nodes(), "they are counted from 0"));
+    let last = spec.nodes().saturating_sub(1);
+    if node > last {
+        return Some(Words::of(format_args!("the nodes are from 0 to {last}")));
     }
-    if step > spec.horizon() {
-        return Some(bound("horizon", spec.horizon(), "there is no later step"));
+    let horizon = spec.horizon();
+    if step < 1 || horizon < step {
+        return Some(Words::of(format_args!("the step is from 1 to {horizon}")));
     }
     None
 }

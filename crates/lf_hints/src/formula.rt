@@ -1,17 +1,18 @@
 //! What is wrong with the formula of a scenario.
 
-use crate::hint::{Hint, LONGEST_STEP, Way, Words, item_of};
-use crate::takes::{at, facts_of, number_at, numbers, refused, text_at, unfit};
-use lf_protocols::Fact;
+use crate::hint::{Hint, Way, Words, item_of};
+use crate::protocols::{fact_words, protocol_named};
+use crate::takes::{at, number_at, numbers, refused, text_at, unfit};
+use lf_protocols::Protocol;
 use lf_scenario::{DEEPEST, Key, MOST_ATOMS};
 use toml::{Table, Value};
 
 /// What a formula may speak of.
-#[derive(Clone, Copy)]
+#[derive(Drop)]
 struct Subject {
     nodes: (i64, i64),
     steps: (i64, i64),
-    facts: &'static [Fact],
+    protocol: Protocol,
 }
 
 /// What a list of a formula begins with.
@@ -25,16 +26,16 @@ pub(crate) fn formula_hint(table: &Table) -> Option<Hint> {
     let subject = Subject {
         nodes: (0, number_at(table, Key::Nodes).saturating_sub(1)),
         steps: (1, number_at(table, Key::Horizon)),
-        facts: facts_of(text_at(table, Key::Protocol)),
+        protocol: protocol_named(text_at(table, Key::Protocol))?,
     };
     let formula = at(table, Key::Outcome.name())?;
-    wrong_in(formula, Way::of("outcome"), DEEPEST, subject).or(Some(Hint::of(format_args!(
+    wrong_in(formula, Way::of("outcome"), DEEPEST, &subject).or(Some(Hint::of(format_args!(
         "outcome has more than {MOST_ATOMS} atoms, which are the lists with \"down\" and \"shows\""
     ))))
 }
 
 /// What is wrong first in a formula that may be so deep.
-fn wrong_in(value: &Value, way: Way, room: u32, subject: Subject) -> Option<Hint> {
+fn wrong_in(value: &Value, way: Way, room: u32, subject: &Subject) -> Option<Hint> {
     if room == 0 {
         return too_deep(value, way);
     }
@@ -74,7 +75,7 @@ fn parts_of(value: &Value) -> &[Value] {
 }
 
 /// What is wrong first in a formula, but for what it joins.
-fn wrong_above_parts(value: &Value, way: Way, subject: Subject) -> Option<Hint> {
+fn wrong_above_parts(value: &Value, way: Way, subject: &Subject) -> Option<Hint> {
     match list_of(value) {
         Some((first, parts)) => match first.as_str().unwrap_or("") {
             "all" | "any" => None,
@@ -87,7 +88,7 @@ fn wrong_above_parts(value: &Value, way: Way, subject: Subject) -> Option<Hint> 
 }
 
 /// What is wrong first in an atom of these parts that says that a node is down.
-fn wrong_in_down(value: &Value, way: Way, parts: &[Value], subject: Subject) -> Option<Hint> {
+fn wrong_in_down(value: &Value, way: Way, parts: &[Value], subject: &Subject) -> Option<Hint> {
     match parts {
         [node, step] => wrong_in_point(node, step, way, subject),
         _ => refused(way, value, "[\"down\", node, step]"),
@@ -95,18 +96,18 @@ fn wrong_in_down(value: &Value, way: Way, parts: &[Value], subject: Subject) -> 
 }
 
 /// What is wrong first in an atom of these parts that says what a node shows.
-fn wrong_in_shows(value: &Value, way: Way, parts: &[Value], subject: Subject) -> Option<Hint> {
+fn wrong_in_shows(value: &Value, way: Way, parts: &[Value], subject: &Subject) -> Option<Hint> {
     match parts {
         [node, step, fact] => {
-            wrong_in_point(node, step, way, subject).or(wrong_fact(fact, way, subject.facts))
+            wrong_in_point(node, step, way, subject).or(wrong_fact(fact, way, &subject.protocol))
         }
         _ => refused(way, value, "[\"shows\", node, step, \"fact\"]"),
     }
 }
 
 /// What is wrong first with the node and the step of an atom.
-fn wrong_in_point(node: &Value, step: &Value, way: Way, subject: Subject) -> Option<Hint> {
-    let Subject { nodes, steps, .. } = subject;
+fn wrong_in_point(node: &Value, step: &Value, way: Way, subject: &Subject) -> Option<Hint> {
+    let (nodes, steps) = (subject.nodes, subject.steps);
     let node_words = numbers("a node, which is a whole number", nodes);
     let step_words = numbers("a step, which is a whole number", steps);
     unfit(item_of(way, 1), node, nodes, node_words.as_str()).or(unfit(
@@ -117,15 +118,10 @@ fn wrong_in_point(node: &Value, step: &Value, way: Way, subject: Subject) -> Opt
     ))
 }
 
-/// What is wrong with the fact of an atom, which has to be one of these.
-fn wrong_fact(value: &Value, way: Way, facts: &[Fact]) -> Option<Hint> {
-    let word = value.as_str().unwrap_or("");
-    let mut wanted = Words::of("a fact of the protocol");
-    for fact in facts {
-        if fact.word() == word {
-            return None;
-        }
-        wanted = wanted.and(format_args!(", \"{}\"", fact.word()), LONGEST_STEP);
+/// What is wrong with the fact of an atom, which has to be one of the protocol.
+fn wrong_fact(value: &Value, way: Way, protocol: &Protocol) -> Option<Hint> {
+    match protocol.fact(value.as_str().unwrap_or("")) {
+        Some(_) => None,
+        None => refused(item_of(way, 3), value, fact_words(protocol).as_str()),
     }
-    refused(item_of(way, 3), value, wanted.as_str())
 }

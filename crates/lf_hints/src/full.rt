@@ -1,16 +1,29 @@
-//! What to change where a level of a search is too full.
+//! What to do where a level of a search has too many sets.
 
 use crate::hint::{Hint, Words};
 use lf_scenario::MOST_SETS;
 
-/// What to change where a search that keeps at most `most` sets gave this reply, and what else may know its answer. Nothing where
-/// the reply says of no level that it is too full.
-pub(crate) fn full_hint(most: u32, reply: &[u8]) -> Option<Hint> {
+/// What a search was to tell.
+#[derive(Clone, Copy, Debug, PartialEq, Eq)]
+pub(crate) enum Wanted {
+    /// The answer.
+    Answer,
+    /// All least sets.
+    AllLeast,
+}
+
+/// What to do where a search that keeps at most `most` sets of a level gave this reply. Nothing where the reply says of no level that it
+/// is too full.
+pub(crate) fn full_hint(most: u32, wanted: Wanted, reply: &[u8]) -> Option<Hint> {
     let (level, count) = full_level(reply)?;
     let below = level.saturating_sub(1);
+    let instead = match wanted {
+        Wanted::Answer => "use `leastfault answer`, which has no such limit; or ",
+        Wanted::AllLeast => "",
+    };
     let room = room_for(count);
     Some(Hint::of(format_args!(
-        "max_sets = {most}{} lower budget to {below}, or last_omission, crashes or pauses; or ask `leastfault answer`",
+        "max_sets = {most}, and there are {count} sets of {level} faults: {instead}{}lower budget to {below}, or last_omission, crashes or pauses",
         room.as_str()
     )))
 }
@@ -18,9 +31,9 @@ pub(crate) fn full_hint(most: u32, reply: &[u8]) -> Option<Hint> {
 /// What may be done about the most sets that a search keeps, for a level with so many.
 fn room_for(count: u64) -> Words {
     if count <= u64::from(MOST_SETS) {
-        Words::of(format_args!(": raise it to {count} at least, or"))
+        Words::of(format_args!("raise max_sets to {count} or more, or "))
     } else {
-        Words::of(format_args!(", and {count} sets are more than its most, {MOST_SETS}:"))
+        Words::of("")
     }
 }
 

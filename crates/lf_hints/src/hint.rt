@@ -15,6 +15,9 @@ const LONGEST_WAY: usize = 160;
 /// How many bytes one step of a way takes at most.
 pub(crate) const LONGEST_STEP: usize = 30;
 
+/// How many bytes of a list of names are told at most.
+pub(crate) const LONGEST_LIST: usize = 300;
+
 /// How many bytes are quoted at most. What is longer is cut, and ends in three dots.
 const LONGEST_QUOTE: usize = 60;
 
@@ -48,6 +51,11 @@ pub(crate) fn in_quotes(word: &str) -> Quote {
 /// What is told of what stands at a place.
 pub(crate) fn said(place: &str, words: &str) -> Hint {
     Hint::of(format_args!("{place}: {words}"))
+}
+
+/// A bound of the scenario, and what follows from it.
+pub(crate) fn bound(key: &str, number: u32, so: &str) -> Words {
+    Words::of(format_args!("{key} = {number}, and {so}"))
 }
 
 /// That this stands at a way, and what may.

@@ -1,68 +1,66 @@
 //! What is wrong with the tables of links.
 
 use crate::hint::{Hint, Way, Words, item_of, onward, said};
+use crate::keys::unknown_in_link;
 use crate::takes::{
-    LEAST, SPREAD, at, missing, number_at, numbers, other_key, other_kind, unfit, value_hint,
-    whole_at,
+    LEAST, SPREAD, at, missing, number_at, numbers, other_kind, unfit, value_hint, whole_at,
 };
 use lf_scenario::Key;
+use std::alloc::{AllocError, Global};
 use toml::{Table, Value};
 
 /// All whole numbers.
 const ANY: (i64, i64) = (i64::MIN, i64::MAX);
 
-/// What is wrong first with the links of a scenario.
-pub(crate) fn links_hint(table: &Table) -> Option<Hint> {
+/// What is wrong first with the links of a scenario's table. The error, also below, is that memory has run out.
+pub(crate) fn links_hint(
+    alloc: Global,
+    text: &[u8],
+    table: &Table,
+) -> Result<Option<Hint>, AllocError> {
     let nodes = (0, number_at(table, Key::Nodes).saturating_sub(1));
-    match at(table, Key::Links.name())? {
-        Value::Array(items) => {
-            other_kind(
-                Key::Links,
-                items.as_slice(),
-                "table",
-                "a table with from and to",
-            )
-            .or(wrong_in_links(items.as_slice(), nodes))
-        }
-        _ => value_hint(table, Key::Links),
+    let Some(Value::Array(items)) = at(table, Key::Links.name()) else {
+        return Ok(value_hint(table, Key::Links));
+    };
+    let links = items.as_slice();
+    let other = other_kind(Key::Links, links, "table", "a table with from and to");
+    if other.is_some() {
+        return Ok(other);
     }
+    wrong_in_links(alloc, text, links, nodes)
 }
 
 /// What is wrong first with a list of links, among these nodes.
-fn wrong_in_links(items: &[Value], nodes: (i64, i64)) -> Option<Hint> {
+fn wrong_in_links(
+    alloc: Global,
+    text: &[u8],
+    items: &[Value],
+    nodes: (i64, i64),
+) -> Result<Option<Hint>, AllocError> {
     for (i, item) in items.iter().enumerate() {
         if let Value::Table(link) = item {
-            let found = wrong_in_link(items, i, link, nodes);
+            let unknown = unknown_in_link(alloc, text, link, i)?;
+            let found = unknown.or(wrong_in_link(items, i, link, nodes));
             if found.is_some() {
-                return found;
+                return Ok(found);
             }
         }
     }
-    None
+    Ok(None)
 }
 
-/// What is wrong first with the link at a place. What is missing or of the wrong kind comes before an end that is no node.
+/// What is wrong first with the link at a place, but for its keys. What is missing or of the wrong kind comes before an end that is no
+/// node.
 fn wrong_in_link(items: &[Value], place: usize, link: &Table, nodes: (i64, i64)) -> Option<Hint> {
     let way = item_of(Way::of("links"), place);
     let node = numbers("a node", nodes);
-    wrong_in_keys(way, link)
-        .or(wrong_end(way, link, "from", ANY, node))
+    wrong_end(way, link, "from", ANY, node)
         .or(wrong_end(way, link, "to", ANY, node))
         .or(wrong_delay(way, link, "least", LEAST))
         .or(wrong_delay(way, link, "spread", SPREAD))
         .or(wrong_end(way, link, "from", nodes, node))
         .or(wrong_end(way, link, "to", nodes, node))
         .or(wrong_in_ends(items, place, link))
-}
-
-/// The first key that links don't have.
-fn wrong_in_keys(way: Way, link: &Table) -> Option<Hint> {
-    let name = other_key(link, "from, to, least, spread")?;
-    Some(Hint::of(format_args!(
-        "{}, {}: a link has from, to, least and spread; a key that stands after [[links]] belongs to that link",
-        way.as_str(),
-        name.as_str()
-    )))
 }
 
 /// What is wrong with an end of the link at a way, where it has to be of a range.

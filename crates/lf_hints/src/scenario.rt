@@ -2,9 +2,10 @@
 
 use crate::formula::formula_hint;
 use crate::hint::{Hint, Words, said, told};
+use crate::keys::unknown_hint;
 use crate::links::links_hint;
 use crate::place::said_at;
-use crate::takes::{KEYS, at, other_key, other_kind, protocols_with, text_at, value_hint};
+use crate::takes::{at, other_kind, protocols_with, text_at, value_hint};
 use lf_scenario::{Key, LONGEST, ScenarioError};
 use std::alloc::{AllocError, Global};
 use toml::{Table, Value};
@@ -21,7 +22,7 @@ pub(crate) fn scenario_hint(
         }
         ScenarioError::Memory => Err(AllocError),
         _ => match toml::table_from_slice(alloc, text) {
-            Ok(table) => told(alloc, table_hint(&table, error)),
+            Ok(table) => told(alloc, table_hint(alloc, text, &table, error)?),
             Err(fault) => toml_hint(alloc, text, &fault),
         },
     }
@@ -35,24 +36,24 @@ fn toml_hint(alloc: Global, text: &[u8], fault: &toml::de::Error) -> Result<Stri
     }
 }
 
-/// What is wrong with a table.
-fn table_hint(table: &Table, error: ScenarioError) -> Option<Hint> {
+/// What is wrong with the table of a text.
+fn table_hint(
+    alloc: Global,
+    text: &[u8],
+    table: &Table,
+    error: ScenarioError,
+) -> Result<Option<Hint>, AllocError> {
     match error {
-        ScenarioError::UnknownKey => unknown_hint(table),
-        ScenarioError::OtherProtocol(key) => Some(foreign_hint(table, key)),
-        ScenarioError::Formula => formula_hint(table),
-        _ => match error.key()? {
-            Key::Links => links_hint(table),
-            Key::Votes => votes_hint(table),
-            key => value_hint(table, key),
+        ScenarioError::UnknownKey => unknown_hint(alloc, text, table),
+        ScenarioError::OtherProtocol(key) => Ok(Some(foreign_hint(table, key))),
+        ScenarioError::Formula => Ok(formula_hint(table)),
+        _ => match error.key() {
+            Some(Key::Links) => links_hint(alloc, text, table),
+            Some(Key::Votes) => Ok(votes_hint(table)),
+            Some(key) => Ok(value_hint(table, key)),
+            None => Ok(None),
         },
     }
-}
-
-/// The first key of the table that scenarios don't have.
-fn unknown_hint(table: &Table) -> Option<Hint> {
-    let name = other_key(table, KEYS)?;
-    Some(Hint::of(format_args!("{}: no key of a scenario, which are {KEYS}", name.as_str())))
 }
 
 /// A key that this protocol doesn't have.

@@ -1,15 +1,36 @@
 //! What the keys of a scenario take.
 
 use crate::hint::{Hint, LONGEST_STEP, Quote, Way, Words, in_quotes, item_of, refusal};
-use lf_protocols::Fact;
+use crate::protocols::outcome_words;
 use lf_scenario::{Key, MOST_SETS};
 use toml::{Table, Value};
 
-/// All keys, in the order in which they are read.
-pub(crate) const KEYS: &str = concat!(
-    "nodes, horizon, last_omission, crashes, budget, pauses, pause_length, max_sets, seed, least, spread, ",
-    "protocol, tries, patience, votes, outcome, links"
-);
+/// All keys of a scenario, in the order in which they are read.
+pub(crate) const KEYS: [Key; 17] = [
+    Key::Nodes,
+    Key::Horizon,
+    Key::LastOmission,
+    Key::Crashes,
+    Key::Budget,
+    Key::Pauses,
+    Key::PauseLength,
+    Key::MaxSets,
+    Key::Seed,
+    Key::Least,
+    Key::Spread,
+    Key::Protocol,
+    Key::Tries,
+    Key::Patience,
+    Key::Votes,
+    Key::Outcome,
+    Key::Links,
+];
+
+/// All keys of a link.
+pub(crate) const LINK_KEYS: [&str; 4] = ["from", "to", "least", "spread"];
+
+/// What to do with a key that stands in a table of links and belongs to the scenario.
+pub(crate) const MOVE: &str = "move it above the first [[links]]";
 
 /// The fewest steps that a note takes, and the most that they may be set to.
 pub(crate) const LEAST: (i64, i64) = (1, 16);
@@ -28,7 +49,7 @@ pub(crate) fn refused(way: Way, value: &Value, wanted: &str) -> Option<Hint> {
 
 /// That nothing stands at a way, and what has to.
 pub(crate) fn missing(way: Way, wanted: &str) -> Option<Hint> {
-    Some(Hint::of(format_args!("{} is missing: {wanted}", way.as_str())))
+    Some(Hint::of(format_args!("{}: missing; {wanted}", way.as_str())))
 }
 
 /// The value at a key.
@@ -57,20 +78,25 @@ pub(crate) fn text_at<'a>(table: &'a Table, key: Key) -> &'a str {
     }
 }
 
-/// The first key of a table that isn't one of these names, which commas join.
-pub(crate) fn other_key(table: &Table, names: &str) -> Option<Quote> {
+/// The names of the keys of a scenario.
+pub(crate) fn key_names() -> [&'static str; 17] {
+    KEYS.map(|key: Key| key.name())
+}
+
+/// The first key of a table that isn't one of these names.
+pub(crate) fn other_key<'a>(table: &'a Table, names: &[&str]) -> Option<&'a str> {
     for (name, _value) in table.iter() {
         if !is_one_of(name.as_str(), names) {
-            return Some(in_quotes(name.as_str()));
+            return Some(name.as_str());
         }
     }
     None
 }
 
-/// Whether a name is one of these, which commas join.
-fn is_one_of(name: &str, names: &str) -> bool {
-    for other in names.split(", ") {
-        if other == name {
+/// Whether a name is one of these.
+pub(crate) fn is_one_of(name: &str, names: &[&str]) -> bool {
+    for other in names {
+        if *other == name {
             return true;
         }
     }
@@ -97,7 +123,33 @@ pub(crate) fn value_hint(table: &Table, key: Key) -> Option<Hint> {
     let way = Way::of(key.name());
     match at(table, key.name()) {
         Some(value) => refused(way, value, words.as_str()),
-        None => missing(way, words.as_str()),
+        None => misplaced(table, key).or(missing(way, words.as_str())),
+    }
+}
+
+/// That a missing key stands in a table of links, where it does.
+fn misplaced(table: &Table, key: Key) -> Option<Hint> {
+    let Some(Value::Array(links)) = at(table, Key::Links.name()) else {
+        return None;
+    };
+    for (i, link) in links.iter().enumerate() {
+        if let Value::Table(link) = link {
+            if at(link, key.name()).is_some() {
+                let is_last = i.saturating_add(1) == links.len();
+                return Some(misplaced_in(key, i, is_last));
+            }
+        }
+    }
+    None
+}
+
+/// That a missing key stands in the table of links at a place, and where it belongs.
+fn misplaced_in(key: Key, place: usize, is_last: bool) -> Hint {
+    let name = key.name();
+    if is_last {
+        Hint::of(format_args!("{name}: missing; it stands in the last [[links]] table: {MOVE}"))
+    } else {
+        Hint::of(format_args!("{name}: missing; it stands in links[{place}]: {MOVE}"))
     }
 }
 
@@ -145,8 +197,10 @@ fn takes(table: &Table, key: Key) -> Words {
             Words::of(format_args!("a list of {count} truth values, for the nodes 1 to {count}"))
         }
         Key::Outcome => {
-            let names = outcomes_of(text_at(table, Key::Protocol));
-            Words::of(format_args!("{names}, or a formula as a list"))
+            outcome_words(text_at(table, Key::Protocol)).and_str(
+                ", or a formula as a list",
+                LONGEST_STEP,
+            )
         }
         _ => Words::of(words_of(key)),
     }
@@ -172,42 +226,6 @@ fn seed_words(table: &Table) -> Words {
             ))
         }
         _ => Words::of("a text of 64 hexadecimal digits"),
-    }
-}
-
-/// The names of a protocol's outcomes.
-fn outcomes_of(protocol: &str) -> &'static str {
-    match protocol {
-        "retry" | "redundant" => "\"delivered\"",
-        "two_phase" | "three_phase" => "\"agreement\" or \"unblocked\"",
-        "primary_backup" => "\"one_primary\" or \"durable\"",
-        _ => "the name of an outcome of the protocol",
-    }
-}
-
-/// The facts of a protocol.
-pub(crate) fn facts_of(protocol: &str) -> &'static [Fact] {
-    match protocol {
-        "retry" | "redundant" => &[Fact::Has, Fact::Lacks],
-        "two_phase" | "three_phase" => &[
-            Fact::Committed,
-            Fact::NotCommitted,
-            Fact::Aborted,
-            Fact::NotAborted,
-            Fact::Blocked,
-            Fact::Free,
-        ],
-        "primary_backup" => &[
-            Fact::Holds,
-            Fact::Empty,
-            Fact::Done,
-            Fact::NotDone,
-            Fact::Primary,
-            Fact::Backup,
-            Fact::Claimed,
-            Fact::Unclaimed,
-        ],
-        _ => &[],
     }
 }
 

@@ -1,20 +1,36 @@
 //! What is wrong with the texts that an engine was given.
 
 use crate::faults::faults_hint;
-use crate::full::full_hint;
+use crate::full::{Wanted, full_hint};
 use crate::hint::told;
 use crate::scenario::scenario_hint;
 use crate::tree::tree_hint;
+use crate::verdict::verdict_hint as hint_of;
 use lf_faults::FaultSpec;
 use lf_scenario::{ScenarioError, read};
-use lf_tree::read_tree;
+use lf_tree::{TreeFault, read_tree};
 use std::alloc::{AllocError, Global};
 
-/// What is wrong with the text of a scenario whose search gave this reply, or what to change where a level was too full. Nothing
-/// where there is nothing to be told. The error, also below, is that memory has run out.
+/// What is wrong with the text of a scenario whose search, or answer by another way, gave this reply; or what to do where a level had too
+/// many sets. Nothing where there is nothing to be told. The error, also below, is that memory has run out.
 pub fn search_hint(alloc: Global, text: &[u8], reply: &[u8]) -> Result<String, AllocError> {
+    search_hint_for(alloc, text, Wanted::Answer, reply)
+}
+
+/// The same of a search for all least sets.
+pub fn all_hint(alloc: Global, text: &[u8], reply: &[u8]) -> Result<String, AllocError> {
+    search_hint_for(alloc, text, Wanted::AllLeast, reply)
+}
+
+/// The same of a search for what is wanted.
+fn search_hint_for(
+    alloc: Global,
+    text: &[u8],
+    wanted: Wanted,
+    reply: &[u8],
+) -> Result<String, AllocError> {
     match limits(alloc, text) {
-        Ok((_spec, most)) => told(alloc, full_hint(most, reply)),
+        Ok((_spec, most)) => told(alloc, full_hint(most, wanted, reply)),
         Err(error) => scenario_hint(alloc, text, error),
     }
 }
@@ -32,6 +48,26 @@ pub fn check_hint(alloc: Global, text: &[u8], certificate: &[u8]) -> Result<Stri
     match limits(alloc, text) {
         Ok(_) => certificate_hint(alloc, certificate),
         Err(error) => scenario_hint(alloc, text, error),
+    }
+}
+
+/// What the reply `no REASON PATH` of a check means, for the texts of a scenario and of a certificate: which set of faults stands at that
+/// path, and what is wrong there. Nothing where the reply is another, or a text is refused.
+pub fn verdict_hint(
+    alloc: Global,
+    text: &[u8],
+    certificate: &[u8],
+    reply: &[u8],
+) -> Result<String, AllocError> {
+    let spec = match limits(alloc, text) {
+        Ok((spec, _most)) => spec,
+        Err(ScenarioError::Memory) => return Err(AllocError),
+        Err(_) => return Ok(String::new(alloc)),
+    };
+    match read_tree(alloc, certificate) {
+        Ok(tree) => told(alloc, hint_of(&spec, &tree, reply)),
+        Err(TreeFault::Memory) => Err(AllocError),
+        Err(_) => Ok(String::new(alloc)),
     }
 }
 

@@ -7,17 +7,10 @@ use lf_tree::TreeFault;
 use serde_json::{Error, Value};
 use std::alloc::{AllocError, Global};
 
-/// The most bytes of a certificate's text.
-const LONGEST_TREE: u32 = 16_777_216;
-
 /// What is wrong with a text that `lf_tree`'s `read_tree` refuses with this fault. The error is that memory has run out.
 pub fn tree_hint(alloc: Global, text: &[u8], fault: TreeFault) -> Result<String, AllocError> {
     match fault {
-        TreeFault::TooLong => {
-            format!(in alloc;
-                "a certificate's text has at most {LONGEST_TREE} bytes, and this would have more"
-            )
-        }
+        TreeFault::TooLong => format!(in alloc; "{fault}"),
         TreeFault::Memory => Err(AllocError),
         _ => match Value::from_slice(alloc, text) {
             Ok(value) => value_hint(alloc, text, &value),

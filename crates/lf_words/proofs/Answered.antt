@@ -1,25 +1,34 @@
 -- What an answer says, from what is known of it for all words.
-use Rattle.std.proofs.Common.{◌≡◌, ℕ, List, String, Global, map, true, false, codes, [], ◌∷◌, subst, sym, arith}
+use Rattle.std.proofs.Common.{◌≡◌, ℕ, List, String, Global, map, true, codes, [], ◌∷◌, subst, sym, arith}
 use Rattle.std.specs.Prelude.{◌⊎◌, Option, None, Some, Result, Ok, Err, IfOk, MatchResult, IsErrAnd}
 use Rattle.std.specs.String.{string_bytes}
 use Rattle.clap.specs.Words.{Row, Text, first_of, subcommand_of}
 use Rattle.clap.specs.declared.error.kind.ErrorKind.TheVariants as kind
-use Rattle.lf_words.specs.Plain.{asks_help, asks_version, is_plain_command, is_unknown}
+use Rattle.lf_words.specs.Plain.{asks_help, asks_version, is_overwriting, is_plain, is_plain_command, is_unknown}
 use Rattle.lf_words.specs.Statuses.{exit_status}
 use Rattle.lf_words.specs.Commands.{program}
-use Rattle.lf_words.specs.Words.{Answers, AreNamed, Asks, IsAskedIn, IsPlainly, IsRefusal, IsWorkers, shares_input, workers_of}
+use Rattle.lf_words.specs.Words.{Answers, AreNamed, Asks, CanBeDone, IsAskedIn, IsBarred, IsPlainly, IsRefusal, IsWorkers, workers_of}
+use Rattle.lf_words.specs.Words.{TellsOfOverwriting, TellsOfWorkers}
 use Rattle.lf_words.specs.declared.types.Asked.{Asked}
 use Rattle.lf_words.specs.declared.types.Asked.TheVariants as asked
 use Rattle.lf_words.specs.declared.unasked.Unasked.{Unasked}
 use Rattle.lf_words.specs.declared.unasked.Unasked.TheVariants as unasked
 use Rattle.lf_words.proofs.Plainly.{asks_plainly, refused_plainly, shared_is_refused, shared_refusal}
+use Rattle.lf_words.proofs.Options.{overwriting_is_refused, overwriting_refusal, uncounted_is_refused, uncounted_refusal}
 use Rattle.lf_words.proofs.Plainly.{help_is, one_status, takes_none, unknown_is, unknown_status, version_is}
 
+barred : (words : List Text) (a : Asked) (u : Unasked) → Asks words a → IsBarred a u → IsRefusal words u
+barred words a (unasked.Told text) asks bars = absurd bars
+barred words a (unasked.Wrong text) asks bars = absurd bars
+barred words a (unasked.Workers text) asks bars = absurd bars
+barred words a (unasked.Overwrites text) asks bars = (a, asks, bars)
+barred words a unasked.SharedInput asks bars = (a, asks, bars)
+barred words a unasked.Memory asks bars = tt
+
 pub answers_possible : (words : List Text) (a : Asked) (r : Result Asked Unasked)
-    → MatchResult r (λ b. (b ≡ a) × (shares_input a ≡ false)) (λ u. (u ≡ unasked.SharedInput) × (shares_input a ≡ true))
-    → Asks words a → Answers words r
-answers_possible words a (Ok b) told asks = subst (λ x. Asks words x × (shares_input x ≡ false)) (sym told.0) (asks, told.1)
-answers_possible words a (Err u) told asks = subst (IsRefusal words) (sym told.0) (a, asks, told.1)
+    → MatchResult r (λ b. (b ≡ a) × CanBeDone a) (IsBarred a) → Asks words a → Answers words r
+answers_possible words a (Ok b) told asks = subst (λ x. Asks words x × CanBeDone x) (sym told.0) (asks, told.1)
+answers_possible words a (Err u) told asks = barred words a u asks told
 
 module _ (ws : List (String Global)) where
   pub plain_of : (r : Result Asked Unasked) → is_plain_command (map string_bytes ws) ≡ true → Answers (map string_bytes ws) r
@@ -29,8 +38,20 @@ module _ (ws : List (String Global)) where
 
   pub shared_of : (r : Result Asked Unasked) → map string_bytes ws ≡ codes "check" ∷ codes "-" ∷ codes "-" ∷ [] → Answers (map string_bytes ws) r
       → IsErrAnd r (λ u. (u ≡ unasked.SharedInput) ⊎ (u ≡ unasked.Memory))
-  shared_of (Ok a) is asks = absurd (shared_is_refused (map string_bytes ws) a is asks.0 asks.1)
+  shared_of (Ok a) is asks = absurd (shared_is_refused (map string_bytes ws) a is asks.0 asks.1.apart)
   shared_of (Err u) is refusal = shared_refusal ws u is refusal
+
+  pub overwriting_of : (r : Result Asked Unasked) → is_overwriting (map string_bytes ws) ≡ true → Answers (map string_bytes ws) r
+      → IsErrAnd r (λ u. TellsOfOverwriting u ⊎ (u ≡ unasked.Memory))
+  overwriting_of (Ok a) is asks = absurd (overwriting_is_refused ws a is asks.0 asks.1.kept)
+  overwriting_of (Err u) is refusal = overwriting_refusal ws u is refusal
+
+module _ (words : List Text) (file number : Text) where
+  pub uncounted_of : (r : Result Asked Unasked) → words ≡ codes "search" ∷ file ∷ codes "--workers" ∷ number ∷ [] → is_plain file ≡ true
+      → is_plain number ≡ true → ((n : ℕ) → ¬ AreNamed (Some number) n) → Answers words r
+      → IsErrAnd r (λ u. TellsOfWorkers u ⊎ (u ≡ unasked.Memory))
+  uncounted_of (Ok a) is plain plain_too none asks = absurd (uncounted_is_refused words file number a is plain plain_too none asks.0)
+  uncounted_of (Err u) is plain plain_too none refusal = uncounted_refusal words file number u is plain plain_too none refusal
 
 module _ (words : List Text) where
   pub help_of : (r : Result Asked Unasked) → asks_help words ≡ true → Answers words r → IsErrAnd r (λ u. (exit_status u ≡ 0) ⊎ (u ≡ unasked.Memory))

@@ -1,4 +1,5 @@
 mod Answered
+mod Options
 mod Parts
 mod Plain
 mod Plainly

@@ -76,6 +76,29 @@ pub search_names : (file : Text) → IsTaken file
 unfolding clap_on_literals
 search_names file taken = rw (taken.no_end, taken.no_long, taken.no_short) refl
 
+-- search FILE --tree TREE
+pub written_fault : (file tree : Text) → IsTaken file → IsTaken tree → fault_of program (codes "search" ∷ file ∷ codes "--tree" ∷ tree ∷ []) ≡ []
+unfolding clap_on_literals
+written_fault file tree taken taken_too = rw (taken.no_end, taken.no_long, taken.no_short, taken_too.no_end, taken_too.no_long, taken_too.no_short) refl
+
+pub written_names : (file tree : Text) → IsTaken file → IsTaken tree
+    → option_map named_search (subcommand_of program (codes "search" ∷ file ∷ codes "--tree" ∷ tree ∷ []))
+    ≡ Some (codes "search", Some file, Some tree, false, None, false)
+unfolding clap_on_literals
+written_names file tree taken taken_too = rw (taken.no_end, taken.no_long, taken.no_short, taken_too.no_end, taken_too.no_long, taken_too.no_short) refl
+
+-- search FILE --workers N
+pub counted_fault : (file number : Text) → IsTaken file → IsTaken number
+    → fault_of program (codes "search" ∷ file ∷ codes "--workers" ∷ number ∷ []) ≡ []
+unfolding clap_on_literals
+counted_fault file number taken taken_too = rw (taken.no_end, taken.no_long, taken.no_short, taken_too.no_end, taken_too.no_long, taken_too.no_short) refl
+
+pub counted_names : (file number : Text) → IsTaken file → IsTaken number
+    → option_map named_search (subcommand_of program (codes "search" ∷ file ∷ codes "--workers" ∷ number ∷ []))
+    ≡ Some (codes "search", Some file, None, false, Some number, false)
+unfolding clap_on_literals
+counted_names file number taken taken_too = rw (taken.no_end, taken.no_long, taken.no_short, taken_too.no_end, taken_too.no_long, taken_too.no_short) refl
+
 pub run_fault : (file faults : Text) → IsTaken file → IsTaken faults → fault_of program (codes "run" ∷ file ∷ faults ∷ []) ≡ []
 unfolding clap_on_literals
 run_fault file faults taken taken_too = rw (taken.no_end, taken.no_long, taken.no_short, taken_too.no_end, taken_too.no_long, taken_too.no_short) refl

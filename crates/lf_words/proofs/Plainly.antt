@@ -12,7 +12,8 @@ use Rattle.clap.specs.Words.{Kinds, Row, Text, fault_of, subcommand_of}
 use Rattle.lf_words.specs.Commands.{program}
 use Rattle.lf_words.specs.Plain.{asks_help, asks_version, is_plain, is_plain_command, is_unknown, takes_one, takes_two}
 use Rattle.lf_words.specs.Statuses.{exit_status, status_of}
-use Rattle.lf_words.specs.Words.{AreNamed, Asks, HasStatus, IsAskedIn, IsPlainly, IsRefusal, is_input, shares_input, texts_of}
+use Rattle.lf_words.specs.Words.{AreNamed, Asks, CanBeDone, HasStatus, IsAskedIn, IsPlainly, IsRefusal, IsUncounted, is_input, overwrites, shares_input, texts_of}
+use Rattle.lf_words.specs.Words.{written_to}
 use Rattle.lf_words.specs.declared.types.Asked.{Asked}
 use Rattle.lf_words.specs.declared.types.Asked.TheVariants as asked
 use Rattle.lf_words.specs.declared.unasked.Unasked.{Unasked}
@@ -31,10 +32,10 @@ Check = Text × Option Text × Option Text × Bool
 abbrev One : Type 0
 One = Text × Option Text × Bool
 
-abbrev Search : Type 0
+abbrev pub Search : Type 0
 Search = Text × Option Text × Option Text × Bool × Option Text × Bool
 
-both : (x y : Bool) → (x && y) ≡ true → (x ≡ true) × (y ≡ true)
+pub both : (x y : Bool) → (x && y) ≡ true → (x ≡ true) × (y ≡ true)
 both true y h = (refl, h)
 both false y h = absurd (no_truth h)
 
@@ -46,26 +47,26 @@ abbrev count : {X : Type 0} → Option X → ℕ
 count None = 0
 count (Some x) = 1
 
-no_thing : {X : Type 0} (x : X) → None ≡ Some x → ⊥
+pub no_thing : {X : Type 0} (x : X) → None ≡ Some x → ⊥
 no_thing x h = apart 0 1 (omega arith) (ap count h)
 
-some_is : {X : Type 0} (x y : X) → Some x ≡ Some y → x ≡ y
+pub some_is : {X : Type 0} (x y : X) → Some x ≡ Some y → x ≡ y
 some_is x y h = ap (λ o. unwrap_or o x) h
 
 -- the names of the commands differ in their first letters
 abbrev first : Text → ℕ
 first text = slice_index text 0
 
-run_or_search : (name : Text) → name ≡ codes "run" → name ≡ codes "search" → ⊥
+pub run_or_search : (name : Text) → name ≡ codes "run" → name ≡ codes "search" → ⊥
 run_or_search name is_run is_search = apart 114 115 (omega arith) (ap first (sym is_run ∙ is_search))
 
-check_or_search : (name : Text) → name ≡ codes "check" → name ≡ codes "search" → ⊥
+pub check_or_search : (name : Text) → name ≡ codes "check" → name ≡ codes "search" → ⊥
 check_or_search name is_check is_search = apart 99 115 (omega arith) (ap first (sym is_check ∙ is_search))
 
 check_or_run : (name : Text) → name ≡ codes "check" → name ≡ codes "run" → ⊥
 check_or_run name is_check is_run = apart 99 114 (omega arith) (ap first (sym is_check ∙ is_run))
 
-answer_or_search : (name : Text) → name ≡ codes "answer" → name ≡ codes "search" → ⊥
+pub answer_or_search : (name : Text) → name ≡ codes "answer" → name ≡ codes "search" → ⊥
 answer_or_search name is_answer is_search = apart 97 115 (omega arith) (ap first (sym is_answer ∙ is_search))
 
 answer_or_run : (name : Text) → name ≡ codes "answer" → name ≡ codes "run" → ⊥
@@ -208,13 +209,23 @@ asks_answer words (Some p) file names is =
     let found : named_one p ≡ (codes "answer", Some (string_bytes file), false) = some_is _ _ names in
     ((ap (λ (q : One). q.0) found, ap (λ (q : One). q.1) found, ap (λ (q : One). q.2) found), rw (is) (inl (refl, inl (refl, tt))))
 
+-- what is asked for by some number of workers isn't asked for by none
+pub counted : (words : List Text) (o : Option (Text × List Row)) (a : Asked) → IsAskedIn words o a → IsUncounted o → ⊥
+counted words None a asked uncounted = elim asked [ ]
+counted words (Some p) (asked.Search file tree all workers quiet) asked uncounted = uncounted.1 workers asked.0.4
+counted words (Some p) (asked.Run file faults) asked uncounted = run_or_search p.0 asked.0.0 uncounted.0
+counted words (Some p) (asked.Check file tree quiet) asked uncounted = check_or_search p.0 asked.0.0 uncounted.0
+counted words (Some p) (asked.Answer file quiet) asked uncounted = answer_or_search p.0 asked.0.0 uncounted.0
+
 -- words that are taken, and ask for something that can be done, are refused for want of memory alone
-only_memory : (words : List Text) (a : Asked) (u : Unasked) → Asks words a → ((b : Asked) → Asks words b → shares_input b ≡ true → ⊥)
+only_memory : (words : List Text) (a : Asked) (u : Unasked) → Asks words a → ((b : Asked) → Asks words b → CanBeDone b)
     → IsRefusal words u → u ≡ unasked.Memory
 only_memory words a (unasked.Told text) asks possible refusal = absurd (subst (λ (kinds : Kinds). HasStatus kinds 0) asks.0 refusal)
 only_memory words a (unasked.Wrong text) asks possible (inl kind) = absurd (subst (λ (kinds : Kinds). HasStatus kinds 2) asks.0 kind)
 only_memory words a (unasked.Wrong text) asks possible (inr nothing) = absurd (nothing.1 a asks)
-only_memory words a unasked.SharedInput asks possible shared = absurd (possible shared.0 shared.1 shared.2)
+only_memory words a (unasked.Workers text) asks possible refusal = absurd (counted words (subcommand_of program words) a asks.1 refusal.1)
+only_memory words a (unasked.Overwrites text) asks possible over = absurd (no_truth (sym (possible over.0 over.1).kept ∙ over.2))
+only_memory words a unasked.SharedInput asks possible shared = absurd (no_truth (sym (possible shared.0 shared.1).apart ∙ shared.2))
 only_memory words a unasked.Memory asks possible refusal = refl
 
 one_is : (command file : Text) → is_plain_command (command ∷ file ∷ []) ≡ true
@@ -269,19 +280,32 @@ asks_plainly (command ∷ one ∷ other ∷ []) a plain asks =
 asks_plainly (command ∷ one ∷ other ∷ more ∷ rest) a plain asks = absurd (no_truth plain)
 
 -- what shares standard input isn't asked for by plain words
-shared_not_plain : (a : Asked) → shares_input a ≡ true → is_plain_command (texts_of a) ≡ true → ⊥
-shared_not_plain (asked.Search file tree all workers quiet) shared plain = no_truth shared
-shared_not_plain (asked.Run file faults) shared plain = no_truth shared
-shared_not_plain (asked.Check file tree quiet) shared plain =
+shared_not_plain : (a : Asked) (shared : Bool) → shares_input a ≡ shared → is_plain_command (texts_of a) ≡ true → shares_input a ≡ false
+shared_not_plain a false is plain = is
+shared_not_plain (asked.Search file tree all workers quiet) true is plain = absurd (no_truth is)
+shared_not_plain (asked.Run file faults) true is plain = absurd (no_truth is)
+shared_not_plain (asked.Check file tree quiet) true is plain =
     elim (two_are (codes "check") file.bytes.items tree.bytes.items plain).0 [
-      | inl run ↦ check_or_run (codes "check") refl run
-      | inr check ↦ no_truth (sym (not-true _ check.1) ∙ shared)
+      | inl run ↦ absurd (check_or_run (codes "check") refl run)
+      | inr check ↦ absurd (no_truth (sym (not-true _ check.1) ∙ is))
     ]
-shared_not_plain (asked.Answer file quiet) shared plain = no_truth shared
+shared_not_plain (asked.Answer file quiet) true is plain = absurd (no_truth is)
 
-can_be_done : (words : List Text) → is_plain_command words ≡ true → (a : Asked) → Asks words a → shares_input a ≡ true → ⊥
-can_be_done words plain a asks shared =
-    shared_not_plain a shared (subst (λ ws. is_plain_command ws ≡ true) (sym (asks_plainly words a plain asks).texts) plain)
+-- nor a certificate
+unwritten_is_kept : (a : Asked) → written_to a ≡ None → overwrites a ≡ false
+unwritten_is_kept (asked.Search file None all workers quiet) unwritten = refl
+unwritten_is_kept (asked.Search file (Some tree) all workers quiet) unwritten = absurd (no_thing _ (sym unwritten))
+unwritten_is_kept (asked.Run file faults) unwritten = refl
+unwritten_is_kept (asked.Check file tree quiet) unwritten = refl
+unwritten_is_kept (asked.Answer file quiet) unwritten = refl
+
+can_be_done : (words : List Text) → is_plain_command words ≡ true → (a : Asked) → Asks words a → CanBeDone a
+can_be_done words plain a asks =
+    let plainly = asks_plainly words a plain asks in
+    record {
+      apart = shared_not_plain a (shares_input a) refl (subst (λ ws. is_plain_command ws ≡ true) (sym plainly.texts) plain);
+      kept = unwritten_is_kept a plainly.unwritten;
+    }
 
 asks_some : (ws : List (String Global)) → is_plain_command (map string_bytes ws) ≡ true → (a : Asked) × Asks (map string_bytes ws) a
 asks_some [] plain = absurd (no_truth plain)
@@ -373,16 +397,21 @@ shared_is (asked.Check file tree quiet) is =
     rw (one, other) refl
 shared_is (asked.Answer file quiet) is = absurd (apart 2 3 (omega arith) (ap size is))
 
+shared_plainly : (a : Asked) → Asks shared_words a → IsPlainly shared_words a
+shared_plainly a asks = check_of _ (subcommand_of program shared_words) (codes "-") (codes "-") a
+    (check_names (codes "-") (codes "-") minus_is_taken minus_is_taken) asks.1
+
 pub shared_is_refused : (words : List Text) (a : Asked) → words ≡ shared_words → Asks words a → shares_input a ≡ false → ⊥
 shared_is_refused words a is asks possible =
-    let plainly : IsPlainly shared_words a = check_of _ (subcommand_of program shared_words) (codes "-") (codes "-") a
-    (check_names (codes "-") (codes "-") minus_is_taken minus_is_taken) (subst (λ ws. Asks ws a) is asks).1 in
-    no_truth (sym possible ∙ shared_is a plainly.texts)
+    no_truth (sym possible ∙ shared_is a (shared_plainly a (subst (λ ws. Asks ws a) is asks)).texts)
 
 only_shared : (a : Asked) (u : Unasked) → Asks shared_words a → IsRefusal shared_words u → (u ≡ unasked.SharedInput) ⊎ (u ≡ unasked.Memory)
 only_shared a (unasked.Told text) asks refusal = absurd (subst (λ (kinds : Kinds). HasStatus kinds 0) asks.0 refusal)
 only_shared a (unasked.Wrong text) asks (inl kind) = absurd (subst (λ (kinds : Kinds). HasStatus kinds 2) asks.0 kind)
 only_shared a (unasked.Wrong text) asks (inr nothing) = absurd (nothing.1 a asks)
+only_shared a (unasked.Workers text) asks refusal = absurd (counted shared_words (subcommand_of program shared_words) a asks.1 refusal.1)
+only_shared a (unasked.Overwrites text) asks over =
+    absurd (no_truth (sym (unwritten_is_kept over.0 (shared_plainly over.0 over.1).unwritten) ∙ over.2))
 only_shared a unasked.SharedInput asks refusal = inl refl
 only_shared a unasked.Memory asks refusal = inr refl
 
@@ -454,6 +483,8 @@ has_one : (words : List Text) (k : ErrorKind) (ks : Kinds) (status : ℕ) (u : U
 has_one words k ks status (unasked.Told text) are one refusal = inl (one 0 (subst (λ (kinds : Kinds). HasStatus kinds 0) are refusal))
 has_one words k ks status (unasked.Wrong text) are one (inl kind) = inl (one 2 (subst (λ (kinds : Kinds). HasStatus kinds 2) are kind))
 has_one words k ks status (unasked.Wrong text) are one (inr nothing) = absurd (takes_none _ _ _ are nothing.0)
+has_one words k ks status (unasked.Workers text) are one refusal = absurd (takes_none _ _ _ are refusal.0)
+has_one words k ks status (unasked.Overwrites text) are one over = absurd (takes_none _ _ _ are over.1.0)
 has_one words k ks status unasked.SharedInput are one shared = absurd (takes_none _ _ _ are shared.1.0)
 has_one words k ks status unasked.Memory are one refusal = inr refl
 

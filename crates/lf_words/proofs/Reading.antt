@@ -9,8 +9,8 @@ use Rattle.clap.specs.declared.error.kind.ErrorKind.TheVariants as kind
 use Rattle.clap.specs.declared.parser.matches.ArgMatches.{ArgMatches}
 use Rattle.clap.proofs.OnLiterals.{clap_on_literals}
 use Rattle.lf_words.specs.Commands.{program}
-use Rattle.lf_words.specs.Statuses.{exit_status, goes_to_error, status_of}
-use Rattle.lf_words.specs.Words.{Asks, HasStatus, IsAnswer, IsAskedIn, IsRefusal, IsToldFor}
+use Rattle.lf_words.specs.Statuses.{status_of}
+use Rattle.lf_words.specs.Words.{Asks, HasStatus, IsAnswer, IsAskedIn, IsRefusal, IsToldFor, IsUnread}
 use Rattle.lf_words.specs.declared.types.Asked.{Asked}
 use Rattle.lf_words.specs.declared.unasked.Unasked.{Unasked}
 use Rattle.lf_words.specs.declared.unasked.Unasked.TheVariants as unasked
@@ -45,6 +45,8 @@ is_refusal words k (unasked.Told text) told (inl memory) = absurd (apart 0 3 (om
 is_refusal words k (unasked.Told text) told (inr among) = has_status (fault_of program words) k 0 among (sym told)
 is_refusal words k (unasked.Wrong text) told (inl memory) = absurd (apart 2 3 (omega arith) (sym told ∙ ap status_of memory))
 is_refusal words k (unasked.Wrong text) told (inr among) = inl (has_status (fault_of program words) k 2 among (sym told))
+is_refusal words k (unasked.Workers text) told among = absurd told
+is_refusal words k (unasked.Overwrites text) told among = absurd told
 is_refusal words k unasked.SharedInput told among = absurd told
 is_refusal words k unasked.Memory told among = tt
 
@@ -55,12 +57,14 @@ is_refused words k (Ok u) told among = is_refusal words k u told among
 is_refused words k (Err e) told among = tt
 
 -- the same of words that are taken and ask for nothing
-pub is_unread : (words : List Text) (u : Unasked) → exit_status u ≡ 2 → goes_to_error u ≡ true → fault_of program words ≡ []
+pub is_unread : (words : List Text) (u : Unasked) → IsUnread (subcommand_of program words) u → fault_of program words ≡ []
     → ((a : Asked) → Asks words a → ⊥) → IsRefusal words u
-is_unread words (unasked.Told text) status error taken nothing = absurd (apart 0 2 (omega arith) status)
-is_unread words (unasked.Wrong text) status error taken nothing = inr (taken, nothing)
-is_unread words unasked.SharedInput status error taken nothing = absurd (no_truth error)
-is_unread words unasked.Memory status error taken nothing = tt
+is_unread words (unasked.Told text) unread taken nothing = absurd unread
+is_unread words (unasked.Wrong text) unread taken nothing = inr (taken, nothing, unread)
+is_unread words (unasked.Workers text) unread taken nothing = (taken, unread)
+is_unread words (unasked.Overwrites text) unread taken nothing = absurd unread
+is_unread words unasked.SharedInput unread taken nothing = absurd unread
+is_unread words unasked.Memory unread taken nothing = absurd unread
 
 pub fault_is_none : (app : App) (words : List Text) (m : ArgMatches) → app ≡ program
     → (is_simple_and_free app ≡ true → fault_of app words ≡ []) → fault_of program words ≡ []

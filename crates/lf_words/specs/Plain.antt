@@ -25,6 +25,12 @@ is_plain_command (command ∷ file ∷ []) = takes_one command && is_plain file
 is_plain_command (command ∷ one ∷ other ∷ []) = takes_two command one other && (is_plain one && is_plain other)
 is_plain_command _ = false
 
+-- search FILE --tree FILE, with the same word for both: no standard input, which is `-`
+abbrev pub is_overwriting : List Text → Bool
+is_overwriting (command ∷ file ∷ name ∷ tree ∷ []) =
+    (bytes_eq command (codes "search") && bytes_eq name (codes "--tree")) && ((is_plain file && not (is_input file)) && bytes_eq file tree)
+is_overwriting _ = false
+
 -- the first word asks for help
 abbrev pub asks_help : List Text → Bool
 asks_help [] = false

@@ -9,14 +9,18 @@ use Rattle.lf_words.specs.declared.unasked.Unasked.TheVariants as unasked
 abbrev pub exit_status : Unasked → ℕ
 exit_status (unasked.Told text) = 0
 exit_status (unasked.Wrong text) = 2
+exit_status (unasked.Workers text) = 2
+exit_status (unasked.Overwrites text) = 2
 exit_status unasked.SharedInput = 2
 exit_status unasked.Memory = 3
 
--- what is told of wrong words is an error
+-- all but help and the version is told on standard error
 abbrev pub goes_to_error : Unasked → Bool
 goes_to_error (unasked.Told text) = false
 goes_to_error (unasked.Wrong text) = true
-goes_to_error unasked.SharedInput = false
+goes_to_error (unasked.Workers text) = true
+goes_to_error (unasked.Overwrites text) = true
+goes_to_error unasked.SharedInput = true
 goes_to_error unasked.Memory = true
 
 -- the status for a kind of `clap`'s refusals

@@ -1,5 +1,5 @@
 -- What words ask for.
-use Rattle.std.specs.Prelude.{◌≡◌, ◌≤◌, ◌⊎◌, ◌&&◌, ⊤, Bool, true, false, ℕ, List, [], ◌∷◌, Option, Some, None, IsSomeAnd, MatchResult, Result, codes}
+use Rattle.std.specs.Prelude.{◌≡◌, ◌≤◌, ◌⊎◌, ◌&&◌, ⊤, Bool, true, false, not, ℕ, List, [], ◌∷◌, Option, Some, None, IsSomeAnd, MatchResult, Result, codes}
 use Rattle.std.specs.Option.{option_map}
 use Rattle.std.specs.Str.{bytes_eq}
 use Rattle.std.specs.Str.Parse.{IsNumeral, digits_value, without_leading_plus}
@@ -17,6 +17,13 @@ abbrev pub IsPartOf : List Text → List Text → Type 0
 IsPartOf [] words = ⊤
 IsPartOf (text ∷ texts) [] = ⊥
 IsPartOf (text ∷ texts) (word ∷ words) = ((text ≡ word) × IsPartOf texts words) ⊎ IsPartOf (text ∷ texts) words
+
+-- the file of the scenario
+abbrev pub file_of : Asked → Text
+file_of (asked.Search file tree all workers quiet) = file.bytes.items
+file_of (asked.Run file faults) = file.bytes.items
+file_of (asked.Check file tree quiet) = file.bytes.items
+file_of (asked.Answer file quiet) = file.bytes.items
 
 -- the command, and what it requires
 abbrev pub texts_of : Asked → List Text
@@ -72,6 +79,21 @@ shares_input (asked.Run file faults) = false
 shares_input (asked.Check file tree quiet) = is_input file.bytes.items && is_input tree.bytes.items
 shares_input (asked.Answer file quiet) = false
 
+-- the certificate would be written into the file of the scenario, by the same name. `-` is standard input for a scenario, and for a
+-- certificate that is to be written a file of that name
+abbrev pub overwrites : Asked → Bool
+overwrites (asked.Search file None all workers quiet) = false
+overwrites (asked.Search file (Some tree) all workers quiet) =
+    not (is_input file.bytes.items) && bytes_eq file.bytes.items tree.bytes.items
+overwrites (asked.Run file faults) = false
+overwrites (asked.Check file tree quiet) = false
+overwrites (asked.Answer file quiet) = false
+
+-- what is asked for can be done
+pub record CanBeDone (a : Asked) : Type 0 where
+  pub apart : shares_input a ≡ false
+  pub kept : overwrites a ≡ false
+
 -- what `clap` has of a flag, which is on where it is among the words
 abbrev pub is_set : Option Text → Bool
 is_set None = false
@@ -121,22 +143,69 @@ abbrev pub IsAnswer : (Asked → Type 0) → Option Asked → Type 0
 IsAnswer P (Some a) = P a
 IsAnswer P None = (a : Asked) → P a → ⊥
 
+-- a search is asked for, and by no number of workers that may be asked for
+abbrev pub IsUncounted : Option (Text × List Row) → Type 0
+IsUncounted command =
+    IsSomeAnd command (λ p. (p.0 ≡ codes "search") × ((n : ℕ) → AreNamed (first_of (codes "workers") p.1) n → ⊥))
+
 -- a refusal of `clap`'s of this kind is told like this
 abbrev pub IsToldFor : ErrorKind → Unasked → Type 0
 IsToldFor kind (unasked.Told text) = status_of kind ≡ 0
 IsToldFor kind (unasked.Wrong text) = status_of kind ≡ 2
+IsToldFor kind (unasked.Workers text) = ⊥
+IsToldFor kind (unasked.Overwrites text) = ⊥
 IsToldFor kind unasked.SharedInput = ⊥
 IsToldFor kind unasked.Memory = ⊥
 
--- why the words ask for nothing that can be done: `clap` refuses them so, or takes them and they ask for nothing; or they ask
--- for two texts from standard input. Memory may be wanting for any words
+-- a command that asks for nothing is told like this
+abbrev pub IsUnread : Option (Text × List Row) → Unasked → Type 0
+IsUnread command (unasked.Told text) = ⊥
+IsUnread command (unasked.Wrong text) = ¬ IsUncounted command
+IsUnread command (unasked.Workers text) = IsUncounted command
+IsUnread command (unasked.Overwrites text) = ⊥
+IsUnread command unasked.SharedInput = ⊥
+IsUnread command unasked.Memory = ⊥
+
+-- what is asked for and can't be done is told like this. Memory may be wanting for it
+abbrev pub IsBarred : Asked → Unasked → Type 0
+IsBarred a (unasked.Told text) = ⊥
+IsBarred a (unasked.Wrong text) = ⊥
+IsBarred a (unasked.Workers text) = ⊥
+IsBarred a (unasked.Overwrites text) = overwrites a ≡ true
+IsBarred a unasked.SharedInput = shares_input a ≡ true
+IsBarred a unasked.Memory = ⊤
+
+-- that is told of the number of workers
+abbrev pub TellsOfWorkers : Unasked → Type 0
+TellsOfWorkers (unasked.Told text) = ⊥
+TellsOfWorkers (unasked.Wrong text) = ⊥
+TellsOfWorkers (unasked.Workers text) = ⊤
+TellsOfWorkers (unasked.Overwrites text) = ⊥
+TellsOfWorkers unasked.SharedInput = ⊥
+TellsOfWorkers unasked.Memory = ⊥
+
+-- it is told that the certificate would overwrite the scenario
+abbrev pub TellsOfOverwriting : Unasked → Type 0
+TellsOfOverwriting (unasked.Told text) = ⊥
+TellsOfOverwriting (unasked.Wrong text) = ⊥
+TellsOfOverwriting (unasked.Workers text) = ⊥
+TellsOfOverwriting (unasked.Overwrites text) = ⊤
+TellsOfOverwriting unasked.SharedInput = ⊥
+TellsOfOverwriting unasked.Memory = ⊥
+
+-- why the words ask for nothing that can be done. `clap` refuses them so; or takes them and they ask for nothing, where they ask for a
+-- search by no number of workers, or else; or they ask for two texts from standard input, or for a certificate in place of the
+-- scenario. Memory may be wanting for any words
 abbrev pub IsRefusal : List Text → Unasked → Type 0
 IsRefusal words (unasked.Told text) = HasStatus (fault_of program words) 0
 IsRefusal words (unasked.Wrong text) =
-    HasStatus (fault_of program words) 2 ⊎ ((fault_of program words ≡ []) × ((a : Asked) → Asks words a → ⊥))
+    HasStatus (fault_of program words) 2
+    ⊎ ((fault_of program words ≡ []) × ((a : Asked) → Asks words a → ⊥) × (¬ IsUncounted (subcommand_of program words)))
+IsRefusal words (unasked.Workers text) = (fault_of program words ≡ []) × IsUncounted (subcommand_of program words)
+IsRefusal words (unasked.Overwrites text) = (a : Asked) × Asks words a × (overwrites a ≡ true)
 IsRefusal words unasked.SharedInput = (a : Asked) × Asks words a × (shares_input a ≡ true)
 IsRefusal words unasked.Memory = ⊤
 
 -- words ask for this, which can be done, or are refused for this
 abbrev pub Answers : List Text → Result Asked Unasked → Type 0
-Answers words r = MatchResult r (λ a. Asks words a × (shares_input a ≡ false)) (IsRefusal words)
+Answers words r = MatchResult r (λ a. Asks words a × CanBeDone a) (IsRefusal words)

@@ -12,20 +12,65 @@ const VERSION: &str = "0.1.0";
 
 /// What the program does.
 const ABOUT: &str =
-    "Looks for the fewest faults (lost messages, crashes, pauses) with which a protocol misses the outcome that it promises.
-With no words it reads a scenario from standard input and searches, as `search -` does.";
+    "Finds the fewest faults (lost messages, crashes, pauses) that make a protocol miss the outcome that it promises.
+Without arguments it reads a scenario from standard input and searches, as `leastfault search -` does.";
 
-/// What the words of the commands stand for, and the statuses that the program exits with.
-const WORDS: &str = "Words:
-  FILE    a file with a scenario in TOML, or - for standard input
-  FAULTS  faults joined by commas, as in 'omit 0>1 @2,crash 2 @3'; the empty word '' for none
-  TREE    a file with a certificate, or - for standard input; not both FILE and TREE can be -. After --tree it is a file's name
+/// What the arguments of the commands stand for, the statuses that the program exits with, and two examples.
+const NOTES: &str = "Arguments:
+  FILE    a scenario, a TOML file; - is standard input
+  FAULTS  faults joined by single commas: 'omit 0>1 @2,crash 2 @3'; '' is no fault
+  TREE    a certificate, a JSON file; - is standard input, but not for FILE and TREE at once. After --tree it is the file to write
 
 Exit status:
-  0  no allowed set of faults misses the outcome, the run reaches it, or the certificate is right; also help and the version
-  1  a set of faults that misses the outcome was found, the run misses it, or the certificate is wrong
-  2  the scenario, the faults or the certificate's text were refused, a level was too full, or the words were wrong
-  3  memory was wanting, or a device failed";
+  0  no allowed faults make the scenario miss its outcome, the run reaches it, or the certificate is right; also help and the version
+  1  faults that make it miss were found, the run misses it, or the certificate is wrong
+  2  the arguments, the scenario, the faults or the certificate's text are refused, or a level of the search has too many sets (`full`)
+  3  out of memory (`memory`), a file or stream failed (`read`, `write`), or the workers gave no answer (`pool NUMBER`)
+
+Examples:
+  leastfault search commit.toml
+  leastfault run commit.toml 'crash 0 @2'";
+
+/// An example of `search`, and its statuses.
+const SEARCH_NOTES: &str = "Example:
+  leastfault search commit.toml --all --tree commit.json
+
+Exit status:
+  0  `none`: no allowed faults make the scenario miss its outcome
+  1  faults that make it miss were found
+  2  the arguments or the scenario are refused, or a level of the search has too many sets (`full`)
+  3  out of memory (`memory`), a file or stream failed (`read`, `write`), or the workers gave no answer (`pool NUMBER`)";
+
+/// An example of `run`, and its statuses.
+const RUN_NOTES: &str = "Example:
+  leastfault run commit.toml 'omit 0>1 @1,crash 0 @2'
+
+Exit status:
+  0  the run reaches the outcome
+  1  the run misses the outcome
+  2  the arguments, the scenario or the faults are refused
+  3  out of memory (`memory`), or a file or stream failed (`read`, `write`)";
+
+/// An example of `check`, and its statuses.
+const CHECK_NOTES: &str = "Example:
+  leastfault search commit.toml --tree commit.json
+  leastfault check commit.toml commit.json
+
+Exit status:
+  0  `yes`: the certificate's answer is the scenario's answer
+  1  `no`: the certificate is wrong
+  2  the arguments, the scenario or the certificate's text are refused
+  3  out of memory (`memory`), or a file or stream failed (`read`, `write`)";
+
+/// An example of `answer`, and its statuses.
+const ANSWER_NOTES: &str = "Example:
+  leastfault answer commit.toml
+
+Exit status:
+  0  `none`: no allowed faults make the scenario miss its outcome
+  1  faults that make it miss were found
+  2  the arguments or the scenario are refused
+  3  out of memory (`memory`), or a file or stream failed (`read`, `write`)";
 
 /// The command line of the program, with the program's name in help.
 pub(crate) fn program<'a>(alloc: Global) -> Result<Command<'a>, AllocError>
@@ -47,7 +92,7 @@ fn plain<'a>(alloc: Global) -> Result<Command<'a>, AllocError>
         .disable_help_subcommand(true)
         .subcommand_required(true)
         .about(ABOUT)
-        .after_help(WORDS)
+        .after_help(NOTES)
         .bin_name("leastfault")
 }
 
@@ -58,24 +103,25 @@ fn search<'a>(alloc: Global) -> Result<Command<'a>, AllocError>
     let command = of_file(
         alloc,
         "search",
-        "Prints the fewest faults with which the scenario FILE misses its outcome, or none",
+        "Prints the fewest faults that make the scenario FILE miss its outcome, or `none`",
+        SEARCH_NOTES,
     );
     let tree = option(
         alloc,
         "tree",
         "TREE",
-        "Writes a certificate of the answer to the file TREE",
+        "Writes the certificate of the answer to the file TREE",
     );
     let all = flag(
         alloc,
         "all",
-        "Prints all sets with so few faults, each on a line",
+        "Prints all sets with as few faults, one on each line",
     );
     let workers = option(
         alloc,
         "workers",
         "N",
-        "Searches by N workers at once, 1 to 32: the answer is the same for every N",
+        "Searches with N workers at once, 1 to 32; every N gives the same answer",
     );
     let command = with_argument(with_argument(command, tree), all);
     with_argument(with_argument(command, workers), quiet(alloc))
@@ -88,13 +134,14 @@ fn run<'a>(alloc: Global) -> Result<Command<'a>, AllocError>
     let command = of_file(
         alloc,
         "run",
-        "Runs the scenario FILE once under the faults FAULTS, and prints what happens",
+        "Runs the scenario FILE with the faults FAULTS and prints each step",
+        RUN_NOTES,
     );
     let faults = positional(
         alloc,
         "faults",
         "FAULTS",
-        "Faults joined by commas, as in 'omit 0>1 @2,crash 2 @3'; the empty word '' for none",
+        "Faults joined by single commas: 'omit 0>1 @2,crash 2 @3'; '' is no fault",
     );
     with_argument(command, faults)
 }
@@ -106,13 +153,14 @@ fn check<'a>(alloc: Global) -> Result<Command<'a>, AllocError>
     let command = of_file(
         alloc,
         "check",
-        "Judges the certificate TREE of an answer to the scenario FILE: prints yes, or why not",
+        "Checks the certificate TREE of an answer to the scenario FILE: prints `yes`, or `no` and why",
+        CHECK_NOTES,
     );
     let tree = positional(
         alloc,
         "tree",
         "TREE",
-        "A file with a certificate, or - for standard input",
+        "A certificate, the file that `search --tree` wrote; - is standard input",
     );
     with_argument(with_argument(command, tree), quiet(alloc))
 }
@@ -124,22 +172,32 @@ fn answer<'a>(alloc: Global) -> Result<Command<'a>, AllocError>
     let command = of_file(
         alloc,
         "answer",
-        "Prints what search does, by another way that no bound of the scenario on how many sets are kept can stop, and that makes no certificate",
+        "Prints the same answer as `search`, found by merging equal states of the cluster.
+It has no limit on the number of sets and writes no certificate: use it where `search` says `full`.",
+        ANSWER_NOTES,
     );
     with_argument(command, quiet(alloc))
 }
 
-/// A command with this name and the argument FILE, and what help says of it.
-fn of_file<'a>(alloc: Global, name: &'a str, about: &'a str) -> Result<Command<'a>, AllocError>
+/// A command with this name and the argument FILE, and what help says of it before and behind its arguments.
+fn of_file<'a>(
+    alloc: Global,
+    name: &'a str,
+    about: &'a str,
+    notes: &'a str,
+) -> Result<Command<'a>, AllocError>
     ensures { IfOk result (IsBuilt (of_file name.entry.now)) }
 {
     let file = positional(
         alloc,
         "file",
         "FILE",
-        "A file with a scenario in TOML, or - for standard input",
+        "A scenario, a TOML file; - is standard input",
     );
-    Command::new(alloc, name).about(about).arg(file)
+    Command::new(alloc, name)
+        .about(about)
+        .after_help(notes)
+        .arg(file)
 }
 
 /// The flag `--quiet`.
@@ -149,7 +207,7 @@ fn quiet<'a>(alloc: Global) -> Arg<'a>
     flag(
         alloc,
         "quiet",
-        "Tells nothing on the way: otherwise standard error, where it is a terminal, says how far it has come",
+        "Shows no progress; without it, standard error shows it where that is a terminal",
     )
 }
 

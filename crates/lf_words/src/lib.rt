@@ -2,10 +2,12 @@
 #![tactic(auto)]
 
 mod commands;
+mod refusals;
 mod types;
 mod unasked;
 mod words;
 
+pub use refusals::shell_word;
 pub use types::Asked;
 pub use unasked::Unasked;
-pub use words::asked;
+pub use words::{MOST_WORKERS, asked};

@@ -1,7 +1,7 @@
 //! What a command line asks for.
 
 ghost use Rattle.std.specs.Prelude.{◌≡◌};
-ghost use Rattle.lf_words.specs.Words.{shares_input};
+ghost use Rattle.lf_words.specs.Words.{file_of, overwrites, shares_input};
 
 /// What a command line asks for. A file stands here as it was written; `-` is standard input, but for a certificate that is to be
 /// written, which is a file of that name.
@@ -13,7 +13,7 @@ pub enum Asked {
         file: String,
         /// The file into which the certificate of the answer is to be written, if one is named.
         tree: Option<String>,
-        /// Whether all sets with so few faults are to be told, and not the first alone.
+        /// Whether all sets with as few faults are to be told, and not the first alone.
         all: bool,
         /// How many workers are to search, 1..=32.
         workers: u32,
@@ -46,6 +46,18 @@ pub enum Asked {
 }
 
 impl Asked {
+    /// The file of the scenario.
+    pub fn file(&self) -> &str
+        ensures { result.now ≡ file_of self.now }
+    {
+        match self {
+            Asked::Search { file, .. }
+            | Asked::Run { file, .. }
+            | Asked::Check { file, .. }
+            | Asked::Answer { file, .. } => file.as_str(),
+        }
+    }
+
     /// Whether two texts are to be read from standard input.
     pub(crate) fn shares_input(&self) -> bool
         ensures { result ≡ shares_input self.now }
@@ -53,6 +65,21 @@ impl Asked {
         match self {
             Asked::Check { file, tree, .. } => file.as_str() == "-" && tree.as_str() == "-",
             Asked::Search { .. } | Asked::Run { .. } | Asked::Answer { .. } => false,
+        }
+    }
+
+    /// Whether the certificate is to be written into the file of the scenario, as far as their names show it.
+    pub(crate) fn overwrites(&self) -> bool
+        ensures { result ≡ overwrites self.now }
+    {
+        match self {
+            Asked::Search {
+                file,
+                tree: Some(tree),
+                ..
+            } => file.as_str() != "-" && file.as_str() == tree.as_str(),
+            Asked::Search { .. } | Asked::Run { .. } | Asked::Check { .. } | Asked::Answer { .. } =>
+                false,
         }
     }
 }

@@ -5,14 +5,20 @@ ghost use Rattle.lf_words.specs.Statuses.{exit_status, goes_to_error};
 ghost use Rattle.lf_words.specs.Texts.{text_of};
 
 use std::alloc::AllocError;
+use std::error::Error;
+use std::fmt;
 
-/// Why a command line asks for nothing that can be done.
+/// Why a command line asks for nothing that can be done. It is displayed as its text without the last line feed.
 #[derive(Debug, Drop)]
 pub enum Unasked {
     /// Help or the version was asked for: what to tell.
     Told(String),
     /// The words are wrong: what to tell.
     Wrong(String),
+    /// What `--workers` names is no number in 1..=32: what to tell.
+    Workers(String),
+    /// The certificate would overwrite the scenario: what to tell.
+    Overwrites(String),
     /// Both texts of a check were to come from standard input.
     SharedInput,
     /// Memory ran out.
@@ -20,14 +26,16 @@ pub enum Unasked {
 }
 
 impl Unasked {
-    /// The status to exit with: 0 where help or the version was asked for, 2 where the words are wrong or both texts of a
-    /// check were to come from standard input, 3 for want of memory.
+    /// The status to exit with: 0 where help or the version was asked for, 3 for want of memory, and else 2.
     pub fn status(&self) -> u8
         ensures { result ≡ exit_status self.now }
     {
         match self {
             Unasked::Told(_) => 0,
-            Unasked::Wrong(_) | Unasked::SharedInput => 2,
+            Unasked::Wrong(_)
+            | Unasked::Workers(_)
+            | Unasked::Overwrites(_)
+            | Unasked::SharedInput => 2,
             Unasked::Memory => 3,
         }
     }
@@ -37,22 +45,35 @@ impl Unasked {
         ensures { result.now ≡ text_of self.now }
     {
         match self {
-            Unasked::Told(text) | Unasked::Wrong(text) => text.as_str(),
-            Unasked::SharedInput => "refused usage\n",
+            Unasked::Told(text)
+            | Unasked::Wrong(text)
+            | Unasked::Workers(text)
+            | Unasked::Overwrites(text) => text.as_str(),
+            Unasked::SharedInput => {
+                "refused usage\nFILE and TREE are both -: only one of them can be standard input\n"
+            }
             Unasked::Memory => "",
         }
     }
 
-    /// Whether the text goes to standard error. Help, the version and the line of a refusal go to standard output.
+    /// Whether the text goes to standard error. Help and the version go to standard output.
     pub fn is_error(&self) -> bool
         ensures { result ≡ goes_to_error self.now }
     {
+        !matches!(self, Unasked::Told(_))
+    }
+}
+
+impl fmt::Display for Unasked {
+    fn fmt<W: fmt::Write>(&self, f: &mut fmt::Formatter<W>) -> fmt::Result {
         match self {
-            Unasked::Told(_) | Unasked::SharedInput => false,
-            Unasked::Wrong(_) | Unasked::Memory => true,
+            Unasked::Memory => f.write_str("out of memory"),
+            _ => f.write_str(self.text().trim_end()),
         }
     }
 }
+
+impl Error for Unasked {}
 
 impl From<AllocError> for Unasked {
     ghost use Rattle.lf_words.specs.declared.unasked.Unasked.TheVariants.{Memory};

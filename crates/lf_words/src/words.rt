@@ -3,26 +3,29 @@
 ghost use Rattle.std.specs.Prelude.{◌≡◌, ◌≢◌, ◌↔◌, ◌⊎◌, ℕ, [], ◌∷◌, map, option_map, codes, false, true};
 ghost use Rattle.std.specs.Prelude.{Some, MatchOption, IsTrue, IfOk, IsErrAnd, MatchResult};
 ghost use Rattle.std.specs.String.{string_bytes};
-ghost use Rattle.clap.specs.Words.{fault_of, first_of, found_of, kind_of, rows_of, subcommand_of, subcommand_rows_of};
+ghost use Rattle.clap.specs.Words.{Text, fault_of, first_of, found_of, kind_of, rows_of, subcommand_of, subcommand_rows_of};
 ghost use Rattle.lf_words.specs.Commands.{program};
-ghost use Rattle.lf_words.specs.Plain.{asks_help, asks_version, is_plain_command, is_unknown};
-ghost use Rattle.lf_words.specs.Statuses.{exit_status, goes_to_error};
-ghost use Rattle.lf_words.specs.Words.{Answers, AreNamed, Asks, IsAnswer, IsAskedBy, IsAskedIn, IsPartOf, IsPlainly, IsRefusal, IsToldFor};
-ghost use Rattle.lf_words.specs.Words.{IsWorkers, is_set, shares_input, workers_of};
+ghost use Rattle.lf_words.specs.Plain.{asks_help, asks_version, is_overwriting, is_plain, is_plain_command, is_unknown};
+ghost use Rattle.lf_words.specs.Statuses.{exit_status};
+ghost use Rattle.lf_words.specs.Words.{Answers, AreNamed, Asks, CanBeDone, IsAnswer, IsAskedBy, IsAskedIn, IsBarred, IsPartOf, IsPlainly};
+ghost use Rattle.lf_words.specs.Words.{IsRefusal, IsToldFor, IsUnread, IsWorkers, is_set, workers_of};
+ghost use Rattle.lf_words.specs.Words.{TellsOfOverwriting, TellsOfWorkers};
 
 use crate::commands::program;
+use crate::refusals::wrong_text;
 use crate::{Asked, Unasked};
 use clap::error::ErrorKind;
 use clap::{ArgMatches, Error};
 use std::alloc::{AllocError, Global};
 
 /// The most workers that can be asked for.
-const MOST_WORKERS: u32 = 32;
+pub const MOST_WORKERS: u32 = 32;
 
 /// What the words after the program's name ask for. No words ask for `search -`.
 ///
 /// Plain words, which are `-` or don't begin with it, ask for just what they say; but `check - -`, which would have to read
-/// both its texts from standard input, is refused. Of other words, as where an option or `--` is among them, `clap` decides.
+/// both its texts from standard input, is refused. Of other words, as where an option or `--` is among them, `clap` decides; but
+/// a certificate isn't to be written into the scenario's own file, and the workers are in 1..=32.
 /// `Memory` comes only where memory has run out.
 pub fn asked(alloc: Global, words: &[String]) -> Result<Asked, Unasked>
     ensures workers { IfOk result (λ a. IsWorkers (workers_of a)) }
@@ -32,6 +35,11 @@ pub fn asked(alloc: Global, words: &[String]) -> Result<Asked, Unasked>
         (IsPlainly (map string_bytes words.now)) (λ u. u ≡ Unasked.Memory) }
     ensures shared { map string_bytes words.now ≡ codes "check" ∷ codes "-" ∷ codes "-" ∷ [] → IsErrAnd result
         (λ u. (u ≡ Unasked.SharedInput) ⊎ (u ≡ Unasked.Memory)) }
+    ensures overwriting { is_overwriting (map string_bytes words.now) ≡ true → IsErrAnd result
+        (λ u. TellsOfOverwriting u ⊎ (u ≡ Unasked.Memory)) }
+    ensures uncounted { (file number : Text) → map string_bytes words.now ≡ codes "search" ∷ file ∷ codes "--workers" ∷ number ∷ []
+        → is_plain file ≡ true → is_plain number ≡ true → ((n : ℕ) → ¬ AreNamed (Some number) n) → IsErrAnd result
+        (λ u. TellsOfWorkers u ⊎ (u ≡ Unasked.Memory)) }
     ensures help { asks_help (map string_bytes words.now) ≡ true → IsErrAnd result
         (λ u. (exit_status u ≡ 0) ⊎ (u ≡ Unasked.Memory)) }
     ensures version { asks_version (map string_bytes words.now) ≡ true → IsErrAnd result
@@ -39,7 +47,7 @@ pub fn asked(alloc: Global, words: &[String]) -> Result<Asked, Unasked>
     ensures unknown { is_unknown (map string_bytes words.now) ≡ true → IsErrAnd result
         (λ u. (exit_status u ≡ 2) ⊎ (u ≡ Unasked.Memory)) }
     ensures words { words.now ≢ [] → MatchResult result
-        (λ a. Asks (map string_bytes words.now) a × (shares_input a ≡ false)) (IsRefusal (map string_bytes words.now)) }
+        (λ a. Asks (map string_bytes words.now) a × CanBeDone a) (IsRefusal (map string_bytes words.now)) }
 {
     if words.is_empty() {
         search_of_input(alloc)
@@ -55,7 +63,7 @@ fn read(alloc: Global, words: &[String]) -> Result<Asked, Unasked>
     match program(alloc) {
         Ok(program) => match program.try_get_matches_from(words) {
             Ok(matches) => taken(alloc, words, &matches),
-            Err(error) => Err(refused(alloc, &error).unwrap_or(Unasked::Memory)),
+            Err(error) => Err(refused(alloc, words, &error).unwrap_or(Unasked::Memory)),
         },
         Err(_) => Err(Unasked::Memory),
     }
@@ -67,8 +75,8 @@ fn taken(alloc: Global, words: &[String], matches: &ArgMatches<'_>) -> Result<As
         → fault_of program (map string_bytes words.now) ≡ [] → Answers (map string_bytes words.now) result }
 {
     match command(alloc, words, matches)? {
-        Some(asked) => possible(asked),
-        None => Err(unread(alloc)?),
+        Some(asked) => possible(alloc, asked),
+        None => Err(unread(alloc, matches)?),
     }
 }
 
@@ -87,15 +95,21 @@ fn search_of_input(alloc: Global) -> Result<Asked, Unasked>
 }
 
 /// What is asked for, where it can be done.
-fn possible(asked: Asked) -> Result<Asked, Unasked>
-    ensures { MatchResult result (λ a. (a ≡ asked) × (shares_input asked ≡ false))
-        (λ u. (u ≡ Unasked.SharedInput) × (shares_input asked ≡ true)) }
+fn possible(alloc: Global, asked: Asked) -> Result<Asked, Unasked>
+    ensures { MatchResult result (λ a. (a ≡ asked) × CanBeDone asked) (IsBarred asked) }
 {
     if asked.shares_input() {
-        Err(Unasked::SharedInput)
-    } else {
-        Ok(asked)
+        return Err(Unasked::SharedInput);
     }
+    if asked.overwrites() {
+        return Err(Unasked::Overwrites(overwriting(alloc, asked.file())?));
+    }
+    Ok(asked)
+}
+
+/// What to tell where the certificate would be written into the file of the scenario.
+fn overwriting(alloc: Global, file: &str) -> Result<String, AllocError> {
+    format!(in alloc; "--tree = {file}: it would overwrite the scenario\n")
 }
 
 /// What `clap`'s matches ask for. None where they ask for nothing that is among the words.
@@ -260,15 +274,25 @@ fn value<'a>(matches: &ArgMatches<'a>, argument: &str) -> Option<&'a str>
     matches.get_str(argument)
 }
 
-/// What to tell of words that `clap` takes and that ask for nothing.
-fn unread(alloc: Global) -> Result<Unasked, AllocError>
-    ensures { IfOk result (λ u. (exit_status u ≡ 2) × (goes_to_error u ≡ true)) }
+/// What to tell of words that `clap` takes with these matches, and that ask for nothing.
+fn unread(alloc: Global, matches: &ArgMatches<'_>) -> Result<Unasked, AllocError>
+    ensures { IfOk result (IsUnread (subcommand_rows_of matches.now)) }
 {
-    Ok(Unasked::Wrong(String::from_str(alloc, "error: the words ask for nothing\n")?))
+    match matches.subcommand() {
+        Some(("search", rest)) if workers(rest).is_none() => {
+            Ok(Unasked::Workers(uncounted(alloc, value(rest, "workers").unwrap_or(""))?))
+        }
+        _ => Ok(Unasked::Wrong(String::from_str(alloc, "error: nothing is asked for\n")?)),
+    }
+}
+
+/// What to tell of a word that names no number of workers.
+fn uncounted(alloc: Global, word: &str) -> Result<String, AllocError> {
+    format!(in alloc; "--workers = {word}: a whole number from 1 to {MOST_WORKERS}\n")
 }
 
 /// What to tell of words that `clap` refuses.
-fn refused(alloc: Global, error: &Error) -> Result<Unasked, AllocError>
+fn refused(alloc: Global, words: &[String], error: &Error) -> Result<Unasked, AllocError>
     ensures { IfOk result (IsToldFor (kind_of error.now)) }
 {
     match error.kind() {
@@ -276,7 +300,7 @@ fn refused(alloc: Global, error: &Error) -> Result<Unasked, AllocError>
         ErrorKind::DisplayHelp | ErrorKind::DisplayVersion => {
             Ok(Unasked::Told(error.to_string(alloc)?))
         }
-        _ => Ok(Unasked::Wrong(error.to_string(alloc)?)),
+        _ => Ok(Unasked::Wrong(wrong_text(alloc, words, error)?)),
     }
 }
 

@@ -1,6 +1,6 @@
 use Rattle.std.proofs.Common.{map}
 use Rattle.std.specs.String.{string_bytes}
-use Rattle.lf_words.proofs.Answered.{help_of, plain_of, range_of, shared_of, unknown_of, version_of}
+use Rattle.lf_words.proofs.Answered.{help_of, overwriting_of, plain_of, range_of, shared_of, uncounted_of, unknown_of, version_of}
 use Rattle.lf_words.proofs.words.asked.Goals as goal
 
 pub returns-else-is_empty-clause-workers : goal.returns-else-is_empty-clause-workers
@@ -14,6 +14,13 @@ returns-else-is_empty-clause-plain c is = plain_of c.args.words.now c.read.resul
 
 pub returns-else-is_empty-clause-shared : goal.returns-else-is_empty-clause-shared
 returns-else-is_empty-clause-shared c is = shared_of c.args.words.now c.read.result is c.read.ensures
+
+pub returns-else-is_empty-clause-overwriting : goal.returns-else-is_empty-clause-overwriting
+returns-else-is_empty-clause-overwriting c is = overwriting_of c.args.words.now c.read.result is c.read.ensures
+
+pub returns-else-is_empty-clause-uncounted : goal.returns-else-is_empty-clause-uncounted
+returns-else-is_empty-clause-uncounted c file number is plain plain_too none =
+    uncounted_of (map string_bytes c.args.words.now) file number c.read.result is plain plain_too none c.read.ensures
 
 pub returns-else-is_empty-clause-help : goal.returns-else-is_empty-clause-help
 returns-else-is_empty-clause-help c is = help_of (map string_bytes c.args.words.now) c.read.result is c.read.ensures
