@@ -1,5 +1,6 @@
 mod BookLemmas
 mod CountLemmas
 mod FullLemmas
+mod KeepLemmas
 pub mod Laws
 mod TurnLemmas

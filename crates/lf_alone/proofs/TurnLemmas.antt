@@ -8,16 +8,18 @@ use Rattle.std.specs.List.{Contains}
 use Rattle.lf_list.proofs.Laws.{Contains-first}
 use Rattle.lf_faults.specs.declared.spec.Bounds.{Bounds}
 use Rattle.lf_marks.specs.Answers.{mark_for}
-use Rattle.lf_marks.specs.Counting.{AreCounts, AreThose}
-use Rattle.lf_marks.specs.Steps.{Mark, Marking, IsUnmarked, Answered, WentDown, kids_beneath, kid_of, only_root, raised}
+use Rattle.lf_marks.specs.Counting.{AreThose, IsCount}
+use Rattle.lf_marks.specs.Steps.{Mark, Marking, IsUnmarked, Answered, Reclaimed, WentDown, kids_beneath, kid_of, only_root, freed, raised}
 use Rattle.lf_marks.specs.Steps as mark
 use Rattle.lf_marks.specs.declared.grown.Answer.{Answer}
 use Rattle.lf_marks.specs.declared.grown.Answer.TheVariants as answers
 use Rattle.lf_scenario.specs.Limits.{most_sets}
-use Rattle.lf_search.specs.Events.{TakesSet, FilesMark, GoesDown}
+use Rattle.lf_search.specs.Events.{FindsSpent, TakesSet, FilesMark, GoesDown, IsUnclaimed, Reclaims}
 use Rattle.lf_search.specs.States.{State, IsStart}
 use Rattle.lf_search.specs.Tasks.{Task}
-use Rattle.lf_alone.specs.Turns.{HasTickets, IsNextTurn, IsUnderway}
+use Rattle.lf_alone.specs.Turns.{HasTickets, IsNextTurn, IsUnderway, IsWorked}
+use Rattle.lf_alone.specs.declared.finishing.Worked.{Worked}
+use Rattle.lf_alone.specs.declared.finishing.Worked.TheVariants as worked
 use Rattle.lf_alone.proofs.CountLemmas.{without}
 
 -- at the beginning the empty set alone is open
@@ -41,9 +43,27 @@ started s start = record {
   } ∣₁;
 }
 
+-- a search that has not begun is as it was once its claims are open again
+freed_root : (p : List ℕ) → option_map freed (only_root p) ≡ only_root p
+freed_root [] = refl
+freed_root (i ∷ path) = refl
+
+pub reclaimed_start : (old new : State) → IsStart old → Reclaims old new → IsUnderway new
+reclaimed_start old new start step = started new (record {
+  level = step.keeps.level ∙ start.level;
+  next = step.keeps.next ∙ start.next;
+  finished = step.keeps.finished ∙ start.finished;
+  marks = λ p. step.marks p ∙ ap (option_map freed) (start.marks p) ∙ freed_root p;
+})
+
 -- there is a ticket for the next set
 pub has_ticket : (s : State) → IsUnderway s → s.next ≤ 7000001
 has_ticket s u = ∥∥₁_elim u.tickets le_prop (λ t. omega (arith, t.few, u.high))
+
+-- where a level isn't worked to its end, there is none
+pub spent_of : (old new : State) (w : Worked) → (w ≡ worked.Done → ⊥) → IsWorked old new w → FindsSpent new new
+spent_of old new worked.Done other is = absurd (other refl)
+spent_of old new worked.Spent other is = is
 
 -- an answer leaves a set neither open nor claimed
 pub not_open : (a : Answer) → mark_for a ≡ mark.Open → ⊥
@@ -67,10 +87,18 @@ module _ (old mid new : State) (path : List ℕ) (ticket : ℕ) (task other : Ta
       λ i within same. waits (let both : Some mark.Waiting ≡ Some n = sym (filed.marks.kids i within) ∙ ap new.marks (sym same) ∙ is in cc) in
       (apart, sym (took.marks.others q apart) ∙ sym (filed.marks.others q apart unlike) ∙ is)
 
-  pub turned : IsNextTurn old new
-  turned = record { level = filed.keeps.level ∙ took.level; next = filed.keeps.next ∙ took.next }
+  module _ (unready : m ≢ mark.Open) (unclaimed : (t : ℕ) → m ≢ mark.Claimed t) where
+    still_free : IsUnclaimed old.marks → IsUnclaimed new.marks
+    still_free free t p is = free t p (had p (mark.Claimed t) (unclaimed t) (λ e. cc) is).1
 
-  module _ (unready : m ≢ mark.Open) (unclaimed : (t : ℕ) → m ≢ mark.Claimed t) (u : IsUnderway old) where
+    pub turned : IsUnclaimed old.marks → IsNextTurn old new
+    turned free = record {
+      level = filed.keeps.level ∙ took.level;
+      room = took.room;
+      next = filed.keeps.next ∙ took.next;
+      free = still_free free;
+    }
+
     tickets_left : HasTickets old → HasTickets new
     tickets_left t =
         let r = without t.paths path (t.ready path took.marks.was) in
@@ -79,14 +107,14 @@ module _ (old mid new : State) (path : List ℕ) (ticket : ℕ) (task other : Ta
           ready = λ p is.
               let before = had p mark.Open unready (λ e. cc) is in
               elim (r.kept p (t.ready p before.1)) [ inl same ↦ absurd (before.0 same) | inr kept ↦ kept ];
-          few = omega (arith, t.few, r.count, turned.level, turned.next);
+          few = omega (arith, t.few, r.count, filed.keeps.level, took.level, filed.keeps.next, took.next);
         }
 
-    pub goes_on : IsUnderway new
-    goes_on = record {
+    pub goes_on : IsUnderway old → IsUnderway new
+    goes_on u = record {
       going = filed.keeps.finished ∙ took.finished ∙ u.going;
-      free = λ t p is. u.free t p (had p (mark.Claimed t) (unclaimed t) (λ e. cc) is).1;
-      high = omega (arith, turned.level, u.high);
+      free = still_free u.free;
+      high = omega (arith, filed.keeps.level, took.level, u.high);
       tickets = ∥∥₁_map u.tickets tickets_left;
     }
 
@@ -109,24 +137,27 @@ raised_claimed (Some mark.Misses) t is = let never : Some mark.Misses ≡ Some (
 raised_claimed (Some mark.Reaches) t is = let never : Some mark.Reaches ≡ Some (mark.Claimed t) = is in cc
 raised_claimed (Some (mark.Branch reach edges)) t is = let never : Some (mark.Branch reach edges) ≡ Some (mark.Claimed t) = is in cc
 
-module _ (b : Bounds) (most : ℕ) (old new : State) (r c a n : ℕ) (kept : most ≤ most_sets) (small : b.budget ≤ 6)
-    (counts : AreCounts old.marks r c a n) (down : GoesDown b most old new) (u : IsUnderway old) where
-  opened : (ps : List (List ℕ)) → AreThose (λ p. old.marks p ≡ Some mark.Waiting) ps → length ps ≡ n → HasTickets old → HasTickets new
-  opened ps those long t = record {
+module _ (b : Bounds) (most : ℕ) (old new : State) (n : ℕ) (kept : most ≤ most_sets) (small : b.budget ≤ 6) (down : GoesDown b most old new) where
+  freely : IsUnclaimed new.marks
+  freely t p is = down.done.free t p (raised_claimed (old.marks p) t (sym (down.marks p) ∙ is))
+
+  lower : new.level ≤ 6
+  lower = omega (arith, down.level, down.above, small)
+
+  opened : (ps : List (List ℕ)) → AreThose (λ p. old.marks p ≡ Some mark.Waiting) ps → n ≤ most → length ps ≡ n → HasTickets old → HasTickets new
+  opened ps those waiting long t = record {
     paths = ps;
     ready = λ p is. elim (raised_open (old.marks p) (sym (down.marks p) ∙ is)) [
       | inl waited ↦ those.all p waited
       | inr was ↦ absurd (down.done.none p was)
     ];
-    few =
-        let waiting : n ≤ most = down.few n counts.waiting in
-        omega (arith, t.few, long, waiting, kept, down.level, down.next);
+    few = omega (arith, t.few, long, waiting, kept, down.level, down.next);
   }
 
-  pub gone_down : IsUnderway new
-  gone_down = record {
+  pub gone_down : IsCount (λ p. old.marks p ≡ Some mark.Waiting) n → IsUnderway old → IsUnderway new
+  gone_down counted u = record {
     going = down.finished ∙ u.going;
-    free = λ t p is. down.done.free t p (raised_claimed (old.marks p) t (sym (down.marks p) ∙ is));
-    high = omega (arith, down.level, down.above, small);
-    tickets = ∥∥₁_elim u.tickets ∥∥₁_prop (λ t. ∥∥₁_map counts.waiting (λ l. opened l.0 l.1 l.2 t));
+    free = freely;
+    high = lower;
+    tickets = ∥∥₁_elim u.tickets ∥∥₁_prop (λ t. ∥∥₁_map counted (λ l. opened l.0 l.1 (down.few n counted) l.2 t));
   }

@@ -1,9 +1,13 @@
 -- How a search ends.
-use Rattle.std.specs.Prelude.{◌≡◌, ℕ, true}
+use Rattle.std.specs.Prelude.{◌≡◌, ℕ, ◌+◌, true}
 use Rattle.lf_alone.specs.declared.ended.Ended.{Ended}
 use Rattle.lf_alone.specs.declared.ended.Ended.TheVariants as ended
+use Rattle.lf_alone.specs.declared.stop.Stop.{Stop}
+use Rattle.lf_alone.specs.declared.stop.Stop.TheVariants as stop
 use Rattle.lf_book.specs.Books.{scenario_of, state_of}
+use Rattle.lf_book.specs.declared.book.Book.{Book}
 use Rattle.lf_scenario.specs.declared.scenario.Scenario.{Scenario}
+use Rattle.lf_search.specs.Events.{FindsFull, FindsSpent}
 use Rattle.lf_search.specs.Levels.{IsFullAt}
 use Rattle.lf_sim.specs.Settings.{world_of}
 
@@ -19,3 +23,15 @@ IsNeverFull s = (k count : ℕ) → ¬ IsFull s k count
 abbrev pub IsEnd : Scenario → Ended → Type 0
 IsEnd s (ended.Finished book) = (scenario_of book ≡ s) × ((state_of book).finished ≡ true) × IsNeverFull s
 IsEnd s (ended.Full level count) = IsFull s level count
+
+-- a book can't be deepened: k is the next level, where so many sets wait, more than may be kept, and it is the first such level
+pub record IsStuck (book : Book) (k count : ℕ) : Type 0 where
+  pub level : k ≡ (state_of book).level + 1
+  pub full : FindsFull (scenario_of book).setting.spec (scenario_of book).max_sets count (state_of book) (state_of book)
+  pub first : IsFull (scenario_of book) k count
+
+-- a search stops: its book is finished, and no level was too full; or the next level is; or a set is open, and there is no ticket for it
+abbrev pub IsStop : Book → Stop → Type 0
+IsStop book stop.Finished = ((state_of book).finished ≡ true) × IsNeverFull (scenario_of book)
+IsStop book (stop.Full level count) = IsStuck book level count
+IsStop book stop.Spent = FindsSpent (state_of book) (state_of book)

@@ -1,15 +1,15 @@
 -- How many sets are answered: filing raises it by one, and nothing else changes it.
-use Rattle.std.proofs.Common.{◌≡◌, ◌≢◌, ℕ, ◌+◌, ◌<◌, ◌≤◌, refl, sym, ap, ◌∙◌, subst, arith, List, [], ◌∷◌, length, inl, inr}
+use Rattle.std.proofs.Common.{◌≡◌, ◌≢◌, ℕ, ◌+◌, ◌<◌, refl, sym, ap, ◌∙◌, subst, arith, List, [], ◌∷◌, length, inl, inr}
 use Rattle.std.specs.Prelude.{◌⊎◌, Option, None, Some, IsSome}
 use Rattle.std.specs.Option.{option_map}
 use Rattle.std.specs.List.{Contains}
-use mathlib.Core.Logic.{∥∥₁_elim, ∥∥₁_map}
-use Rattle.std.proofs.lemmas.Bool.{cases_eq, cases_lt}
-use Rattle.lf_list.proofs.Laws.{none-in, Contains-first, Contains-more, cases_in, each-in, each-from, decide_some_below}
+use mathlib.Core.Logic.{∥∥₁_map}
+use Rattle.std.proofs.lemmas.Bool.{cases_eq}
+use Rattle.lf_list.proofs.Laws.{none-in, Contains-first, Contains-more, cases_in, each-from, decide_some_below}
 use Rattle.lf_marks.specs.Steps.{Mark, Marking, kid_of, kids_beneath, IsAnswer, IsShape, IsSame, Took, Answered, GaveBack, Reclaimed, WentDown}
 use Rattle.lf_marks.specs.Steps.{freed, raised, only_root}
 use Rattle.lf_marks.specs.Steps as mark
-use Rattle.lf_marks.specs.Counting.{IsApart, AreThose, IsCount, OfKind}
+use Rattle.lf_marks.specs.Counting.{AreThose, IsCount, OfKind}
 
 -- the paths with a property, each once
 Listing : (List ℕ → Type 0) → ℕ → Type 0

@@ -3,22 +3,23 @@ use mathlib.Core.Logic.{∥∥₁_elim, ∥∥₁_prop}
 use Rattle.std.proofs.Common.{◌≡◌, ℕ, ◌+◌, refl, sym, ap, ◌∙◌, subst, arith, true, false, Bool, List, [], ◌∷◌, ◌++◌, inl, inr}
 use Rattle.std.specs.Arc.{arc_value}
 use Rattle.std.proofs.lemmas.List.{append_assoc}
-use Rattle.std.specs.Prelude.{Result, Ok, Err, IfOk, OnOk, OnErr, MatchBool, is_err}
+use Rattle.std.specs.Prelude.{Result, Ok, Err, IfOk, IfErr, OnOk, OnErr, MatchBool, is_err}
 use Rattle.lf_marks.specs.Steps.{IsAnswer}
 use Rattle.lf_marks.specs.Answers.{mark_for}
 use Rattle.lf_marks.specs.Counting.{OfKind}
 use Rattle.lf_marks.specs.declared.grown.Answer.{Answer}
 use Rattle.lf_marks.specs.declared.grown.Answer.TheVariants.{Misses, Reaches, Branch}
-use Rattle.lf_book.specs.Books.{scenario_of, state_of, task_of_job, IsClaimOf, IsClosedFor, IfNoJob, IsTaken, IsDeepened, IsFiled, IsGivenBack}
+use Rattle.lf_book.specs.Books.{scenario_of, state_of, task_of_finding, IsClosedFor, IsRefusedFor, IfNoJob, IsTaken, IsDeepened, IsFiled, IsGivenBack}
 use Rattle.lf_book.specs.declared.book.Book.{Book}
 use Rattle.lf_book.specs.declared.taking.Taken.{Taken}
 use Rattle.lf_book.specs.declared.taking.Taken.TheVariants as taken
+use Rattle.lf_alone.proofs.Laws.{never_refused}
+use Rattle.lf_book.specs.declared.filing.Refusal.{Refusal}
 use Rattle.lf_book.specs.declared.deepening.Deepened.{Deepened}
 use Rattle.lf_book.specs.declared.deepening.Deepened.TheVariants as deepened
 use Rattle.lf_work.specs.declared.finding.Finding.{Finding}
 use Rattle.lf_work.specs.declared.job.Job.{Job}
-use Rattle.lf_work.specs.Jobs.{IsOfJob}
-use Rattle.lf_pool.specs.Holds.{AreFiled, AreGivenBack, AreOfJobs, AreTaken, IsAnsweredCount, IsBusy}
+use Rattle.lf_pool.specs.Holds.{AreFiled, AreGivenBack, AreTaken, IsAnsweredCount, IsBusy, IsFindingClaimed, IsJobClaimed}
 use Rattle.lf_book.proofs.Laws.{count_one}
 use Rattle.lf_pool.proofs.CountLemmas.{same-counted, took-counted, back-counted, down-counted, filed-counted}
 
@@ -82,6 +83,14 @@ pub file-counted : {Done Back : Type 0} (old new : Book) (finding : Finding) (r 
 file-counted old new finding (Ok t) n filed is closed c = filed-counted-book old new finding n closed is c
 file-counted old new finding (Err e) n filed is closed c = absurd cc
 
+-- what is refused is of no claim
+pub refused-unclaimed : {Done : Type 0} (book : Book) (finding : Finding) (r : Result Done (Refusal × Finding)) → is_err r ≡ true
+    → IfErr r (λ back. IsRefusedFor book finding.job.ticket (arc_value finding.job.scenario) finding.job.path.items (task_of_finding finding) back.0)
+    → IsFindingClaimed book finding → ⊥
+refused-unclaimed book finding (Ok done) failed refused claimed = absurd cc
+refused-unclaimed book finding (Err back) failed refused claimed =
+    never_refused book finding.job.ticket (arc_value finding.job.scenario) finding.job.path.items (task_of_finding finding) back.0 refused claimed
+
 -- a book has one number of answered sets
 pub answered-one : (book : Book) (n m : ℕ) → IsAnsweredCount book n → IsAnsweredCount book m → n ≡ m
 answered-one book n m = count_one (λ p. OfKind IsAnswer ((state_of book).marks p)) n m
@@ -98,17 +107,15 @@ taken-more (j ∷ jobs) job old mid new h e = (h.0, h.1, taken-more jobs job h.0
 
 -- one finding more is filed or refused,
 pub filed-more : (filed : Bool) (finding : Finding) (done : List Finding) (n start was is : ℕ) (old mid new : Book) → AreFiled done n old mid
-    → MatchBool filed (IsFiled finding mid new × (is ≡ was + 1)) ((new ≡ mid) × (is ≡ was)) → was ≡ start + n
+    → MatchBool filed (IsFiled finding mid new × (is ≡ was + 1)) ((¬ IsFindingClaimed mid finding) × (new ≡ mid) × (is ≡ was)) → was ≡ start + n
     → (m : ℕ) × AreFiled (finding ∷ done) m old new × (is ≡ start + m)
 filed-more true finding done n start was is old mid new h e same =
     (n + 1, (n, mid, h, inl (e.0, refl)), omega (arith, e.1, same))
 filed-more false finding done n start was is old mid new h e same =
-    (n, (n, mid, h, inr (e.0, refl)), omega (arith, e.1, same))
+    (n, (n, mid, h, inr (e.0, e.1, refl)), omega (arith, e.2, same))
 
 -- and one job more is given back or has no claim
 pub given-more : (given : Bool) (job : Job) (done : List Job) (old mid new : Book) → AreGivenBack done old mid
-    → MatchBool given (IsGivenBack job mid new)
-    ((¬ IsClaimOf mid job.ticket (arc_value job.scenario) job.path.items (task_of_job job)) × (new ≡ mid))
-    → AreGivenBack (job ∷ done) old new
+    → MatchBool given (IsGivenBack job mid new) ((¬ IsJobClaimed mid job) × (new ≡ mid)) → AreGivenBack (job ∷ done) old new
 given-more true job done old mid new h e = (mid, h, inl e)
 given-more false job done old mid new h e = (mid, h, inr e)

@@ -34,10 +34,6 @@ found-one s set other tree second runs more h k =
     let same = searched_one s tree second runs more h.searched k.searched in
     (sym h.same ∙ ap (λ t. t.answer) same.0 ∙ k.same, same.0, same.1)
 
-pub found-not-full : (s : Scenario) (set : Option (List Parts)) (tree : Tree) (runs count : ℕ) (book : Book) → IsFoundIn s set tree runs
-    → IsFullBook s count book → ⊥
-found-not-full s set tree runs count book h k = h.searched.fits ((state_of book).level + 1) count k.first
-
 module _ {Local Note Fact : Type 0} (w : World Local Note Fact) (b : Bounds) (formula : Formula Fact) (most : ℕ) where
   -- of two levels that are the first that is too full neither is higher
   not_lower : (k j n m : ℕ) → IsFullAt w b formula most k n → IsFullAt w b formula most j m → k < j → ⊥

@@ -10,16 +10,23 @@ use denote.Struct.Field.{shr_ref_field, mut_ref_field}
 use denote.Struct.Tuple as tuple
 use Rattle.std.proofs.Crossing.{crosses}
 use Rattle.std.proofs.sync.ledger.Book.TheSendSync as total
+use Rattle.std.proofs.sync.ledger.Share.TheSendSync as part
 use Rattle.std.proofs.sync.Mutex.TheSendSync as mutex
 use Rattle.std.proofs.sync.Condvar.TheSendSync as condvar
 use Rattle.std.specs.declared.sync.ledger.Ledger as ledger
 use Rattle.lf_book.specs.contracts.book.Book as book
+use Rattle.lf_marks.specs.contracts.grown.Answer as answer
 use Rattle.lf_marks.specs.contracts.marks.Marks as marks
 use Rattle.lf_outcome.proofs.Laws.{formulas_cross}
+use Rattle.lf_pool.specs.contracts.hands.Hands as hands
 use Rattle.lf_pool.specs.contracts.locked.Locked as locked
+use Rattle.lf_pool.specs.contracts.share.Share as share
 use Rattle.lf_pool.specs.contracts.shared.SharedBook as shared
 use Rattle.lf_scenario.specs.contracts.scenario.Scenario as scenario
 use Rattle.lf_tree.proofs.Laws.{nodes_cross}
+use Rattle.lf_work.specs.contracts.finding.Finding as finding
+use Rattle.lf_work.specs.contracts.job.Job as job
+use Rattle.lf_work.specs.contracts.working.Scratch as scratch
 
 scenario_send : IsSend scenario.the_row
 scenario_send = search (crosses, formulas_cross, sendable) depth 60 fits 20000
@@ -33,6 +40,21 @@ marks_send = search (crosses, nodes_cross, sendable) depth 60 fits 20000
 book_send : IsSend (book.the_field).row
 book_send = search (scenario_send, scenario_sync, marks_send, crosses, sendable) depth 60 fits 20000
 
+job_send : IsSend (job.the_field).row
+job_send = search (scenario_send, scenario_sync, crosses, sendable) depth 60 fits 20000
+
+answer_send : IsSend (answer.the_field).row
+answer_send = search (crosses, nodes_cross, sendable) depth 60 fits 20000
+
+finding_send : IsSend (finding.the_field).row
+finding_send = search (job_send, answer_send, scenario_send, scenario_sync, crosses, sendable) depth 60 fits 20000
+
+hands_send : IsSend hands.the_row
+hands_send = search (job_send, finding_send, crosses, sendable) depth 60 fits 20000
+
+scratch_send : IsSend (scratch.the_field).row
+scratch_send = search (crosses, sendable) depth 60 fits 20000
+
 module _ (T : RattleType) (g : ledger.Ghosts T.Denot) where
   locked_send : IsSend (locked.the_row T g)
   locked_send = recorded_send (locked.the_field T g).row _ _ (locked.the_type T g).to_one
@@ -41,6 +63,19 @@ module _ (T : RattleType) (g : ledger.Ghosts T.Denot) where
   pub shared_sync : IsSync (shared.the_row T g)
   shared_sync = recorded_sync (shared.the_field T g).row _ _ (shared.the_type T g).to_one
       (struct_sync (shape (shared.the_type T g)) (mutex.the_sync (locked.the_row T g) locked_send, (condvar.the_field_sync, tt)))
+
+  pub share_send : IsSend (share.the_row T g)
+  share_send = recorded_send (share.the_field T g).row _ _ (share.the_type T g).to_one
+      (struct_send (shape (share.the_type T g)) (
+        search (crosses, sendable),
+        (
+          part.the_send T g,
+          (
+            scratch_send,
+            (search (hands_send, crosses, sendable), tt),
+          ),
+        ),
+      ))
 
 -- what a worker's thread is given
 module _ (name : Sym) (R S X G : RattleType) (a b c d : NamedLft) (r : builtin.One R.mir) (s : builtin.One S.mir) (x : builtin.One X.mir)

@@ -1,14 +1,9 @@
 -- What is found of a scenario holds of each that is the same, and what an ended or a full search has found.
-use mathlib.Core.Logic.{∥∥₁_elim, ∥∥₁_map, ∥∥₁_prop}
-use Rattle.std.proofs.Common.{◌≡◌, ℕ, ◌+◌, ◌<◌, refl, sym, ◌∙◌, subst, true, List}
-use Rattle.std.proofs.Math.Bool.{Bool-set}
-use Rattle.std.specs.Coded.{le_prop}
-use Rattle.std.specs.Prelude.{◌↔◌, Option, Some, IsSome, Result, Ok, Err, IfOk, IfErr}
+use mathlib.Core.Logic.{∥∥₁_elim}
+use Rattle.std.proofs.Common.{◌≡◌, ℕ, refl, ◌∙◌, true, List}
+use Rattle.std.specs.Prelude.{◌↔◌, Option, IsSome, Result, Ok, Err, IfOk, IfErr}
 use Rattle.lf_faults.specs.declared.fault.Parts.{Parts}
-use Rattle.lf_faults.specs.declared.spec.Bounds.{Bounds}
-use Rattle.lf_sim.specs.Runs.{World}
 use Rattle.lf_sim.specs.Settings.{world_of}
-use Rattle.lf_outcome.specs.declared.formula.Formula.{Formula}
 use Rattle.lf_scenario.specs.declared.scenario.Scenario.{Scenario}
 use Rattle.lf_scenario.specs.Sameness.{AreSame}
 use Rattle.lf_scenario.proofs.Laws.{worlds_are_one}
@@ -18,23 +13,22 @@ use Rattle.lf_certificate.specs.Grown.{IsTreeOf}
 use Rattle.lf_certificate.specs.Places.{place_at}
 use Rattle.lf_marks.specs.Counting.{OfKind}
 use Rattle.lf_marks.specs.Steps as mark
-use Rattle.lf_search.specs.Events.{FindsFull, FindsSpent}
 use Rattle.lf_search.specs.Levels.{IsFullAt}
 use Rattle.lf_search.specs.States.{State}
-use Rattle.lf_search.proofs.Laws.{finds_full, finds_never_full}
+use Rattle.lf_search.proofs.Laws.{finds_never_full}
 use Rattle.lf_book.specs.Books.{scenario_of, state_of, IsClosedFor}
 use Rattle.lf_book.specs.declared.book.Book.{Book}
 use Rattle.lf_pool.specs.Holds.{IsAnsweredCount}
 use Rattle.lf_pool.specs.Solved.{AreFoundIn, AreSolved, AreWorkers, IsEnded, IsFoundIn, IsFullBook, IsLeft, IsRefused, IsSearched}
-use Rattle.lf_pool.specs.Solved.{IsSolved, IsSpentBook}
+use Rattle.lf_pool.specs.Solved.{IsSolved}
 use Rattle.lf_pool.specs.declared.finish.Ended.{Ended}
 use Rattle.lf_pool.specs.declared.finish.Ended.TheVariants as ended
 use Rattle.lf_pool.specs.declared.solving.Solved.{Solved}
 use Rattle.lf_pool.specs.declared.solving.Solved.TheVariants as solved
 use Rattle.lf_pool.specs.declared.solving.SolvedAll.{SolvedAll}
 use Rattle.lf_pool.specs.declared.solving.SolvedAll.TheVariants as all
-use Rattle.lf_pool.specs.declared.solving.PoolError.{PoolError}
-use Rattle.lf_pool.specs.declared.solving.PoolError.TheVariants as error
+use Rattle.lf_pool.specs.declared.error.PoolError.{PoolError}
+use Rattle.lf_pool.specs.declared.error.PoolError.TheVariants as error
 use Rattle.lf_pool.proofs.CountLemmas.{count-same}
 
 -- a scenario is the same as itself, and sameness goes on
@@ -107,59 +101,6 @@ pub end-refused : (s r : Scenario) (workers : ℕ) → AreSame s r → AreWorker
     → IfErr x (IsRefused s workers)
 end-refused s r workers same some (Ok end) h = h
 end-refused s r workers same some (Err e) h = left-refused s r workers same some e h
-
--- what is full is full again: there is one such thing
-full_again : {Local Note Fact : Type 0} (w : World Local Note Fact) (b : Bounds) (formula : Formula Fact) (most k count : ℕ)
-    → ∥ IsFullAt w b formula most k count ∥₁ → IsFullAt w b formula most k count
-full_again w b formula most k count mere = record {
-  within = ∥∥₁_elim mere le_prop (λ h. h.within);
-  size = ∥∥₁_elim mere ∥∥₁_prop (λ h. h.size);
-  many = ∥∥₁_elim mere (hlevel le_prop) (λ h. h.many);
-  fits = λ j n low c. ∥∥₁_elim mere le_prop (λ h. h.fits j n low c);
-  reaching = λ faults allowed few. ∥∥₁_elim mere (hlevel Bool-set) (λ h. h.reaching faults allowed few);
-}
-
--- what a deepen found full, it finds full again
-full_still : (b : Bounds) (most count : ℕ) (old new : State) → FindsFull b most count old new → FindsFull b most count new new
-full_still b most count old new e =
-    let same = e.same.marks in record {
-      done = record { none = λ p h. e.done.none p (sym (same p) ∙ h); free = λ t p h. e.done.free t p (sym (same p) ∙ h) };
-      reaching = λ p h. e.reaching p (sym (same p) ∙ h);
-      above = subst (λ l. l < b.budget) (sym e.same.level) e.above;
-      waiting = count-same (λ p. old.marks p ≡ Some mark.Waiting) (λ p. new.marks p ≡ Some mark.Waiting)
-          (λ p h. same p ∙ h) (λ p h. sym (same p) ∙ h) count e.waiting;
-      many = e.many;
-      same = record { level = refl; next = refl; finished = refl; marks = λ q. refl };
-    }
-
--- so the book can't be deepened
-pub full-book : (s : Scenario) (count : ℕ) (old new : Book) → scenario_of old ≡ s → scenario_of new ≡ s → IsBounded (world_of s.setting) s.setting.spec
-    → ∥ IsClosedFor s (state_of old) ∥₁ → FindsFull s.setting.spec s.max_sets count (state_of old) (state_of new)
-    → IsFullBook (scenario_of new) count new
-full-book s count old new was is bounded closed e =
-    let w = world_of s.setting in
-    let found : IsFullAt w s.setting.spec s.formula s.max_sets ((state_of old).level + 1) count =
-    full_again w s.setting.spec s.formula s.max_sets ((state_of old).level + 1) count
-    (∥∥₁_map closed (λ k. finds_full w s.setting.spec s.formula s.max_sets (state_of old) bounded k count (state_of new) e)) in
-    let here : IsFullBook s count new = record {
-      scenario = subst (λ r. AreSame s r) (sym is) (same-itself s);
-      full = full_still s.setting.spec s.max_sets count (state_of old) (state_of new) e;
-      first = subst (λ l. IsFullAt w s.setting.spec s.formula s.max_sets (l + 1) count) (sym e.same.level) found;
-    } in
-    subst (λ r. IsFullBook r count new) (sym is) here
-
--- a book with no ticket left still has none
-pub spent-book : (old new : Book) → FindsSpent (state_of old) (state_of new) → IsSpentBook (scenario_of new) new
-spent-book old new e =
-    let same = e.same.marks in record {
-      scenario = same-itself (scenario_of new);
-      spent = record {
-        going = e.same.finished ∙ e.going;
-        ready = λ none. e.ready (λ p h. none p (same p ∙ h));
-        spent = e.same.next ∙ e.spent;
-        same = record { level = refl; next = refl; finished = refl; marks = λ q. refl };
-      };
-    }
 
 -- an ended search was full at no level
 pub never-full : (s : Scenario) (state : State) → IsBounded (world_of s.setting) s.setting.spec → ∥ IsClosedFor s state ∥₁ → state.finished ≡ true

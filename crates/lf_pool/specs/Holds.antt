@@ -5,7 +5,7 @@ use Rattle.std.specs.Prelude.{◌≡◌, ◌⊎◌, ℕ, ◌+◌, List, [], ◌�
 use Rattle.lf_marks.specs.Counting.{IsCount, OfKind}
 use Rattle.lf_marks.specs.Steps as mark
 use Rattle.std.specs.Arc.{arc_value}
-use Rattle.lf_book.specs.Books.{state_of, task_of_job, IsTaken, IsDeepened, IsFiled, IsGivenBack, IsClaimOf}
+use Rattle.lf_book.specs.Books.{state_of, task_of_finding, task_of_job, IsTaken, IsDeepened, IsFiled, IsGivenBack, IsClaimOf}
 use Rattle.lf_book.specs.declared.book.Book.{Book}
 use Rattle.lf_book.specs.declared.taking.Taken.TheVariants as taken
 use Rattle.lf_search.specs.Events.{FindsBusy}
@@ -31,24 +31,35 @@ IsBegun old new begun.Spent = IsTaken old new taken.Spent
 abbrev pub IsBusy : Book → Type 0
 IsBusy book = FindsBusy (state_of book) (state_of book)
 
+-- a claim of the book is that of the job, or of the finding
+abbrev pub IsJobClaimed : Book → Job → Type 0
+IsJobClaimed book job = IsClaimOf book job.ticket (arc_value job.scenario) job.path.items (task_of_job job)
+
+abbrev pub IsFindingClaimed : Book → Finding → Type 0
+IsFindingClaimed book finding =
+    IsClaimOf book finding.job.ticket (arc_value finding.job.scenario) finding.job.path.items (task_of_finding finding)
+
 -- jobs were taken in one hold, each by a take, the first of the list first
 abbrev pub AreTaken : List Job → Book → Book → Type 0
 AreTaken [] old new = new ≡ old
 AreTaken (job ∷ jobs) old new = (between : Book) × IsTaken old between (taken.Job job) × AreTaken jobs between new
 
--- so many of some findings were filed in one hold, the last of the list first, and the others refused
+-- so many of some findings were filed in one hold, the last of the list first, and those refused that were of no claim
 abbrev pub AreFiled : List Finding → ℕ → Book → Book → Type 0
 AreFiled [] n old new = (n ≡ 0) × (new ≡ old)
 AreFiled (finding ∷ findings) n old new =
     (m : ℕ) × (between : Book) × AreFiled findings m old between
-    × ((IsFiled finding between new × (n ≡ m + 1)) ⊎ ((new ≡ between) × (n ≡ m)))
+    × ((IsFiled finding between new × (n ≡ m + 1)) ⊎ ((¬ IsFindingClaimed between finding) × (new ≡ between) × (n ≡ m)))
 
 -- jobs were given back in one hold, the last of the list first, but for those whose claims don't stand
 abbrev pub AreGivenBack : List Job → Book → Book → Type 0
 AreGivenBack [] old new = new ≡ old
 AreGivenBack (job ∷ jobs) old new =
-    (between : Book) × AreGivenBack jobs old between × (IsGivenBack job between new
-    ⊎ ((¬ IsClaimOf between job.ticket (arc_value job.scenario) job.path.items (task_of_job job)) × (new ≡ between)))
+    (between : Book) × AreGivenBack jobs old between × (IsGivenBack job between new ⊎ ((¬ IsJobClaimed between job) × (new ≡ between)))
+
+-- a handful was ended in one hold: so many of its findings were filed, and then the jobs that were left given back
+abbrev pub AreEnded : List Finding → List Job → ℕ → Book → Book → Type 0
+AreEnded findings jobs n old new = (between : Book) × AreFiled findings n old between × AreGivenBack jobs between new
 
 -- findings are those of jobs, the last job's first
 abbrev pub AreOfJobs : List Job → List Finding → Type 0

@@ -19,8 +19,8 @@ use Rattle.lf_pool.specs.declared.solving.Solved.{Solved}
 use Rattle.lf_pool.specs.declared.solving.Solved.TheVariants as solved
 use Rattle.lf_pool.specs.declared.solving.SolvedAll.{SolvedAll}
 use Rattle.lf_pool.specs.declared.solving.SolvedAll.TheVariants as all
-use Rattle.lf_pool.specs.declared.solving.PoolError.{PoolError}
-use Rattle.lf_pool.specs.declared.solving.PoolError.TheVariants as error
+use Rattle.lf_pool.specs.declared.error.PoolError.{PoolError}
+use Rattle.lf_pool.specs.declared.error.PoolError.TheVariants as error
 
 -- so many workers may search
 pub record AreWorkers (workers : ℕ) : Type 0 where

@@ -3,19 +3,19 @@
 ghost use Rattle.std.specs.Prelude.{◌≡◌, true, IfOk, IfErr};
 ghost use Rattle.lf_book.specs.Books.{scenario_of, state_of};
 ghost use Rattle.lf_pool.specs.Solved.{AreSolved, IsSolved};
-ghost use Rattle.lf_pool.specs.declared.solving.PoolError.TheVariants as error;
+ghost use Rattle.lf_pool.specs.declared.error.PoolError.TheVariants as error;
 
-use crate::solving::{PoolError, Solved, SolvedAll};
+use crate::error::PoolError;
+use crate::facts::books_are_closed;
+use crate::solving::{Solved, SolvedAll};
 use lf_book::Book;
-use lf_certificate::settings_are_bounded;
 
 /// The answer of an ended search.
 pub(crate) fn answer_of(book: Book) -> Solved
     requires { (state_of book).finished ≡ true }
     ensures { IsSolved (scenario_of book) result }
 {
-    settings_are_bounded(book.scenario().setting());
-    let _level = book.level();
+    books_are_closed(&book);
     let runs = book.answered();
     let Ok(tree) = book.into_tree() else {
         unreachable!()
@@ -33,8 +33,7 @@ pub(crate) fn all_of(book: Book) -> Result<SolvedAll, PoolError>
     ensures all { IfOk result (AreSolved (scenario_of book)) }
     ensures err { IfErr result (λ e. e ≡ error.Memory) }
 {
-    settings_are_bounded(book.scenario().setting());
-    let _level = book.level();
+    books_are_closed(&book);
     let runs = book.answered();
     let Ok(least) = book.all_least() else {
         return Err(PoolError::Memory);

@@ -1,25 +1,27 @@
-//! How many sets a worker takes in one hold of the lock.
+//! A worker's lists.
 
-ghost use Rattle.std.specs.Prelude.{◌≤◌};
-ghost use Rattle.lf_pool.specs.declared.hands.TheConstants.{HANDFUL};
+ghost use Rattle.std.specs.Prelude.{◌≡◌, ◌≤◌, [], vec_capacity};
+ghost use Rattle.lf_pool.specs.declared.handful.TheConstants.{HANDFUL};
 
-/// The most sets that a worker takes in one hold of the lock.
-pub(crate) const HANDFUL: usize = 32;
+use crate::handful::HANDFUL;
+use lf_work::{Finding, Job};
+use std::alloc::{AllocError, Global};
 
-/// How many sets are open for each that a worker takes in one hold. So there are some for each worker, and the last sets of a level are
-/// taken one by one.
-const OPEN_FOR_EACH: u64 = 64;
+/// A worker's lists for a handful of sets: the jobs that it took, and what it found of them. They are made once, each with room for a
+/// handful, and are empty from one handful to the next.
+#[derive(Drop)]
+pub(crate) struct Hands {
+    pub(crate) jobs: Vec<Job>,
+    pub(crate) findings: Vec<Finding>,
+    ghost empty: { (jobs.items ≡ []) × (findings.items ≡ []) },
+    ghost room: { (HANDFUL ≤ vec_capacity jobs) × (HANDFUL ≤ vec_capacity findings) },
+}
 
-/// How many sets a worker takes in one hold where so many are open. None where few are: those are taken one by one.
-pub(crate) fn handful(ready: u64) -> usize
-    ensures { result ≤ HANDFUL }
-{
-    let count = ready / OPEN_FOR_EACH;
-    if count < 2 {
-        0
-    } else if count < HANDFUL as u64 {
-        count as usize
-    } else {
-        HANDFUL
+impl Hands {
+    /// Empty lists. The error is that memory has run out.
+    pub(crate) fn new(alloc: Global) -> Result<Hands, AllocError> {
+        let jobs = Vec::with_capacity(alloc, HANDFUL)?;
+        let findings = Vec::with_capacity(alloc, HANDFUL)?;
+        Ok(Hands { jobs, findings })
     }
 }

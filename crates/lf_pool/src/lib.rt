@@ -5,8 +5,11 @@
 #![tactic(auto)]
 
 mod answers;
+mod error;
+mod facts;
 mod finish;
 mod gate;
+mod handful;
 mod hands;
 mod locked;
 mod promises;
@@ -15,9 +18,10 @@ mod shared;
 mod solving;
 mod turning;
 
+pub use error::PoolError;
 pub use gate::{Gate, NoGate};
 pub use promises::answers_are_one;
 pub use share::Share;
 pub use shared::SharedBook;
-pub use solving::{MOST_WORKERS, PoolError, Solved, SolvedAll, solve, solve_all};
+pub use solving::{MOST_WORKERS, Solved, SolvedAll, solve, solve_all};
 pub use turning::Turn;

@@ -2,7 +2,8 @@
 
 ghost use Rattle.lf_pool.specs.Holds.{IsAnsweredCount};
 
-use crate::hands::handful;
+use crate::facts::books_are_closed;
+use crate::handful::handful;
 use crate::share::Share;
 use lf_book::{Book, Deepened, Taken};
 use lf_work::{Finding, Job};
@@ -35,19 +36,11 @@ pub(crate) enum Begun {
 
 impl<L: Ledger> Locked<L> {
     ghost use Rattle.std.specs.Prelude.{◌≡◌, ◌+◌, ◌≤◌, [], length, vec_capacity, Ok, IfOk, OnErr, MatchBool, MatchOption};
-    ghost use Rattle.std.specs.Arc.{arc_value};
-    ghost use Rattle.lf_book.specs.Books.{scenario_of, IsFiled, IsGivenBack, IsTaken, IsClaimOf, task_of_job};
+    ghost use Rattle.lf_book.specs.Books.{scenario_of, IsFiled, IsGivenBack, IsTaken};
     ghost use Rattle.lf_book.specs.declared.taking.Taken.TheVariants as taken;
-    ghost use Rattle.lf_pool.specs.Holds.{AreFiled, AreGivenBack, AreTaken, IsBegun, IsBusy};
+    ghost use Rattle.lf_pool.specs.Holds.{AreEnded, AreFiled, AreGivenBack, AreTaken, IsBegun, IsBusy, IsFindingClaimed, IsJobClaimed};
     ghost use Rattle.lf_pool.specs.declared.locked.Begun.TheVariants as begun;
-    ghost use Rattle.lf_pool.specs.declared.hands.TheConstants.{HANDFUL};
-
-    /// How many sets are filed, as many as are answered.
-    pub(crate) fn counted(&self) -> u64
-        ensures { result ≡ self.now.total.total }
-    {
-        self.book.answered()
-    }
+    ghost use Rattle.lf_pool.specs.declared.handful.TheConstants.{HANDFUL};
 
     /// Takes a set, and where the level is done deepens the book. The error is that memory has run out, and changes nothing.
     pub(crate) fn begin(&mut self) -> Result<Begun, AllocError>
@@ -67,20 +60,20 @@ impl<L: Ledger> Locked<L> {
         }
     }
 
-    /// Files a finding and raises the total and the worker's share by one, or changes nothing where the book refuses it.
+    /// Files a finding and raises the total and the worker's share by one. Nothing changes where it is of no claim of the book.
     pub(crate) fn file(&mut self, share: &mut Share<L>, finding: Finding) -> bool
         ensures filed { MatchBool result
             (IsFiled finding self.old.book self.new.book × (share.new.filed ≡ share.old.filed + 1))
-            ((self.new.book ≡ self.old.book) × (share.new.filed ≡ share.old.filed)) }
+            ((¬ IsFindingClaimed self.old.book finding) × (self.new.book ≡ self.old.book) × (share.new.filed ≡ share.old.filed)) }
         ensures scenario { scenario_of self.new.book ≡ scenario_of self.old.book }
     {
         let Locked { book, total } = self;
         let Share { filed, part, .. } = share;
-        let _level = book.level();
+        books_are_closed(book);
         if book.file(finding).is_err() {
             return false;
         }
-        let _answered = book.answered();
+        books_are_closed(book);
         total.add(part, 1);
         total.audit(part);
         *filed += 1;
@@ -90,8 +83,7 @@ impl<L: Ledger> Locked<L> {
     /// Gives a job back: its set is open again. Nothing changes where no such claim stands.
     pub(crate) fn give_back(&mut self, job: Job) -> bool
         ensures given { MatchBool result (IsGivenBack job self.old.book self.new.book)
-            ((¬ IsClaimOf self.old.book job.ticket (arc_value job.scenario) job.path.items (task_of_job job))
-            × (self.new.book ≡ self.old.book)) }
+            ((¬ IsJobClaimed self.old.book job) × (self.new.book ≡ self.old.book)) }
         ensures scenario { scenario_of self.new.book ≡ scenario_of self.old.book }
         ensures total { self.new.total ≡ self.old.total }
     {
@@ -105,6 +97,7 @@ impl<L: Ledger> Locked<L> {
         requires room { HANDFUL ≤ vec_capacity jobs.old }
         ensures taken { AreTaken jobs.new.items self.old.book self.new.book }
         ensures few { length jobs.new.items ≤ HANDFUL }
+        ensures room { vec_capacity jobs.new ≡ vec_capacity jobs.old }
         ensures scenario { scenario_of self.new.book ≡ scenario_of self.old.book }
         ensures total { self.new.total ≡ self.old.total }
     {
@@ -131,9 +124,30 @@ impl<L: Ledger> Locked<L> {
         }
     }
 
+    /// Ends a handful: files what was found, then gives back the jobs that are left. Both lists are empty then, with their room. It answers how
+    /// much was filed; by so many the worker's share is raised.
+    pub(crate) fn end_some(
+        &mut self,
+        share: &mut Share<L>,
+        jobs: &mut Vec<Job>,
+        findings: &mut Vec<Finding>,
+    ) -> u64
+        ensures ended { AreEnded findings.old.items jobs.old.items result self.old.book self.new.book }
+        ensures none { (jobs.new.items ≡ []) × (findings.new.items ≡ []) }
+        ensures room { (vec_capacity jobs.new ≡ vec_capacity jobs.old) × (vec_capacity findings.new ≡ vec_capacity findings.old) }
+        ensures share { share.new.filed ≡ share.old.filed + result }
+        ensures scenario { scenario_of self.new.book ≡ scenario_of self.old.book }
+    {
+        let filed = self.file_all(share, findings);
+        self.give_back_all(jobs);
+        filed
+    }
+
     /// Files findings, the last one first, and tells how many the book didn't refuse. By so many the total and the worker's share are raised.
-    pub(crate) fn file_all(&mut self, share: &mut Share<L>, findings: &mut Vec<Finding>) -> u64
+    fn file_all(&mut self, share: &mut Share<L>, findings: &mut Vec<Finding>) -> u64
         ensures filed { AreFiled findings.old.items result self.old.book self.new.book }
+        ensures none { findings.new.items ≡ [] }
+        ensures room { vec_capacity findings.new ≡ vec_capacity findings.old }
         ensures share { share.new.filed ≡ share.old.filed + result }
         ensures scenario { scenario_of self.new.book ≡ scenario_of self.old.book }
     {
@@ -145,8 +159,10 @@ impl<L: Ledger> Locked<L> {
     }
 
     /// Gives jobs back, the last one first: their sets are open again.
-    pub(crate) fn give_back_all(&mut self, jobs: &mut Vec<Job>)
+    fn give_back_all(&mut self, jobs: &mut Vec<Job>)
         ensures given { AreGivenBack jobs.old.items self.old.book self.new.book }
+        ensures none { jobs.new.items ≡ [] }
+        ensures room { vec_capacity jobs.new ≡ vec_capacity jobs.old }
         ensures scenario { scenario_of self.new.book ≡ scenario_of self.old.book }
         ensures total { self.new.total ≡ self.old.total }
     {

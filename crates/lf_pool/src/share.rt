@@ -2,18 +2,21 @@
 
 ghost use Rattle.std.specs.Prelude.{◌≡◌};
 
+use crate::hands::Hands;
 use lf_work::Scratch;
 use std::alloc::Global;
 use std::sync::ledger;
 use std::sync::ledger::Ledger;
 
-/// A worker's part of the total of filed sets, and the memory that it keeps from job to job. It is exactly one part of its ledger.
+/// A worker's part of the total of filed sets, and the memory that it keeps from job to job and from handful to handful. It is exactly one
+/// part of its ledger.
 #[derive(Drop)]
 pub struct Share<L: Ledger> {
     pub(crate) filed: u64,
     pub(crate) part: ledger::Share<L>,
     pub(crate) scratch: Scratch,
-    pub(crate) alloc: Global,
+    /// None where memory for them had run out, and while its worker has them in hand: then it takes sets one by one.
+    pub(crate) hands: Option<Hands>,
     ghost one_part: { part.parts ≡ 1 },
     ghost same: { part.amount ≡ filed },
 }
@@ -29,7 +32,7 @@ impl<L: Ledger> Share<L> {
             filed: 0,
             part,
             scratch: Scratch::new(alloc),
-            alloc,
+            hands: Hands::new(alloc).ok(),
         }
     }
 

@@ -1,13 +1,15 @@
 //! The book that workers share.
 
 ghost use Rattle.std.specs.Prelude.{◌≡◌, ◌+◌, ◌<◌, IfOk, IfErr, OnOk, vec_len};
-ghost use Rattle.std.specs.List.{All};
+ghost use Rattle.std.specs.List.{All, sum_by};
 ghost use Rattle.lf_pool.specs.Holds.{IsAnsweredCount};
 ghost use Rattle.lf_pool.specs.Solved.{AreWorkers, IsNotBegun};
 
+use crate::error::PoolError;
+use crate::facts::books_are_closed;
 use crate::locked::Locked;
 use crate::share::Share;
-use crate::solving::{PoolError, are_workers};
+use crate::solving::are_workers;
 use lf_book::Book;
 use lf_scenario::Scenario;
 use std::alloc::{AllocError, Global};
@@ -60,7 +62,8 @@ impl<L: Ledger> SharedBook<L> {
     pub fn gather(self, shares: Vec<Share<L>>) -> (Book, u64)
         requires all { vec_len shares ≡ L.parts }
         requires some { 0 < L.parts }
-        ensures { IsAnsweredCount result.0 result.1 }
+        ensures counted { IsAnsweredCount result.0 result.1 }
+        ensures sum { result.1 ≡ sum_by (λ share. share.filed) shares.items }
     {
         let SharedBook { lock, changed: _ } = self;
         lock.into_inner().gather(shares)
@@ -72,9 +75,11 @@ impl<L: Ledger> Locked<L> {
     fn gather(self, shares: Vec<Share<L>>) -> (Book, u64)
         requires all { vec_len shares ≡ L.parts }
         requires some { 0 < L.parts }
-        ensures { IsAnsweredCount result.0 result.1 }
+        ensures book { result.0 ≡ self.book }
+        ensures counted { IsAnsweredCount result.0 result.1 }
+        ensures sum { result.1 ≡ sum_by (λ share. share.filed) shares.items }
     {
-        let _counted = self.counted();
+        books_are_closed(&self.book);
         let Locked { book, mut total } = self;
         let mut shares = shares;
         let Some(last) = shares.pop() else {

@@ -6,6 +6,7 @@ ghost use denote.Param.Send.{IsSend, IsSync};
 ghost use Rattle.lf_pool.specs.Solved.{AreSolved, AreWorkers, IsEnded, IsRefused, IsSolved, number_of};
 
 use crate::answers::{all_of, answer_of};
+use crate::error::PoolError;
 use crate::finish::{Ended, finish};
 use crate::gate::Gate;
 use crate::share::Share;
@@ -57,33 +58,6 @@ pub enum SolvedAll {
     },
     /// The next level has more sets than may be kept: a book that can't be deepened.
     Full(Book),
-}
-
-/// Why a search by several workers gives nothing.
-#[derive(Drop)]
-pub enum PoolError {
-    /// There are to be no workers, or more than `MOST_WORKERS`.
-    Workers,
-    /// Memory has run out.
-    Memory,
-    /// The book that came back is of another scenario.
-    OtherScenario(Book),
-    /// All tickets were given, and a set is open.
-    Spent(Book),
-}
-
-impl PoolError {
-    /// The number by which a reply names the error, 1..=4.
-    pub fn number(&self) -> u32
-        ensures { result ≡ number_of self.now }
-    {
-        match self {
-            PoolError::Workers => 1,
-            PoolError::Memory => 2,
-            PoolError::OtherScenario(_) => 3,
-            PoolError::Spent(_) => 4,
-        }
-    }
 }
 
 /// Whether so many workers may search.
@@ -161,7 +135,7 @@ fn search_in<L: Ledger + Send + Sync, R: Threads + Wait + Clock + Sync, G: Gate>
     if !scenario.same(book.scenario()) {
         return Err(PoolError::OtherScenario(book));
     }
-    finish(rt, alloc, book)
+    finish(alloc, book)
 }
 
 /// Lets each share's worker work until there is no more to do.

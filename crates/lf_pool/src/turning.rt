@@ -6,7 +6,7 @@ ghost use Rattle.std.specs.Sync.Mutex.{mutex_guard_value};
 ghost use Rattle.lf_pool.specs.declared.turning.Turn.TheVariants as turn;
 
 use crate::gate::Gate;
-use crate::hands::HANDFUL;
+use crate::hands::Hands;
 use crate::locked::{Begun, Locked};
 use crate::share::Share;
 use crate::shared::SharedBook;
@@ -78,8 +78,9 @@ impl<L: Ledger> SharedBook<L> {
     }
 
     /// Several turns of a worker at once, where many sets are open: it takes a handful of them, works each by the gate outside the lock, and
-    /// files what it found, so much as is answered. Where few sets are open it does nothing, and answers 0. The error is that memory has
-    /// run out: what was found before is filed, and the other sets were given back. The share is raised by one for each that was filed.
+    /// files what it found, so much as is answered. Where few sets are open, and where the worker has no lists, it does nothing, and answers 0.
+    /// The error is that memory has run out: what was found before is filed, and the other sets were given back. The share is raised by one for
+    /// each that was filed.
     pub(crate) fn work_some<R: Wait + Clock, G: Gate>(
         &self,
         rt: &R,
@@ -89,14 +90,32 @@ impl<L: Ledger> SharedBook<L> {
         ensures filed { IfOk result (λ filed. share.new.filed ≡ share.old.filed + filed) }
         ensures err { OnErr result (share.old.filed ≤ share.new.filed) }
     {
-        let mut jobs = Vec::with_capacity(share.alloc, HANDFUL)?;
-        let mut findings = Vec::with_capacity(share.alloc, HANDFUL)?;
-        self.lock.lock(rt).take_some(&mut jobs);
+        let Some(mut hands) = share.hands.take() else {
+            return Ok(0);
+        };
+        let filed = self.work_handful(rt, share, gate, &mut hands);
+        share.hands = Some(hands);
+        filed
+    }
+
+    /// The same, with the worker's lists in hand.
+    fn work_handful<R: Wait + Clock, G: Gate>(
+        &self,
+        rt: &R,
+        share: &mut Share<L>,
+        gate: &G,
+        hands: &mut Hands,
+    ) -> Result<u64, AllocError>
+        ensures filed { IfOk result (λ filed. share.new.filed ≡ share.old.filed + filed) }
+        ensures err { OnErr result (share.old.filed ≤ share.new.filed) }
+    {
+        let Hands { jobs, findings } = hands;
+        self.lock.lock(rt).take_some(jobs);
         if jobs.is_empty() {
             return Ok(0);
         }
-        let worked = work_each(rt, gate, &mut share.scratch, &mut jobs, &mut findings);
-        let filed = self.end_some(rt, share, &mut jobs, &mut findings);
+        let worked = work_each(rt, gate, &mut share.scratch, jobs, findings);
+        let filed = self.end_some(rt, share, jobs, findings);
         worked?;
         Ok(filed)
     }
@@ -109,12 +128,11 @@ impl<L: Ledger> SharedBook<L> {
         jobs: &mut Vec<Job>,
         findings: &mut Vec<Finding>,
     ) -> u64
-        ensures { share.new.filed ≡ share.old.filed + result }
+        ensures none { (jobs.new.items ≡ []) × (findings.new.items ≡ []) }
+        ensures room { (vec_capacity jobs.new ≡ vec_capacity jobs.old) × (vec_capacity findings.new ≡ vec_capacity findings.old) }
+        ensures share { share.new.filed ≡ share.old.filed + result }
     {
-        let mut guard = self.lock.lock(rt);
-        let filed = guard.file_all(share, findings);
-        guard.give_back_all(jobs);
-        drop(guard);
+        let filed = self.lock.lock(rt).end_some(share, jobs, findings);
         self.changed.notify_all();
         filed
     }
@@ -156,6 +174,7 @@ fn work_each<R: Clock, G: Gate>(
     requires room { length jobs.old.items ≤ vec_capacity findings.old }
     ensures worked { (done : List Job) × (jobs.old.items ≡ jobs.new.items ++ done) × AreOfJobs done findings.new.items }
     ensures all { OnOk result (jobs.new.items ≡ []) }
+    ensures rooms { (vec_capacity jobs.new ≡ vec_capacity jobs.old) × (vec_capacity findings.new ≡ vec_capacity findings.old) }
 {
     'jobs: while let Some(job) = jobs.pop() {
         match gate.run(rt, &job, scratch) {

@@ -8,6 +8,7 @@ use lf_pool::{Gate, NoGate};
 use lf_scenario::Scenario;
 use lf_work::{Finding, Job, Scratch, work_reusing};
 use std::alloc::{AllocError, Global};
+use std::process::Abort;
 use std::rt::Clock;
 use std::sync::atomic::Ordering::SeqCst;
 use std::sync::atomic::{AtomicBool, AtomicU64};
@@ -138,7 +139,7 @@ impl Gate for Refusing {
 }
 
 /// What three workers find where one call of their gate finds no memory, and whether one did.
-fn found_without(
+pub(crate) fn found_without(
     rt: &(impl Threads + Wait + Clock + Sync),
     alloc: Global,
     scenario: &Arc<Scenario>,
@@ -182,15 +183,47 @@ fn row_is_found(rt: &(impl Threads + Wait + Clock + Sync), alloc: Global, row: &
     }
 }
 
+/// Waits until something is done, for thirty seconds at most. Where it isn't done by then the test fails: workers that wait for one another
+/// never end by themselves.
+pub(crate) fn wait_for(rt: &(impl Clock + Abort), done: &AtomicBool) {
+    for _ in 0..30_000 {
+        if done.load(SeqCst) {
+            return;
+        }
+        thread::sleep(rt, Duration::from_millis(1));
+    }
+    agrees(rt, false, "workers that wait for one another");
+}
+
 /// Scenarios whose search runs a few sets, and more.
 const SMALL: &str = concat!(
     "retry|3 4 3 0 2|tries = 1;outcome = \"delivered\"\n",
     "primary_backup|3 6 2 0 2|patience = 3;outcome = \"one_primary\"\n",
 );
 
+/// Whether what the workers of all rows find is what one worker finds with ample memory.
+fn rows_are_found(
+    rt: &(impl Threads + Wait + Clock + Sync),
+    alloc: Global,
+    rows: &str,
+    done: &AtomicBool,
+) -> bool {
+    let mut are_found = true;
+    for row in rows.lines() {
+        are_found = are_found && row_is_found(rt, alloc, row);
+    }
+    done.store(true, SeqCst);
+    are_found
+}
+
 #[test]
 fn a_worker_without_memory_leaves_its_set_to_others(rt: HostRuntime) {
-    for row in SMALL.lines() {
-        agrees(&rt, row_is_found(&rt, rt.alloc(), row), row);
-    }
+    let alloc = rt.alloc();
+    let done = AtomicBool::new(false);
+    let (are_found, ()) = thread::join(
+        &rt,
+        || rows_are_found(&rt, alloc, SMALL, &done),
+        || wait_for(&rt, &done),
+    );
+    agrees(&rt, are_found, SMALL);
 }

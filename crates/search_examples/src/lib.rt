@@ -12,6 +12,8 @@ mod gates;
 #[cfg(test)]
 mod known;
 #[cfg(test)]
+mod large;
+#[cfg(test)]
 mod made;
 #[cfg(test)]
 mod marks;
@@ -27,5 +29,7 @@ mod texts;
 mod told;
 #[cfg(test)]
 mod turns;
+#[cfg(test)]
+mod waits;
 #[cfg(test)]
 mod works;

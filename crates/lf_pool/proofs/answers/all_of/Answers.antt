@@ -1,5 +1,4 @@
 use Rattle.std.proofs.Common.{◌≡◌, true}
-use Rattle.lf_certificate.specs.Accepted.{IsBounded}
 use Rattle.lf_sim.specs.Settings.{world_of}
 use Rattle.lf_search.specs.Levels.{AreAllLeast}
 use Rattle.lf_book.specs.Books.{scenario_of, state_of}
@@ -10,11 +9,10 @@ pub returns-clause-all : goal.returns-clause-all
 returns-clause-all c =
     let m = c.args.book in
     let s = scenario_of m in
-    let bounded : IsBounded (world_of s.setting) s.setting.spec = rw (c.setting.ensures, c.scenario.ensures) at c.settings_are_bounded.ensures in
     let found : ((state_of m).finished ≡ true) × AreAllLeast (world_of s.setting) s.setting.spec s.formula c.in-Some.sets.items =
     rw c.in-Some.is at c.in-Ok.ensures in
     record {
       least = found.1;
-      searched = ended-searched m c.in-Ok-into_tree.tree c.answered-runs.result bounded c.level-level.ensures.closed c.requires
+      searched = ended-searched m c.in-Ok-into_tree.tree c.answered-runs.result c.books_are_closed.ensures.bounded c.books_are_closed.ensures.closed c.requires
           c.in-Ok-into_tree.ensures.places c.answered-runs.ensures c.in-Ok-into_tree.ensures.tree c.in-Ok-into_tree.ensures.accepted;
     }

@@ -1,6 +1,4 @@
 use Rattle.std.proofs.Common.{refl}
-use Rattle.lf_certificate.specs.Accepted.{IsBounded}
-use Rattle.lf_sim.specs.Settings.{world_of}
 use Rattle.lf_book.specs.Books.{scenario_of}
 use Rattle.lf_pool.proofs.SolvedLemmas.{ended-searched}
 use Rattle.lf_pool.proofs.answers.answer_of.Goals as goal
@@ -9,10 +7,9 @@ pub returns : goal.returns
 returns c =
     let m = c.args.book in
     let s = scenario_of m in
-    let bounded : IsBounded (world_of s.setting) s.setting.spec = rw (c.setting.ensures, c.scenario.ensures) at c.settings_are_bounded.ensures in
     record {
       answer = c.in-Ok.ensures.tree.answer;
       same = refl;
-      searched = ended-searched m c.in-Ok.tree c.answered-runs.result bounded c.level-level.ensures.closed c.requires c.in-Ok.ensures.places
+      searched = ended-searched m c.in-Ok.tree c.answered-runs.result c.books_are_closed.ensures.bounded c.books_are_closed.ensures.closed c.requires c.in-Ok.ensures.places
           c.answered-runs.ensures c.in-Ok.ensures.tree c.in-Ok.ensures.accepted;
     }

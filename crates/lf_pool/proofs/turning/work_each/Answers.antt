@@ -1,4 +1,4 @@
-use Rattle.std.proofs.Common.{◌≡◌, ◌∷◌, arith}
+use Rattle.std.proofs.Common.{◌∷◌, ◌∙◌, arith}
 use Rattle.lf_pool.proofs.HoldLemmas.{one-off}
 use Rattle.lf_pool.proofs.turning.work_each.Goals as goal
 
@@ -12,5 +12,6 @@ jobs-preserved g c =
       done = job ∷ so.done;
       rest = one-off c.args.jobs.now.items c.jobs.jobs.items c.pop.new.self.items so.done job so.rest popped.items;
       worked = (c.jobs.findings.items, c.in-Ok.finding, put.items, c.in-Ok.ensures, so.worked);
+      rooms = (popped.capacity ∙ so.rooms.0, put.capacity ∙ so.rooms.1);
       room = omega (arith, so.room, popped.len, put.len, put.capacity);
     }

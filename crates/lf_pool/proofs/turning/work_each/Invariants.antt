@@ -1,4 +1,4 @@
-use Rattle.std.specs.Prelude.{◌≡◌, ℕ, ◌+◌, ◌≤◌, ◌++◌, List, length, vec_capacity}
+use Rattle.std.specs.Prelude.{◌≡◌, ◌+◌, ◌≤◌, ◌++◌, List, length, vec_capacity}
 use Rattle.lf_work.specs.declared.job.Job.{Job}
 use Rattle.lf_pool.specs.Holds.{AreOfJobs}
 use Rattle.lf_pool.proofs.turning.work_each.Given as goal
@@ -8,6 +8,7 @@ invariant-jobs g l = record {
   done : List Job;
   rest : l.initial.jobs.items ≡ l.jobs.items ++ done;
   worked : AreOfJobs done l.findings.items;
+  rooms : (vec_capacity l.jobs ≡ vec_capacity l.initial.jobs) × (vec_capacity l.findings ≡ vec_capacity l.initial.findings);
   room : length l.jobs.items + length l.findings.items ≤ vec_capacity l.findings;
 }
 

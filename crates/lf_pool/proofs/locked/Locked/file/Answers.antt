@@ -1,6 +1,6 @@
-use Rattle.std.proofs.Common.{◌≡◌, ◌+◌, sym, ◌∙◌, subst, arith}
+use Rattle.std.proofs.Common.{sym, ◌∙◌, subst, ◌+◌, arith}
 use Rattle.lf_pool.specs.Holds.{IsAnsweredCount}
-use Rattle.lf_pool.proofs.HoldLemmas.{refused-counted, file-counted, answered-one}
+use Rattle.lf_pool.proofs.HoldLemmas.{refused-counted, file-counted}
 use Rattle.lf_pool.proofs.locked.Locked.file.Goals as goal
 
 pub invariant_of-self : goal.invariant_of-self
@@ -17,14 +17,13 @@ invariant_of-self-2 g c =
     record {
       counted = subst (λ n. IsAnsweredCount c.file.new.self n) (sym (c.audit.ensures.total ∙ c.add.ensures.total))
           (file-counted m.book c.file.new.self c.args.finding c.file.result m.total.total (sym c.is_err.ensures.value ∙ c.if-is_err.false)
-          c.file.ensures.filed c.level-level.ensures.closed m.counted);
+          c.file.ensures.filed c.books_are_closed.ensures.closed m.counted);
     }
 
 pub overflow_add-filed : goal.overflow_add-filed
 overflow_add-filed g c =
     let m = c.args.self.now in
     let more = file-counted m.book c.file.new.self c.args.finding c.file.result m.total.total
-    (sym c.is_err.ensures.value ∙ c.if-is_err.false) c.file.ensures.filed c.level-level.ensures.closed m.counted in
-    let is : m.total.total + 1 ≡ c.answered-answered.result =
-    answered-one c.file.new.self (m.total.total + 1) c.answered-answered.result more c.answered-answered.ensures in
-    omega (arith, is, c.audit.ensures.bound, c.add.ensures.amount, c.add.ensures.total, c.args.share.now.same, c.answered-answered.type_inv)
+    (sym c.is_err.ensures.value ∙ c.if-is_err.false) c.file.ensures.filed c.books_are_closed.ensures.closed m.counted in
+    let fits = c.books_are_closed-2.ensures.few (m.total.total + 1) more in
+    omega (arith, fits, c.audit.ensures.bound, c.add.ensures.amount, c.add.ensures.total, c.args.share.now.same)

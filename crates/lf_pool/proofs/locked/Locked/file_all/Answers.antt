@@ -1,4 +1,4 @@
-use Rattle.std.proofs.Common.{◌≡◌, ◌∷◌, ◌∙◌}
+use Rattle.std.proofs.Common.{◌∷◌, ◌∙◌}
 use Rattle.lf_pool.proofs.HoldLemmas.{filed-more, one-off}
 use Rattle.lf_pool.proofs.locked.Locked.file_all.Goals as goal
 
@@ -12,6 +12,7 @@ findings-preserved g c =
       done = f ∷ so.done;
       count = next.0;
       rest = one-off c.args.findings.now.items c.findings.findings.items c.pop.new.self.items so.done f so.rest c.in-Some.ensures.items;
+      room = c.pop.ensures.capacity ∙ so.room;
       filed = next.1;
       share = next.2;
       scenario = c.file-filed.ensures.scenario ∙ so.scenario;

@@ -1,4 +1,4 @@
-use Rattle.std.specs.Prelude.{◌≡◌, ℕ, ◌+◌, ◌++◌, List}
+use Rattle.std.specs.Prelude.{◌≡◌, ℕ, ◌+◌, ◌++◌, List, vec_capacity}
 use Rattle.lf_book.specs.Books.{scenario_of}
 use Rattle.lf_work.specs.declared.finding.Finding.{Finding}
 use Rattle.lf_pool.specs.Holds.{AreFiled}
@@ -9,6 +9,7 @@ invariant-findings g l = record {
   done : List Finding;
   count : ℕ;
   rest : l.initial.findings.items ≡ l.findings.items ++ done;
+  room : vec_capacity l.findings ≡ vec_capacity l.initial.findings;
   filed : AreFiled done count l.initial.self.book l.self.book;
   share : l.share.filed ≡ l.initial.share.filed + count;
   scenario : scenario_of l.self.book ≡ scenario_of l.initial.self.book;

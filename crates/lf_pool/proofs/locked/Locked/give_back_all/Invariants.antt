@@ -1,4 +1,4 @@
-use Rattle.std.specs.Prelude.{◌≡◌, ◌++◌, List}
+use Rattle.std.specs.Prelude.{◌≡◌, ◌++◌, List, vec_capacity}
 use Rattle.lf_book.specs.Books.{scenario_of}
 use Rattle.lf_work.specs.declared.job.Job.{Job}
 use Rattle.lf_pool.specs.Holds.{AreGivenBack}
@@ -8,6 +8,7 @@ abbrev pub invariant-jobs : goal.invariant-jobs
 invariant-jobs g l = record {
   done : List Job;
   rest : l.initial.jobs.items ≡ l.jobs.items ++ done;
+  room : vec_capacity l.jobs ≡ vec_capacity l.initial.jobs;
   given : AreGivenBack done l.initial.self.book l.self.book;
   scenario : scenario_of l.self.book ≡ scenario_of l.initial.self.book;
   total : l.self.total ≡ l.initial.self.total;

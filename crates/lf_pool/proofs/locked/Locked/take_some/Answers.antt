@@ -1,4 +1,4 @@
-use Rattle.std.proofs.Common.{◌≡◌, sym, subst, ◌∙◌, arith, List}
+use Rattle.std.proofs.Common.{sym, subst, ◌∙◌, arith, List}
 use Rattle.lf_work.specs.declared.job.Job.{Job}
 use Rattle.lf_pool.specs.Holds.{AreTaken}
 use Rattle.lf_pool.proofs.HoldLemmas.{taken-more}
@@ -13,7 +13,7 @@ jobs-preserved g c =
       taken = subst (λ (l : List Job). AreTaken l c.args.self.now.book c.take_job.new.self.book) (sym put.items)
           (taken-more c.jobs.jobs.items c.in-Some.job c.args.self.now.book c.jobs.self.book c.take_job.new.self.book so.taken took.taken);
       few = omega (arith, so.few, put.len);
-      room = omega (arith, so.room, put.capacity);
+      room = put.capacity ∙ so.room;
       scenario = took.scenario ∙ so.scenario;
       total = took.total ∙ so.total;
     }

@@ -1,14 +1,13 @@
-use Rattle.std.specs.Prelude.{◌≡◌, ◌≤◌, length, vec_capacity}
+use Rattle.std.specs.Prelude.{◌≡◌, length, vec_capacity}
 use Rattle.lf_book.specs.Books.{scenario_of}
 use Rattle.lf_pool.specs.Holds.{AreTaken}
-use Rattle.lf_pool.specs.declared.hands.TheConstants.{HANDFUL}
 use Rattle.lf_pool.proofs.locked.Locked.take_some.Given as goal
 
 abbrev pub invariant-jobs : goal.invariant-jobs
 invariant-jobs g l = record {
   taken : AreTaken l.jobs.items l.initial.self.book l.self.book;
   few : length l.jobs.items ≡ l._taken;
-  room : HANDFUL ≤ vec_capacity l.jobs;
+  room : vec_capacity l.jobs ≡ vec_capacity l.initial.jobs;
   scenario : scenario_of l.self.book ≡ scenario_of l.initial.self.book;
   total : l.self.total ≡ l.initial.self.total;
 }
