@@ -20,9 +20,9 @@
 //! memory ran out, a device failed, or the workers gave no answer: standard error then has the line `memory`, `read` or `write`,
 //! with the device on the next line, or `pool NUMBER`.
 //!
-//! Where the status is 2, standard error says in words what is wrong with what was refused. Where all is well it stays empty. But where it
-//! is a terminal, a search, an answer or a check that takes longer than a second says on one line there how far it has come, and erases
-//! that line before it replies. With `--quiet` it doesn't.
+//! Standard error says in words what is wrong with what was refused, and with a certificate that is wrong. Where all is well it stays empty. But
+//! where it is a terminal, it has the command that shows a set that was found, and a search, an answer or a check that takes longer than a
+//! second says on one line there how far it has come, and erases that line before it replies. With `--quiet` it doesn't.
 #![tactic(auto)]
 
 ghost use Rattle.std.specs.Prelude.{◌≡◌, false};
@@ -39,11 +39,11 @@ use leastfault::{
     answer_watched, asked, check_watched, run_bytes, search_watched, shared_watched, to_text,
     tree_refusal,
 };
-use lf_hints::{check_hint, run_hint, search_hint, tree_hint};
+use lf_hints::{all_hint, check_hint, run_hint, search_hint, see_hint, tree_hint, verdict_hint};
 use line::{Cleared, Line};
 use std::alloc::AllocError;
 use std::env;
-use std::io::{ErrorKind, Read};
+use std::io::{ErrorKind, IsTerminal, Read};
 use std::process::ExitCode;
 use std::rt::Clock;
 use std::sync::Wait;
@@ -76,14 +76,16 @@ fn status(rt: &HostRuntime, threads: &(impl Threads + Wait + Clock + Sync)) -> R
     let Ok(words) = words.collect::<Vec<String>>(rt.alloc()) else {
         return Err(Stop::from(BytesFault::Memory));
     };
+    if words.is_empty() && rt.stdin().is_terminal() {
+        let _told = eprintln!(rt; "reading a scenario from standard input; see --help").is_ok();
+    }
     match asked(rt.alloc(), words.as_slice()) {
         Ok(asked) => done(rt, threads, &asked),
         Err(unasked) => told(rt, &unasked),
     }
 }
 
-/// Tells why the words ask for nothing: help, the version and `refused usage` on standard output, and anything else on
-/// standard error.
+/// Tells why the words ask for nothing: help and the version on standard output, and anything else on standard error.
 fn told(rt: &HostRuntime, unasked: &Unasked) -> Result<u8, Stop> {
     if unasked.status() == 3 {
         return Err(Stop::from(BytesFault::Memory));
@@ -95,11 +97,6 @@ fn told(rt: &HostRuntime, unasked: &Unasked) -> Result<u8, Stop> {
         };
     }
     print(rt, unasked.text().as_bytes())?;
-    if unasked.status() == 2 {
-        let _told = eprintln!(rt;
-            "FILE and TREE are both -: only one of them can be standard input"
-        ).is_ok();
-    }
     Ok(unasked.status())
 }
 
@@ -191,7 +188,7 @@ fn searched<R: Read + Drop>(
     line.erase();
     match ended {
         Ok(Searched { status, .. }) => {
-            hint_search(rt, status, source.bytes(), sink.bytes());
+            hint_search(rt, way.wanted, (file, status), source.bytes(), sink.bytes());
             Ok(status)
         }
         Err(fault) => Err(Stop::of(rt.alloc(), fault, file)),
@@ -222,7 +219,13 @@ fn certified<R: Read + Drop>(
         return written(rt, tree_file, &tree, reply.as_slice(), status);
     }
     print(rt, reply.as_slice())?;
-    hint_search(rt, status, source.bytes(), Some(reply.as_slice()));
+    hint_search(
+        rt,
+        way.wanted,
+        (file, status),
+        source.bytes(),
+        Some(reply.as_slice()),
+    );
     Ok(status)
 }
 
@@ -302,7 +305,13 @@ fn answered<R: Read + Drop>(
     line.erase();
     match ended {
         Ok(status) => {
-            hint_search(rt, status, source.bytes(), sink.bytes());
+            hint_search(
+                rt,
+                Wanted::Answer,
+                (file, status),
+                source.bytes(),
+                sink.bytes(),
+            );
             Ok(status)
         }
         Err(fault) => Err(Stop::of(rt.alloc(), fault, file)),
@@ -338,7 +347,7 @@ fn judged<R: Read + Drop, S: Read + Drop>(
     let line = Line::new(rt, quiet);
     let mut source = Kept::new(rt.alloc(), FromRead::new(reader));
     let mut tree_source = Kept::new(rt.alloc(), FromRead::new(tree_reader));
-    let mut sink = Cleared::new(&line, ToWrite::new(rt.stdout()));
+    let mut sink = Kept::new(rt.alloc(), Cleared::new(&line, ToWrite::new(rt.stdout())));
     let ended = check_watched(
         threads,
         rt.alloc(),
@@ -349,13 +358,16 @@ fn judged<R: Read + Drop, S: Read + Drop>(
     );
     line.erase();
     match ended {
-        Ok(2) => {
-            if let (Some(text), Some(certificate)) = (source.bytes(), tree_source.bytes()) {
-                hint(rt, check_hint(rt.alloc(), text, certificate));
-            }
-            Ok(2)
+        Ok(status) => {
+            hint_check(
+                rt,
+                status,
+                source.bytes(),
+                tree_source.bytes(),
+                sink.bytes(),
+            );
+            Ok(status)
         }
-        Ok(status) => Ok(status),
         Err(fault) => {
             let file = if source.failed() { files.0 } else { files.1 };
             Err(Stop::of(rt.alloc(), fault, file))
@@ -363,10 +375,45 @@ fn judged<R: Read + Drop, S: Read + Drop>(
     }
 }
 
-/// Says on standard error what is wrong with what a search refused, where its text and its reply were kept.
-fn hint_search(rt: &HostRuntime, status: u8, text: Option<&[u8]>, reply: Option<&[u8]>) {
-    if let (2, Some(text), Some(reply)) = (status, text, reply) {
-        hint(rt, search_hint(rt.alloc(), text, reply));
+/// Says on standard error what is wrong with what a search of a file refused, where its text and its reply were kept; or on a terminal how
+/// to see what a set does that was found.
+fn hint_search(
+    rt: &HostRuntime,
+    wanted: Wanted,
+    (file, status): (&str, u8),
+    text: Option<&[u8]>,
+    reply: Option<&[u8]>,
+) {
+    match (status, text, reply) {
+        (1, _, Some(reply)) if file != "-" && rt.stderr().is_terminal() => hint(
+            rt,
+            see_hint(rt.alloc(), file, reply),
+        ),
+        (2, Some(text), Some(reply)) => match wanted {
+            Wanted::Answer => hint(rt, search_hint(rt.alloc(), text, reply)),
+            Wanted::AllLeast => hint(rt, all_hint(rt.alloc(), text, reply)),
+        },
+        _ => {}
+    }
+}
+
+/// Says on standard error what is wrong with what a check refused, or with the certificate that it judged, where its texts and its reply
+/// were kept.
+fn hint_check(
+    rt: &HostRuntime,
+    status: u8,
+    text: Option<&[u8]>,
+    certificate: Option<&[u8]>,
+    reply: Option<&[u8]>,
+) {
+    match (status, text, certificate, reply) {
+        (1, Some(text), Some(certificate), Some(reply)) => {
+            hint(rt, verdict_hint(rt.alloc(), text, certificate, reply));
+        }
+        (2, Some(text), Some(certificate), _) => {
+            hint(rt, check_hint(rt.alloc(), text, certificate));
+        }
+        _ => {}
     }
 }
 
