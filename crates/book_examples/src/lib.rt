@@ -4,6 +4,8 @@
 #![tactic(auto)]
 
 #[cfg(test)]
+mod claims;
+#[cfg(test)]
 mod drives;
 #[cfg(test)]
 mod made;

@@ -1,12 +1,13 @@
-//! Findings of other books, and a take with its steps counted.
+//! Findings of other books, what errors say, and a take with its steps counted.
 
 ghost use Rattle.std.specs.Prelude.{◌≡◌, ◌<◌};
 
 use crate::searches::refusal_number;
 use crate::texts::{agrees, columns, counts_text, driven, events, is_text, scenario};
-use lf_book::{Book, Job, Steps, Taken};
+use lf_book::{Book, Job, Refusal, Steps, Taken, Unfinished};
 use lf_scenario::Scenario;
 use std::alloc::Global;
+use std::error::Error;
 use std::marker::Brand;
 use std::sync::Arc;
 use std::sync::ledger::{Blank, Ledger};
@@ -87,6 +88,29 @@ fn findings_of_other_books(rt: HostRuntime) {
     for row in FINDINGS.lines() {
         agrees(&rt, row_is_said(rt.alloc(), row), row);
     }
+}
+
+/// Whether an error says this to people.
+fn tells<E: Error>(alloc: Global, error: &E, wanted: &str) -> bool {
+    is_text(format!(in alloc; "{error}"), wanted)
+}
+
+#[test]
+fn errors_have_messages(rt: HostRuntime) {
+    let alloc = rt.alloc();
+    let other_set =
+        "the finding is of another set than its ticket claims, or of another path to it, or excludes other faults";
+    let are_told = tells(
+        alloc,
+        &Refusal::NoClaim,
+        "no set is claimed by the ticket of the finding",
+    ) && tells(
+        alloc,
+        &Refusal::OtherScenario,
+        "the finding is of another scenario",
+    ) && tells(alloc, &Refusal::OtherSet, other_set)
+        && tells(alloc, &Unfinished, "the search hasn't ended");
+    agrees(&rt, are_told, "the errors of a book");
 }
 
 /// Takes the first set of a book with its steps counted, and tells whether a job of the empty set is given.

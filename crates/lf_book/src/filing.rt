@@ -47,7 +47,7 @@ impl Refusal {
 
 impl Book {
     /// Files a finding: its set is answered, and what is required beneath it waits for the next level. It is refused, and handed back, where
-    /// it is of no claim of the book: the refusals are tested in their order. It takes no memory.
+    /// it is of no claim of the book, with the first refusal that holds. It takes no memory, and looks for the claim at most once.
     pub fn file(&mut self, finding: Finding) -> Result<(), (Refusal, Finding)>
         ensures ok { OnOk result (IsClaimOf self.old finding.job.ticket (arc_value finding.job.scenario) finding.job.path.items (task_of_finding finding)) }
         ensures filed { OnOk result (IsFiled finding self.old self.new) }
@@ -80,7 +80,7 @@ impl Book {
     }
 
     /// Gives a job back: its set is open again. It is refused, and handed back, where no claim with its ticket, scenario, path, set and
-    /// exclusions stands. It takes no memory.
+    /// exclusions stands. It takes no memory, and looks for the claim at most once.
     pub fn give_back(&mut self, job: Job) -> Result<(), Job>
         ensures ok { OnOk result (IsClaimOf self.old job.ticket (arc_value job.scenario) job.path.items (task_of_job job)) }
         ensures given { OnOk result (IsGivenBack job self.old self.new) }
@@ -105,7 +105,7 @@ impl Book {
         mark_open(&mut self.marks, job.ticket());
     }
 
-    /// Opens all sets again that are claimed. It takes no memory.
+    /// Opens all sets again that are claimed. It takes no memory, and time in proportion to the number of claims.
     pub fn reclaim(&mut self)
         ensures reclaimed { Reclaims (state_of self.old) (state_of self.new) }
         ensures scenario { scenario_of self.new ≡ scenario_of self.old }
