@@ -1,6 +1,6 @@
 //! What is told of texts that are refused.
 
-use lf_hints::{all_hint, check_hint, run_hint, search_hint, verdict_hint};
+use lf_hints::{all_hint, check_hint, run_hint, search_hint, see_hint, verdict_hint};
 use std::alloc::{AllocError, Global};
 
 /// A scenario, in the order of its keys.
@@ -10,7 +10,7 @@ const SCENARIO: &str = concat!(
 );
 
 /// What is given, and what is told of it: faults of a run, a certificate, the reply of a search or of one for all least sets, the reply of
-/// a check and behind `;` the certificate, or else a key of the scenario and the lines in place of its own.
+/// a check and behind `;` the certificate, the lines of a reply of which a set is to be seen, or else a key of the scenario and the lines in place of its own.
 const HINTS: &str = concat!(
     "budget|budget = 7|budget = 7: a whole number from 0 to 6\n",
     "horizon|horizon = |line 8, column 11: invalid value, expected a string\n",
@@ -47,6 +47,10 @@ const HINTS: &str = concat!(
     "check|{\"answer\": null,\"format\":1,\"root\":{\"misses\":true}}|line 1, column 11: not as a certificate is written\n",
     "search|full 2 150000|max_sets = 100000, and there are 150000 sets of 2 faults: use `leastfault answer`, which has no such limit; or raise max_sets\n",
     "all|full 2 150000|max_sets = 100000, and there are 150000 sets of 2 faults: raise max_sets to 150000 or more, or lower budget to 1\n",
+    "see|least 2;omit 0>1 @1;crash 0 @2;|to see it: leastfault run a.toml 'omit 0>1 @1,crash 0 @2'\n",
+    "see|least 0;|to see it: leastfault run a.toml ''\n",
+    "see|all 1 2;pause 0 @1;pause 1 @2;|to see the first: leastfault run a.toml 'pause 0 @1'\n",
+    "see|all 0 1;-;|to see it: leastfault run a.toml ''\n",
     "verdict|no 9 -;{\"answer\":null,\"format\":1,\"root\":{\"misses\":true}}|at the root, without faults: a leaf stands at depth 0, and leaves stand at depth 2, the budget\n",
     "verdict|no 2 0;{\"answer\":[\"omit 0>2 @1\"],\"format\":1,\"root\":{\"edges\":[\"omit 0>1 @1\"],\"kids\":[{\"misses\":false}],\"reach\":[1,2,2]}}|",
     "at 0: omit 0>1 @1: the leaf says reaches, and the run misses\n",
@@ -90,6 +94,7 @@ fn hint(alloc: Global, what: &str, given: &str) -> Result<String, AllocError> {
         "check" => check_hint(alloc, text, given.as_bytes()),
         "search" => search_hint(alloc, text, given.as_bytes()),
         "all" => all_hint(alloc, text, given.as_bytes()),
+        "see" => see_hint(alloc, "a.toml", given.replace(alloc, ";", "\n")?.as_bytes()),
         "verdict" => {
             let (reply, tree) = given.split_once(';').unwrap_or(("", ""));
             verdict_hint(alloc, text, tree.as_bytes(), reply.as_bytes())

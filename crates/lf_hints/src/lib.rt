@@ -16,11 +16,12 @@ mod nodes;
 mod place;
 mod protocols;
 mod scenario;
+mod see;
 mod stand;
 mod takes;
 mod texts;
 mod tree;
 mod verdict;
 
-pub use texts::{all_hint, check_hint, run_hint, search_hint, verdict_hint};
+pub use texts::{all_hint, check_hint, run_hint, search_hint, see_hint, verdict_hint};
 pub use tree::tree_hint;

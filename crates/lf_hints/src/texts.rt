@@ -4,6 +4,7 @@ use crate::faults::faults_hint;
 use crate::full::{Wanted, full_hint};
 use crate::hint::told;
 use crate::scenario::scenario_hint;
+use crate::see::run_command;
 use crate::tree::tree_hint;
 use crate::verdict::verdict_hint as hint_of;
 use lf_faults::FaultSpec;
@@ -69,6 +70,12 @@ pub fn verdict_hint(
         Err(TreeFault::Memory) => Err(AllocError),
         Err(_) => Ok(String::new(alloc)),
     }
+}
+
+/// How to see what the set of faults does that the reply of a search or of an answer tells, or the first of several: the command
+/// `leastfault run FILE FAULTS`, for the file of the scenario as a shell takes it. Nothing where the reply tells of no set.
+pub fn see_hint(alloc: Global, file: &str, reply: &[u8]) -> Result<String, AllocError> {
+    told(alloc, run_command(file, reply))
 }
 
 /// What bounds the faults of a text's scenario, and how many sets of one size its search keeps at most.
