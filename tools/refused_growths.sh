@@ -109,7 +109,8 @@ knows() {
     [ "$known" != 2 ]
 }
 
-# A search of a scenario, the checking of its certificate, and runs of no fault and of the faults that are found.
+# Each answer to a scenario: by a search, by merged states, and by a run of each allowed set; the checking of the search's certificate,
+# and runs of no fault and of the faults that are found.
 sweep_scenario() {
     local name=$1 more
     for more in '' ' --all' ' --workers=3'; do
@@ -119,6 +120,10 @@ sweep_scenario() {
             sweep "search $name$more --tree" "$leastfault" search "$name.toml" $more --tree file
         fi
     done
+    sweep "answer $name" "$leastfault" answer "$name.toml"
+    input=$name.toml
+    sweep "plain answer to $name" "$searches" answers plain
+    input=/dev/null
     "$leastfault" search "$name.toml" --tree "$name.json" >found || true
     sweep "check $name" "$leastfault" check "$name.toml" "$name.json"
     sweep "run $name of no fault" "$leastfault" run "$name.toml" ''
@@ -145,6 +150,10 @@ END
 for name in one_try crash_between_tries one_note claimed_away; do
     sweep_scenario "$name"
 done
+
+# A scenario of which three workers have more to search.
+sweep 'search two_primaries --workers=3' "$leastfault" search two_primaries.toml --workers=3
+sweep 'search two_primaries --workers=3 --tree' "$leastfault" search two_primaries.toml --workers=3 --tree file
 
 # A certificate that is long enough for several threads.
 "$leastfault" search guided.toml --tree guided.json >found || true

@@ -4,11 +4,9 @@
 //! `refused`.
 
 use crate::input::{bytes, scenario_of};
-use crate::running::plain;
 use crate::words::{Asked, Word};
-use lf_book::Deepened;
+use leastfault::{merged_answer, plain_answer};
 use lf_faults::{FaultSet, fault_text};
-use lf_merged::merged_answer;
 use lf_scenario::Scenario;
 use std::alloc::{AllocError, Global};
 
@@ -47,21 +45,13 @@ fn line_of(alloc: Global, text: &str, way: Word) -> Result<String, AllocError> {
 
 /// The line of a scenario.
 fn answered(alloc: Global, scenario: &Scenario, way: Word) -> Result<String, AllocError> {
-    match answer(alloc, scenario, way)? {
+    let answer = match way {
+        Word::Plain => plain_answer(alloc, scenario)?,
+        _ => merged_answer(alloc, scenario)?,
+    };
+    match answer {
         Some(set) => least(alloc, &set),
         None => format!(in alloc; "none {}", scenario.setting().spec.budget()),
-    }
-}
-
-/// The first allowed set that misses.
-fn answer(alloc: Global, scenario: &Scenario, way: Word) -> Result<Option<FaultSet>, AllocError> {
-    if !matches!(way, Word::Plain) {
-        return merged_answer(alloc, scenario);
-    }
-    let ended = plain(alloc, scenario, u64::MAX)?;
-    match ended.deepened {
-        Deepened::Answer => Ok(Some(ended.set)),
-        _ => Ok(None),
     }
 }
 

@@ -63,6 +63,11 @@ const FORMULAS: &str = concat!(
     // a node that is down is excused
     "3 4 3 0 2|protocol = \"retry\";tries = 1;",
     "outcome = [\"any\", [\"down\", 1, 2], [\"shows\", 1, 2, \"has\"]]|1|least 1;omit 0>1 @1\n",
+    // a crash undoes what a node lacks
+    "2 3 0 1 1|protocol = \"retry\";tries = 2;spread = 3;outcome = [\"shows\", 1, 2, \"lacks\"]|1|least 1;crash 1 @1\n",
+    // seven lists round an atom are the most, and so are 512 atoms: no node is down
+    "deep|7|1|least 0\n",
+    "wide|512|1|least 0\n",
     // a claim takes two lost beats
     "3 6 2 0 2|protocol = \"primary_backup\";patience = 3;outcome = [\"shows\", 2, 6, \"unclaimed\"]|1|",
     "least 2;omit 0>1 @1;omit 0>1 @2\n",
@@ -127,6 +132,9 @@ const REFUSED: &str = concat!(
     // the longest text, which is searched, and one byte more
     "long|65536|1|least 1;omit 0>1 @1\n",
     "long|65537|2|refused 1\n",
+    // a list too many round an atom, and an atom too many
+    "deep|8|2|refused 11 outcome\n",
+    "wide|513|2|refused 11 outcome\n",
     // a fact of another protocol
     "3 4 3 0 2|protocol = \"retry\";tries = 1;outcome = [\"shows\", 0, 1, \"committed\"]|2|refused 11 outcome\n",
     // settings of other protocols

@@ -55,8 +55,19 @@ fn long(alloc: Global, length: usize) -> Result<String, AllocError> {
     Ok(text)
 }
 
+/// The first scenario with another outcome: so many lists one in the other, the last round one atom, or one list of so many atoms.
+fn with_formula(alloc: Global, what: &str, count: usize) -> Result<String, AllocError> {
+    let (lists, atoms) = if what == "deep" { (count, 1) } else { (1, count) };
+    let open = "[\"all\", ".repeat(alloc, lists)?;
+    let items = "[\"down\", 0, 1], ".repeat(alloc, atoms)?;
+    let close = "]".repeat(alloc, lists)?;
+    let formula = format!(in alloc; "{open}{items}{close}")?;
+    ONCE.replace(alloc, "\"delivered\"", formula.as_str())
+}
+
 /// The text that the first two columns of a row tell, in which `;` stands for the end of a line: that of the bounds of a scenario, and
-/// its further lines; lines of the first scenario, and what stands in their place; or `long` and its length, or `text` and the text itself.
+/// its further lines; lines of the first scenario, and what stands in their place; or `long` and its length, `text` and the text itself,
+/// or `deep` or `wide` and how many lists or atoms its formula has.
 pub(crate) fn text_of(alloc: Global, row: &str) -> Result<String, AllocError> {
     let row = row.replace(alloc, ';', "\n")?;
     let (what, rest) = columns(row.as_str());
@@ -64,6 +75,7 @@ pub(crate) fn text_of(alloc: Global, row: &str) -> Result<String, AllocError> {
     match what {
         "text" => String::from_str(alloc, lines),
         "long" => long(alloc, lines.parse::<usize>().unwrap_or(0)),
+        "deep" | "wide" => with_formula(alloc, what, lines.parse::<usize>().unwrap_or(0)),
         kept if kept.ends_with('\n') => ONCE.replace(alloc, kept, lines),
         numbers => bounded(alloc, numbers, lines),
     }

@@ -14,7 +14,7 @@ use std::sync::atomic::AtomicU64;
 use std::sync::atomic::Ordering::SeqCst;
 use std::thread::Threads;
 
-/// Counts the sets that it is told of, and keeps how many nodes and configurations it was told of last.
+/// Counts the sets that it is told of and how often it is told of configurations, and keeps how many nodes it was told of last.
 #[derive(Drop)]
 struct Counted {
     sets: AtomicU64,
@@ -39,7 +39,9 @@ impl Watch for Counted {
             Progress::Sets { .. } => {
                 let _before = self.sets.fetch_add(1, SeqCst);
             }
-            Progress::Configurations { done, .. } => self.configurations.store(done, SeqCst),
+            Progress::Configurations { .. } => {
+                let _before = self.configurations.fetch_add(1, SeqCst);
+            }
             Progress::Nodes { done, .. } => self.nodes.store(done, SeqCst),
         }
     }
@@ -138,7 +140,8 @@ fn is_certified<V: Watch>(
     }
 }
 
-/// Whether each reply to a row's text is the same with a watch and without, and the watch is told of so many sets and nodes as the row says.
+/// Whether each reply to a row's text is the same with a watch and without, and the watch is told of so many sets and nodes as the row
+/// says, and of configurations as the first pass begins.
 fn row_is_told(rt: &(impl Threads + Wait + Clock + Sync), alloc: Global, row: &str) -> bool {
     let Ok(text) = text_of(alloc, row) else {
         return false;
@@ -150,7 +153,7 @@ fn row_is_told(rt: &(impl Threads + Wait + Clock + Sync), alloc: Global, row: &s
         && is_same(rt, alloc, text, Asked::Merged, &alone)
         && is_certified(rt, alloc, text, &checked);
     let (sets, nodes) = (alone.sets.load(SeqCst), checked.nodes.load(SeqCst));
-    let is_told = checked.sets.load(SeqCst) == sets;
+    let is_told = checked.sets.load(SeqCst) == sets && alone.configurations.load(SeqCst) > 0;
     match format!(in alloc; "{sets} {} {nodes}", several.sets.load(SeqCst)) {
         Ok(told) => is_unchanged && is_told && told.as_str() == behind(row),
         Err(_) => false,
