@@ -54,8 +54,9 @@ fn wide_kid(alloc: Global, count: usize) -> Result<String, AllocError> {
     let kids = listed(alloc, "{\"misses\":true}", count)?;
     let first =
         "{\"edges\":[\"omit 0>3 @1\",\"omit 0>4 @1\"],\"kids\":[{\"misses\":false},{\"misses\":true}],\"reach\":[1,1,1,2,2]}";
-    let second =
-        format!(in alloc; "{{\"edges\":[{edges}],\"kids\":[{kids}],\"reach\":[1,2,2,1,1]}}")?;
+    let second = format!(in alloc;
+        "{{\"edges\":[{edges}],\"kids\":[{kids}],\"reach\":[1,2,2,1,1]}}"
+    )?;
     let root = "\"edges\":[\"omit 0>2 @1\",\"omit 0>3 @1\"],\"kids\":";
     format!(in alloc;
         "{FOUR_NOTES}\n{{\"answer\":[\"omit 0>1 @1\",\"omit 0>3 @1\"],\"format\":1,\"root\":{{{root}[{first},{second}],\"reach\":[1,1,2,2,1]}}}}|7 [1]"

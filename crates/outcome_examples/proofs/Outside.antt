@@ -15,11 +15,11 @@ outside w b faults reach edges f required can free = record {
   keeps = still-in f faults;
   adds = λ g there supports. elim (cases_inserted f faults g there) [
     | inl same ↦
-      absurd (free ((required.each f).1 (record {
-        supports = subst (Supports w faults reach) (sym same) supports;
-        allowed = can;
-        included = λ c. absurd (omega (arith, c.1));
-      })))
+        absurd (free ((required.each f).1 (record {
+          supports = subst (Supports w faults reach) (sym same) supports;
+          allowed = can;
+          included = λ c. absurd (omega (arith, c.1));
+        })))
     | inr was ↦ was
   ];
 }

@@ -38,10 +38,7 @@ fn reaches_by_law(
 
 /// Sets of faults, and a fault more that changes nothing of what the data's delivery rests on: a note that nobody sends, and one that comes
 /// after the last step.
-const WIDER: &str = concat!(
-    "omit 0>1 @1|omit 1>2 @1\n",
-    "omit 0>1 @1|omit 0>1 @3\n",
-);
+const WIDER: &str = concat!("omit 0>1 @1|omit 1>2 @1\n", "omit 0>1 @1|omit 0>1 @3\n",);
 
 /// Whether by the law the set of a row with the fault more reaches that each node has the data, over links of two steps.
 fn row_reaches(alloc: Global, row: &str) -> bool {
@@ -55,7 +52,10 @@ fn row_reaches(alloc: Global, row: &str) -> bool {
     };
     match named(alloc, Outcome::Delivered, 3, 4) {
         Ok(formula) => {
-            matches!(reaches_by_law(alloc, &setting, &formula, &set, more), Ok(true))
+            matches!(
+                reaches_by_law(alloc, &setting, &formula, &set, more),
+                Ok(true)
+            )
         }
         Err(_) => false,
     }

@@ -33,7 +33,9 @@ fn check_rows_replies(
 fn with_kids(alloc: Global, count: usize) -> Result<String, AllocError> {
     let after_commas = ",{\"misses\":true}".repeat(alloc, count)?;
     let kids = after_commas.as_str().strip_prefix(',').unwrap_or("");
-    format!(in alloc; "{{\"answer\":[\"omit 0>1 @1\"],\"format\":1,\"root\":{{\"edges\":[],\"kids\":[{kids}],\"reach\":[3,3]}}}}")
+    format!(in alloc;
+        "{{\"answer\":[\"omit 0>1 @1\"],\"format\":1,\"root\":{{\"edges\":[],\"kids\":[{kids}],\"reach\":[3,3]}}}}"
+    )
 }
 
 /// Whether the check of a row's tree for the scenario of another replies as it says.

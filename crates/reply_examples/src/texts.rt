@@ -57,7 +57,11 @@ fn long(alloc: Global, length: usize) -> Result<String, AllocError> {
 
 /// The first scenario with another outcome: so many lists one in the other, the last round one atom, or one list of so many atoms.
 fn with_formula(alloc: Global, what: &str, count: usize) -> Result<String, AllocError> {
-    let (lists, atoms) = if what == "deep" { (count, 1) } else { (1, count) };
+    let (lists, atoms) = if what == "deep" {
+        (count, 1)
+    } else {
+        (1, count)
+    };
     let open = "[\"all\", ".repeat(alloc, lists)?;
     let items = "[\"down\", 0, 1], ".repeat(alloc, atoms)?;
     let close = "]".repeat(alloc, lists)?;

@@ -71,7 +71,11 @@ fn hold<L: Ledger, R: Wait + Clock + Abort>(
     for share in shares.iter_mut() {
         let _held = shared.work_one(rt, share, gate);
     }
-    agrees(rt, becomes(rt, &gate.has_ended), "a worker that nobody woke");
+    agrees(
+        rt,
+        becomes(rt, &gate.has_ended),
+        "a worker that nobody woke",
+    );
 }
 
 /// What came of the turns of a worker that asked for a set while another held the only one.
@@ -176,6 +180,14 @@ fn is_waited_for(
 #[test]
 fn a_worker_waits_for_the_last_set_and_goes_on(rt: HostRuntime) {
     let row = "retry|3 4 3 0 2|tries = 1;outcome = \"delivered\"";
-    agrees(&rt, is_waited_for(&rt, rt.alloc(), row, true), "a set that is worked");
-    agrees(&rt, is_waited_for(&rt, rt.alloc(), row, false), "a set that is given back");
+    agrees(
+        &rt,
+        is_waited_for(&rt, rt.alloc(), row, true),
+        "a set that is worked",
+    );
+    agrees(
+        &rt,
+        is_waited_for(&rt, rt.alloc(), row, false),
+        "a set that is given back",
+    );
 }
