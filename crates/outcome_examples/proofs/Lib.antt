@@ -1,2 +1,1 @@
 mod OnePoint
-mod Outside
