@@ -30,6 +30,5 @@ mod told;
 #[cfg(test)]
 mod turns;
 #[cfg(test)]
-mod waits;
 #[cfg(test)]
 mod works;
