@@ -30,5 +30,4 @@ mod told;
 #[cfg(test)]
 mod turns;
 #[cfg(test)]
-#[cfg(test)]
 mod works;
