@@ -90,16 +90,16 @@ module _ {State Note Fact : Type 0} (w : World State Note Fact) (b : Bounds) (fo
   IsRightAt = rows.IsRightAt w b formula last tree sets
 
   abbrev FailsAt : ℕ → Reason → Type 0
-  FailsAt = rows.FailsAt w b formula last tree sets
+  FailsAt = rows.FailsAt w b formula last tree
 
   abbrev MissesAt : ℕ → List Parts → Type 0
-  MissesAt = rows.MissesAt w b formula last tree sets
+  MissesAt = rows.MissesAt w formula last tree sets
 
   abbrev AreRightWithin : ℕ → ℕ → Type 0
   AreRightWithin = rows.AreRightWithin w b formula last tree sets
 
   abbrev MissesWithin : ℕ → ℕ → List Parts → Type 0
-  MissesWithin = rows.MissesWithin w b formula last tree sets
+  MissesWithin = rows.MissesWithin w formula last tree sets
 
   -- Nothing is found where there is no node,
   pub found-none : (from : ℕ) → rows.IsFound w b formula last tree sets from from (found.Passes None)

@@ -119,7 +119,7 @@ module _ {State Note Fact : Type 0} (w : World State Note Fact) (b : Bounds) (fo
           let same : length way ≡ deep = omega (arith, far) in
           subst (λ d. IsRight w b formula last d q) same (right_there h.at way q (record { way_is = h.way_is; leads = leads }))
 
-      missing : last ≡ last_depth b tree.answer → (s : List Parts) → MissesWithin w b formula last tree sets 0 n s → MissesIn w b formula tree s
+      missing : last ≡ last_depth b tree.answer → (s : List Parts) → MissesWithin w formula last tree sets 0 n s → MissesIn w b formula tree s
       missing deep s m =
           let stood = are m.0 (Some s) m.3.set_is in
           let same : stood.0 ≡ m.3.way = same_Some stood.0 m.3.way (sym stood.2.way_is ∙ m.3.way_is) in
@@ -132,7 +132,7 @@ module _ {State Note Fact : Type 0} (w : World State Note Fact) (b : Bounds) (fo
             misses = m.3.misses;
           }
 
-      missed : last ≡ last_depth b tree.answer → (s : List Parts) → MissesIn w b formula tree s → MissesWithin w b formula last tree sets 0 n s
+      missed : last ≡ last_depth b tree.answer → (s : List Parts) → MissesIn w b formula tree s → MissesWithin w formula last tree sets 0 n s
       missed deep s m =
           let h = has_node tree m.path m.place m.leads in
           let stands : StandsAt tree h.at m.path m.place = record { way_is = h.way_is; leads = m.leads } in
@@ -160,7 +160,7 @@ module _ {State Note Fact : Type 0} (w : World State Note Fact) (b : Bounds) (fo
 
       -- and this is the first of the sets that miss
       pub first_in : last ≡ last_depth b tree.answer → IsFirstIn w b formula tree first
-      first_in deep = by first (first-same (MissesWithin w b formula last tree sets 0 n) (MissesIn w b formula tree) first (missing deep) (missed deep) f.1)
+      first_in deep = by first (first-same (MissesWithin w formula last tree sets 0 n) (MissesIn w b formula tree) first (missing deep) (missed deep) f.1)
         where
           by : (o : Option (List Parts)) → IsFirstOf (MissesIn w b formula tree) o → IsFirstIn w b formula tree o
           by None h = h

@@ -103,10 +103,10 @@ module _ {State Note Fact : Type 0} (w : World State Note Fact) (b : Bounds) (fo
     same_kid : (i : ℕ) → kid_at p i ≡ kid i
     same_kid i = ap (λ y. kid_in y p.faults p.excluded i) opened
 
-    missing : (s : List Parts) → MissesBefore w b formula last depth kid (length edges) s → MissesFrom w formula last depth p s
+    missing : (s : List Parts) → MissesBefore w formula last depth kid (length edges) s → MissesFrom w formula last depth p s
     missing s m = laws.misses_beneath w b formula last depth p m.1 m.0 s (same_kid m.0 ∙ m.3) m.4
 
-    missed : (s : List Parts) → MissesFrom w formula last depth p s → MissesBefore w b formula last depth kid (length edges) s
+    missed : (s : List Parts) → MissesFrom w formula last depth p s → MissesBefore w formula last depth kid (length edges) s
     missed s m = elim (laws.cases_misses w b formula last depth p s m) [
       | inl here ↦
           let above : depth < last = (opened_right (Node-F.Branch reach edges kids) opened h).above in
@@ -124,7 +124,7 @@ module _ {State Note Fact : Type 0} (w : World State Note Fact) (b : Bounds) (fo
       record {
         excluded = over.1.excluded;
         path = over.1.path;
-        first = lowers-same (MissesBefore w b formula last depth kid (length edges)) (MissesFrom w formula last depth p) old.first new.first
+        first = lowers-same (MissesBefore w formula last depth kid (length edges)) (MissesFrom w formula last depth p) old.first new.first
             missing missed over.1.first;
       },
     )
@@ -148,14 +148,14 @@ module _ {State Note Fact : Type 0} (w : World State Note Fact) (b : Bounds) (fo
     pub excluded : here.excluded ≡ start.excluded ++ take i edges
     pub path : here.path ≡ start.path
     pub right : AreRightBefore w b formula last depth kid i
-    pub first : Lowers (MissesBefore w b formula last depth kid i) start.first here.first
+    pub first : Lowers (MissesBefore w formula last depth kid i) start.first here.first
 
   pub so_far-first : (edges : List Parts) (start : Stand) → SoFar edges 0 start start
   so_far-first edges start = record {
     excluded = sym (append-nil start.excluded);
     path = refl;
     right = λ j one few. let never : ⊥ = omega arith in absurd never;
-    first = lowers-none (MissesBefore w b formula last depth kid 0) start.first (λ s m. let few : m.0 < 0 = m.2 in omega arith);
+    first = lowers-none (MissesBefore w formula last depth kid 0) start.first (λ s m. let few : m.0 < 0 = m.2 in omega arith);
   }
 
   module _ (i : ℕ) (one : Place) (is : kid i ≡ Some one) where
@@ -173,15 +173,15 @@ module _ {State Note Fact : Type 0} (w : World State Note Fact) (b : Bounds) (fo
       | inr same ↦ subst (AreRight w b formula last (depth + 1)) (some_place one other (sym is ∙ ap kid (sym same) ∙ there)) right
     ]
 
-    missing-more : (s : List Parts) → MissesBefore w b formula last depth kid i s ⊎ MissesFrom w formula last (depth + 1) one s
-        → MissesBefore w b formula last depth kid (i + 1) s
+    missing-more : (s : List Parts) → MissesBefore w formula last depth kid i s ⊎ MissesFrom w formula last (depth + 1) one s
+        → MissesBefore w formula last depth kid (i + 1) s
     missing-more s m = elim m [
       | inl before ↦ let few : before.0 < i = before.2 in (before.0, before.1, omega arith, before.3, before.4)
       | inr this ↦ (i, one, omega arith, is, this)
     ]
 
-    missed-more : (s : List Parts) → MissesBefore w b formula last depth kid (i + 1) s
-        → MissesBefore w b formula last depth kid i s ⊎ MissesFrom w formula last (depth + 1) one s
+    missed-more : (s : List Parts) → MissesBefore w formula last depth kid (i + 1) s
+        → MissesBefore w formula last depth kid i s ⊎ MissesFrom w formula last (depth + 1) one s
     missed-more s m = elim (before_or_this m.0 m.2) [
       | inl less ↦ inl (m.0, m.1, less, m.3, m.4)
       | inr same ↦ inr (subst (λ x. MissesFrom w formula last (depth + 1) x s) (some_place m.1 one (sym m.3 ∙ ap kid same ∙ is)) m.4)
@@ -196,7 +196,7 @@ module _ {State Note Fact : Type 0} (w : World State Note Fact) (b : Bounds) (fo
     so_far-more edges edge start here pushed met next at so same put put_first (Some why) none walked excluded path first =
         let never : ⊥ = cc in absurd never
     so_far-more edges edge start here pushed met next at so same put put_first None none walked excluded path first =
-        let P = MissesBefore w b formula last depth kid i in
+        let P = MissesBefore w formula last depth kid i in
         let Q = MissesFrom w formula last (depth + 1) one in
         let passes = walked.1 in
         record {
@@ -204,8 +204,8 @@ module _ {State Note Fact : Type 0} (w : World State Note Fact) (b : Bounds) (fo
               ∙ append_assoc start.excluded (take i edges) (edge ∷ []) ∙ ap (λ xs. start.excluded ++ xs) (sym (take_one edges i edge at));
           path = path ∙ ap (λ xs. take (length xs - 1) xs) (passes.path ∙ put) ∙ popped here.path i ∙ so.path;
           right = right-more so.right walked.0;
-          first = subst (Lowers (MissesBefore w b formula last depth kid (i + 1)) start.first) (sym first)
-              (lowers-same (λ s. P s ⊎ Q s) (MissesBefore w b formula last depth kid (i + 1)) start.first met.first missing-more missed-more
+          first = subst (Lowers (MissesBefore w formula last depth kid (i + 1)) start.first) (sym first)
+              (lowers-same (λ s. P s ⊎ Q s) (MissesBefore w formula last depth kid (i + 1)) start.first met.first missing-more missed-more
               (lowers-both P Q start.first here.first met.first so.first (subst (λ o. Lowers Q o met.first) put_first passes.first)));
         }
 
@@ -230,8 +230,8 @@ module _ {State Note Fact : Type 0} (w : World State Note Fact) (b : Bounds) (fo
       excluded = excluded ∙ ap (take n) so.excluded ∙ ap (λ m. take m (start.excluded ++ take i edges)) long
           ∙ take-append_seam start.excluded (take i edges);
       path = path ∙ so.path;
-      first = subst (λ k. Lowers (MissesBefore w b formula last depth kid k) start.first next.first) all
-          (subst (Lowers (MissesBefore w b formula last depth kid i) start.first) (sym first) so.first);
+      first = subst (λ k. Lowers (MissesBefore w formula last depth kid k) start.first next.first) all
+          (subst (Lowers (MissesBefore w formula last depth kid i) start.first) (sym first) so.first);
     },
   )
 

@@ -82,21 +82,9 @@ ExcludesAt tree branch kid faults =
 abbrev pub IsExcluded : Tree → Excluded → Type 0
 IsExcluded tree excluded = IfSome excluded.last (λ last. ExcludesAt tree last.branch last.kid excluded.faults.items)
 
-module _ {State Note Fact : Type 0} (w : World State Note Fact) (b : Bounds) (formula : Formula Fact) (last : ℕ) (tree : Tree)
+module _ {State Note Fact : Type 0} (w : World State Note Fact) (formula : Formula Fact) (last : ℕ) (tree : Tree)
     (sets : List (Option (List Parts))) where
-  -- the node at a place of the list is right, if it has a set
-  abbrev pub IsRightAt : ℕ → Type 0
-  IsRightAt at = (way : List ℕ) (p : Place) (set : List Parts) → StandsAt tree at way p → slice_get sets at ≡ Some (Some set)
-      → IsRight w b formula last (length way) p
-
-  -- it fails, by this reason first
-  pub record FailsAt (at : ℕ) (why : Reason) : Type 0 where
-    pub way : List ℕ
-    pub place : Place
-    pub stands : StandsAt tree at way place
-    pub fails : FailsFirst w b formula last (length way) place why
-
-  -- it stands at the last depth, and its set misses
+  -- the node at a place of the list stands at the last depth, and its set misses
   pub record MissesAt (at : ℕ) (faults : List Parts) : Type 0 where
     pub way : List ℕ
     pub way_is : slice_get (ways_of tree) at ≡ Some way
@@ -104,22 +92,37 @@ module _ {State Note Fact : Type 0} (w : World State Note Fact) (b : Bounds) (fo
     pub deep : length way ≡ last
     pub misses : reaches w faults formula ≡ false
 
-  -- of the nodes from one place of the list to before another
-  abbrev pub AreRightWithin : ℕ → ℕ → Type 0
-  AreRightWithin from to = (at : ℕ) → from ≤ at → at < to → IsRightAt at
-
+  -- some node from one place of the list to before another does
   abbrev pub MissesWithin : ℕ → ℕ → List Parts → Type 0
   MissesWithin from to faults = (at : ℕ) × (from ≤ at) × (at < to) × MissesAt at faults
 
-  -- the first of them that fails, or that each is right, with the first of the sets that miss
-  abbrev pub IsFound : ℕ → ℕ → Found → Type 0
-  IsFound from to (Fails at why) = (from ≤ at) × (at < to) × AreRightWithin from at × FailsAt at why
-  IsFound from to (Passes first) = AreRightWithin from to × IsFirstOf (MissesWithin from to) first
+module _ {State Note Fact : Type 0} (w : World State Note Fact) (b : Bounds) (formula : Formula Fact) (last : ℕ) (tree : Tree) where
+  -- the node at a place of the list fails, by this reason first
+  pub record FailsAt (at : ℕ) (why : Reason) : Type 0 where
+    pub way : List ℕ
+    pub place : Place
+    pub stands : StandsAt tree at way place
+    pub fails : FailsFirst w b formula last (length way) place why
 
-  -- the same of one part: each part has 256 nodes, but the last
-  abbrev pub IsFoundInPart : ℕ → Found → Type 0
-  IsFoundInPart part = IsFound (part * 256) (part * 256 + 256)
+  module _ (sets : List (Option (List Parts))) where
+    -- it is right, if it has a set
+    abbrev pub IsRightAt : ℕ → Type 0
+    IsRightAt at = (way : List ℕ) (p : Place) (set : List Parts) → StandsAt tree at way p → slice_get sets at ≡ Some (Some set)
+        → IsRight w b formula last (length way) p
 
-  -- the same of all nodes, which are no more than some number
-  abbrev pub IsFoundInAll : Found → Type 0
-  IsFoundInAll it = (to : ℕ) × (length sets ≤ to) × IsFound 0 to it
+    -- all nodes from one place of the list to before another are
+    abbrev pub AreRightWithin : ℕ → ℕ → Type 0
+    AreRightWithin from to = (at : ℕ) → from ≤ at → at < to → IsRightAt at
+
+    -- the first of them that fails, or that each is right, with the first of the sets that miss
+    abbrev pub IsFound : ℕ → ℕ → Found → Type 0
+    IsFound from to (Fails at why) = (from ≤ at) × (at < to) × AreRightWithin from at × FailsAt at why
+    IsFound from to (Passes first) = AreRightWithin from to × IsFirstOf (MissesWithin w formula last tree sets from to) first
+
+    -- the same of one part: each part has 256 nodes, but the last
+    abbrev pub IsFoundInPart : ℕ → Found → Type 0
+    IsFoundInPart part = IsFound (part * 256) (part * 256 + 256)
+
+    -- the same of all nodes, which are no more than some number
+    abbrev pub IsFoundInAll : Found → Type 0
+    IsFoundInAll it = (to : ℕ) × (length sets ≤ to) × IsFound 0 to it

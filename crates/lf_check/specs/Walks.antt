@@ -47,6 +47,11 @@ Stops Failing old new = (rest : List ℕ) × Failing rest × (new.path ≡ old.p
 abbrev pub kid_of : List Parts → List Node → List Parts → List Parts → ℕ → Option Place
 kid_of edges kids faults excluded = kid_in (Node-F.Branch [] edges kids) faults excluded
 
+-- of the kids of a branch at this depth, beneath one before another the set stands at the last depth, and its run misses
+abbrev pub MissesBefore : {State Note Fact : Type 0} → World State Note Fact → Formula Fact → ℕ → ℕ → (ℕ → Option Place) → ℕ → List Parts → Type 0
+MissesBefore w formula last depth kid i faults =
+    (j : ℕ) × (one : Place) × (j < i) × (kid j ≡ Some one) × MissesFrom w formula last (depth + 1) one faults
+
 module _ {State Note Fact : Type 0} (w : World State Note Fact) (b : Bounds) (formula : Formula Fact) (last depth : ℕ) where
   -- from a place on: all is right, or this fails first
   abbrev pub IsWalkFrom : Place → Stand → Stand → Option Reason → Type 0
@@ -60,10 +65,6 @@ module _ {State Note Fact : Type 0} (w : World State Note Fact) (b : Bounds) (fo
     abbrev pub AreRightBefore : ℕ → Type 0
     AreRightBefore i = (j : ℕ) (one : Place) → j < i → kid j ≡ Some one → AreRight w b formula last (depth + 1) one
 
-    -- the set stands beneath one of these kids at the last depth, and its run misses
-    abbrev pub MissesBefore : ℕ → List Parts → Type 0
-    MissesBefore i faults = (j : ℕ) × (one : Place) × (j < i) × (kid j ≡ Some one) × MissesFrom w formula last (depth + 1) one faults
-
     -- the kids before one are wholly right, and in that one this fails first
     abbrev pub KidFails : Reason → List ℕ → Type 0
     KidFails why path =
@@ -74,5 +75,5 @@ module _ {State Note Fact : Type 0} (w : World State Note Fact) (b : Bounds) (fo
     abbrev pub IsWalkOver : ℕ → Stand → Stand → Option Reason → Type 0
     IsWalkOver count old new found =
         MatchOption found
-        (AreRightBefore count × Passes (MissesBefore count) old new)
+        (AreRightBefore count × Passes (MissesBefore w formula last depth kid count) old new)
         (λ why. Stops (KidFails why) old new)

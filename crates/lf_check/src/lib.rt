@@ -20,5 +20,6 @@ mod verdict;
 mod walk;
 
 pub use judging::judge;
+pub use lf_certificate::Reason;
 pub use scenarios::{check, check_rows, check_rows_watched};
 pub use verdict::Verdict;

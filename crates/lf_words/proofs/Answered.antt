@@ -7,8 +7,8 @@ use Rattle.clap.specs.declared.error.kind.ErrorKind.TheVariants as kind
 use Rattle.lf_words.specs.Plain.{asks_help, asks_version, is_overwriting, is_plain, is_plain_command, is_unknown}
 use Rattle.lf_words.specs.Statuses.{exit_status}
 use Rattle.lf_words.specs.Commands.{program}
-use Rattle.lf_words.specs.Words.{Answers, AreNamed, Asks, CanBeDone, IsAskedIn, IsBarred, IsPlainly, IsRefusal, IsWorkers, workers_of}
-use Rattle.lf_words.specs.Words.{TellsOfOverwriting, TellsOfWorkers}
+use Rattle.lf_words.specs.Words.{Answers, AreNamed, Asks, CanBeDone, IsAskedIn, IsBarred, IsPlainly, IsRefusal, IsWorkers, overwrites, workers_of}
+use Rattle.lf_words.specs.Words.{IsOfWorkers, IsOverwriting}
 use Rattle.lf_words.specs.declared.types.Asked.{Asked}
 use Rattle.lf_words.specs.declared.types.Asked.TheVariants as asked
 use Rattle.lf_words.specs.declared.unasked.Unasked.{Unasked}
@@ -16,6 +16,14 @@ use Rattle.lf_words.specs.declared.unasked.Unasked.TheVariants as unasked
 use Rattle.lf_words.proofs.Plainly.{asks_plainly, refused_plainly, shared_is_refused, shared_refusal}
 use Rattle.lf_words.proofs.Options.{overwriting_is_refused, overwriting_refusal, uncounted_is_refused, uncounted_refusal}
 use Rattle.lf_words.proofs.Plainly.{help_is, one_status, takes_none, unknown_is, unknown_status, version_is}
+
+pub bars_over : (a : Asked) (u : Unasked) → overwrites a ≡ true → IsOverwriting u → IsBarred a u
+bars_over a (unasked.Told text) over is = absurd is
+bars_over a (unasked.Wrong text) over is = absurd is
+bars_over a (unasked.Workers text) over is = absurd is
+bars_over a (unasked.Overwrites text) over is = over
+bars_over a unasked.SharedInput over is = absurd is
+bars_over a unasked.Memory over is = tt
 
 barred : (words : List Text) (a : Asked) (u : Unasked) → Asks words a → IsBarred a u → IsRefusal words u
 barred words a (unasked.Told text) asks bars = absurd bars
@@ -42,14 +50,14 @@ module _ (ws : List (String Global)) where
   shared_of (Err u) is refusal = shared_refusal ws u is refusal
 
   pub overwriting_of : (r : Result Asked Unasked) → is_overwriting (map string_bytes ws) ≡ true → Answers (map string_bytes ws) r
-      → IsErrAnd r (λ u. TellsOfOverwriting u ⊎ (u ≡ unasked.Memory))
+      → IsErrAnd r IsOverwriting
   overwriting_of (Ok a) is asks = absurd (overwriting_is_refused ws a is asks.0 asks.1.kept)
   overwriting_of (Err u) is refusal = overwriting_refusal ws u is refusal
 
 module _ (words : List Text) (file number : Text) where
   pub uncounted_of : (r : Result Asked Unasked) → words ≡ codes "search" ∷ file ∷ codes "--workers" ∷ number ∷ [] → is_plain file ≡ true
       → is_plain number ≡ true → ((n : ℕ) → ¬ AreNamed (Some number) n) → Answers words r
-      → IsErrAnd r (λ u. TellsOfWorkers u ⊎ (u ≡ unasked.Memory))
+      → IsErrAnd r IsOfWorkers
   uncounted_of (Ok a) is plain plain_too none asks = absurd (uncounted_is_refused words file number a is plain plain_too none asks.0)
   uncounted_of (Err u) is plain plain_too none refusal = uncounted_refusal words file number u is plain plain_too none refusal
 

@@ -9,7 +9,7 @@ use Rattle.std.proofs.lemmas.Slice.Eq.{bytes_eq-Decides}
 use Rattle.clap.specs.Words.{Kinds, Row, Text, fault_of, subcommand_of}
 use Rattle.lf_words.specs.Commands.{program}
 use Rattle.lf_words.specs.Plain.{is_overwriting, is_plain}
-use Rattle.lf_words.specs.Words.{AreNamed, Asks, HasStatus, IsAskedIn, IsRefusal, IsUncounted, TellsOfOverwriting, TellsOfWorkers}
+use Rattle.lf_words.specs.Words.{AreNamed, Asks, HasStatus, IsAskedIn, IsRefusal, IsUncounted, IsOfWorkers, IsOverwriting}
 use Rattle.lf_words.specs.Words.{is_input, overwrites, shares_input, workers_of}
 use Rattle.lf_words.specs.declared.types.Asked.{Asked}
 use Rattle.lf_words.specs.declared.types.Asked.TheVariants as asked
@@ -86,7 +86,7 @@ uncounted_is_refused words file number a is plain plain_too none asks =
     none (workers_of a) (workers_search file number a plain plain_too (subst (λ ws. Asks ws a) is asks)).named
 
 only_workers : (file number : Text) (u : Unasked) → is_plain file ≡ true → is_plain number ≡ true
-    → ((n : ℕ) → AreNamed (Some number) n → ⊥) → IsRefusal (with_workers file number) u → TellsOfWorkers u ⊎ (u ≡ unasked.Memory)
+    → ((n : ℕ) → AreNamed (Some number) n → ⊥) → IsRefusal (with_workers file number) u → IsOfWorkers u
 only_workers file number (unasked.Told text) plain plain_too none refusal =
     absurd (subst (λ (kinds : Kinds). HasStatus kinds 0) (counted_fault file number (is_taken file plain) (is_taken number plain_too)) refusal)
 only_workers file number (unasked.Wrong text) plain plain_too none (inl kind) =
@@ -94,15 +94,15 @@ only_workers file number (unasked.Wrong text) plain plain_too none (inl kind) =
 only_workers file number (unasked.Wrong text) plain plain_too none (inr nothing) =
     absurd (nothing.2 (uncounted_is (subcommand_of program (with_workers file number)) file number
     (counted_names file number (is_taken file plain) (is_taken number plain_too)) none))
-only_workers file number (unasked.Workers text) plain plain_too none refusal = inl tt
+only_workers file number (unasked.Workers text) plain plain_too none refusal = tt
 only_workers file number (unasked.Overwrites text) plain plain_too none over =
     absurd (none (workers_of over.0) (workers_search file number over.0 plain plain_too over.1).named)
 only_workers file number unasked.SharedInput plain plain_too none shared =
     absurd (none (workers_of shared.0) (workers_search file number shared.0 plain plain_too shared.1).named)
-only_workers file number unasked.Memory plain plain_too none refusal = inr refl
+only_workers file number unasked.Memory plain plain_too none refusal = tt
 
 pub uncounted_refusal : (words : List Text) (file number : Text) (u : Unasked) → words ≡ with_workers file number → is_plain file ≡ true
-    → is_plain number ≡ true → ((n : ℕ) → AreNamed (Some number) n → ⊥) → IsRefusal words u → TellsOfWorkers u ⊎ (u ≡ unasked.Memory)
+    → is_plain number ≡ true → ((n : ℕ) → AreNamed (Some number) n → ⊥) → IsRefusal words u → IsOfWorkers u
 uncounted_refusal words file number u is plain plain_too none refusal =
     only_workers file number u plain plain_too none (subst (λ ws. IsRefusal ws u) is refusal)
 
@@ -173,7 +173,7 @@ module _ (file tree : String Global) (plain : is_plain (string_bytes file) ≡ t
       ≡ Some (codes "search", Some (string_bytes file), Some (string_bytes tree), false, None, false)
   names_are = written_names (string_bytes file) (string_bytes tree) (is_taken (string_bytes file) plain) (is_taken (string_bytes tree) plain_too)
 
-  only_over : (u : Unasked) → IsRefusal tree_words u → TellsOfOverwriting u ⊎ (u ≡ unasked.Memory)
+  only_over : (u : Unasked) → IsRefusal tree_words u → IsOverwriting u
   only_over (unasked.Told text) refusal = absurd (subst (λ (kinds : Kinds). HasStatus kinds 0) fault_is refusal)
   only_over (unasked.Wrong text) (inl kind) = absurd (subst (λ (kinds : Kinds). HasStatus kinds 2) fault_is kind)
   only_over (unasked.Wrong text) (inr nothing) =
@@ -181,10 +181,10 @@ module _ (file tree : String Global) (plain : is_plain (string_bytes file) ≡ t
       (fault_is, asks_tree (subcommand_of program tree_words) file tree names_are))
   only_over (unasked.Workers text) refusal =
       absurd (uncounted_not (subcommand_of program tree_words) (string_bytes file) (string_bytes tree) names_are refusal.1)
-  only_over (unasked.Overwrites text) over = inl tt
+  only_over (unasked.Overwrites text) over = tt
   only_over unasked.SharedInput shared =
       absurd (no_truth (sym (tree_search (string_bytes file) (string_bytes tree) shared.0 plain plain_too shared.1).apart ∙ shared.2))
-  only_over unasked.Memory refusal = inr refl
+  only_over unasked.Memory refusal = tt
 
 pub overwriting_is_refused : (ws : List (String Global)) (a : Asked) → is_overwriting (map string_bytes ws) ≡ true
     → Asks (map string_bytes ws) a → overwrites a ≡ false → ⊥
@@ -201,7 +201,7 @@ overwriting_is_refused (command ∷ file ∷ name ∷ tree ∷ []) a is asks kep
 overwriting_is_refused (command ∷ file ∷ name ∷ tree ∷ more ∷ rest) a is asks kept = no_truth is
 
 pub overwriting_refusal : (ws : List (String Global)) (u : Unasked) → is_overwriting (map string_bytes ws) ≡ true
-    → IsRefusal (map string_bytes ws) u → TellsOfOverwriting u ⊎ (u ≡ unasked.Memory)
+    → IsRefusal (map string_bytes ws) u → IsOverwriting u
 overwriting_refusal [] u is refusal = absurd (no_truth is)
 overwriting_refusal (command ∷ []) u is refusal = absurd (no_truth is)
 overwriting_refusal (command ∷ file ∷ []) u is refusal = absurd (no_truth is)

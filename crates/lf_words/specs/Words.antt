@@ -175,23 +175,23 @@ IsBarred a (unasked.Overwrites text) = overwrites a ≡ true
 IsBarred a unasked.SharedInput = shares_input a ≡ true
 IsBarred a unasked.Memory = ⊤
 
--- that is told of the number of workers
-abbrev pub TellsOfWorkers : Unasked → Type 0
-TellsOfWorkers (unasked.Told text) = ⊥
-TellsOfWorkers (unasked.Wrong text) = ⊥
-TellsOfWorkers (unasked.Workers text) = ⊤
-TellsOfWorkers (unasked.Overwrites text) = ⊥
-TellsOfWorkers unasked.SharedInput = ⊥
-TellsOfWorkers unasked.Memory = ⊥
+-- the number of workers is refused, unless memory is wanting for it
+abbrev pub IsOfWorkers : Unasked → Type 0
+IsOfWorkers (unasked.Told text) = ⊥
+IsOfWorkers (unasked.Wrong text) = ⊥
+IsOfWorkers (unasked.Workers text) = ⊤
+IsOfWorkers (unasked.Overwrites text) = ⊥
+IsOfWorkers unasked.SharedInput = ⊥
+IsOfWorkers unasked.Memory = ⊤
 
--- it is told that the certificate would overwrite the scenario
-abbrev pub TellsOfOverwriting : Unasked → Type 0
-TellsOfOverwriting (unasked.Told text) = ⊥
-TellsOfOverwriting (unasked.Wrong text) = ⊥
-TellsOfOverwriting (unasked.Workers text) = ⊥
-TellsOfOverwriting (unasked.Overwrites text) = ⊤
-TellsOfOverwriting unasked.SharedInput = ⊥
-TellsOfOverwriting unasked.Memory = ⊥
+-- a certificate that would overwrite the scenario is refused, unless memory is wanting for it
+abbrev pub IsOverwriting : Unasked → Type 0
+IsOverwriting (unasked.Told text) = ⊥
+IsOverwriting (unasked.Wrong text) = ⊥
+IsOverwriting (unasked.Workers text) = ⊥
+IsOverwriting (unasked.Overwrites text) = ⊤
+IsOverwriting unasked.SharedInput = ⊥
+IsOverwriting unasked.Memory = ⊤
 
 -- why the words ask for nothing that can be done. `clap` refuses them so; or takes them and they ask for nothing, where they ask for a
 -- search by no number of workers, or else; or they ask for two texts from standard input, or for a certificate in place of the

@@ -3,8 +3,9 @@
 ghost use Rattle.std.specs.Prelude.{◌≡◌};
 ghost use Rattle.lf_words.specs.Statuses.{exit_status, goes_to_error};
 ghost use Rattle.lf_words.specs.Texts.{text_of};
+ghost use Rattle.lf_words.specs.Words.{IsOverwriting};
 
-use std::alloc::AllocError;
+use std::alloc::{AllocError, Global};
 use std::error::Error;
 use std::fmt;
 
@@ -26,6 +27,16 @@ pub enum Unasked {
 }
 
 impl Unasked {
+    /// The refusal of a certificate that is to be written into this file, which has the scenario. `Memory` where memory ran out.
+    pub fn overwriting(alloc: Global, file: &str) -> Unasked
+        ensures { IsOverwriting result }
+    {
+        match format!(in alloc; "--tree = {file}: it would overwrite the scenario\n") {
+            Ok(text) => Unasked::Overwrites(text),
+            Err(_) => Unasked::Memory,
+        }
+    }
+
     /// The status to exit with: 0 where help or the version was asked for, 3 for want of memory, and else 2.
     pub fn status(&self) -> u8
         ensures { result ≡ exit_status self.now }

@@ -9,7 +9,7 @@ ghost use Rattle.lf_words.specs.Plain.{asks_help, asks_version, is_overwriting, 
 ghost use Rattle.lf_words.specs.Statuses.{exit_status};
 ghost use Rattle.lf_words.specs.Words.{Answers, AreNamed, Asks, CanBeDone, IsAnswer, IsAskedBy, IsAskedIn, IsBarred, IsPartOf, IsPlainly};
 ghost use Rattle.lf_words.specs.Words.{IsRefusal, IsToldFor, IsUnread, IsWorkers, is_set, workers_of};
-ghost use Rattle.lf_words.specs.Words.{TellsOfOverwriting, TellsOfWorkers};
+ghost use Rattle.lf_words.specs.Words.{IsOfWorkers, IsOverwriting};
 
 use crate::commands::program;
 use crate::refusals::wrong_text;
@@ -36,10 +36,10 @@ pub fn asked(alloc: Global, words: &[String]) -> Result<Asked, Unasked>
     ensures shared { map string_bytes words.now ≡ codes "check" ∷ codes "-" ∷ codes "-" ∷ [] → IsErrAnd result
         (λ u. (u ≡ Unasked.SharedInput) ⊎ (u ≡ Unasked.Memory)) }
     ensures overwriting { is_overwriting (map string_bytes words.now) ≡ true → IsErrAnd result
-        (λ u. TellsOfOverwriting u ⊎ (u ≡ Unasked.Memory)) }
+        IsOverwriting }
     ensures uncounted { (file number : Text) → map string_bytes words.now ≡ codes "search" ∷ file ∷ codes "--workers" ∷ number ∷ []
         → is_plain file ≡ true → is_plain number ≡ true → ((n : ℕ) → ¬ AreNamed (Some number) n) → IsErrAnd result
-        (λ u. TellsOfWorkers u ⊎ (u ≡ Unasked.Memory)) }
+        IsOfWorkers }
     ensures help { asks_help (map string_bytes words.now) ≡ true → IsErrAnd result
         (λ u. (exit_status u ≡ 0) ⊎ (u ≡ Unasked.Memory)) }
     ensures version { asks_version (map string_bytes words.now) ≡ true → IsErrAnd result
@@ -102,14 +102,9 @@ fn possible(alloc: Global, asked: Asked) -> Result<Asked, Unasked>
         return Err(Unasked::SharedInput);
     }
     if asked.overwrites() {
-        return Err(Unasked::Overwrites(overwriting(alloc, asked.file())?));
+        return Err(Unasked::overwriting(alloc, asked.file()));
     }
     Ok(asked)
-}
-
-/// What to tell where the certificate would be written into the file of the scenario.
-fn overwriting(alloc: Global, file: &str) -> Result<String, AllocError> {
-    format!(in alloc; "--tree = {file}: it would overwrite the scenario\n")
 }
 
 /// What `clap`'s matches ask for. None where they ask for nothing that is among the words.
