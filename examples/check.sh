@@ -207,7 +207,6 @@ test_tree() {
     holds before.json "$certificate" 'a reply that could not be written'
     expect 3 '' 'write*' 'leastfault search examples/one_try.toml --tree nowhere/tree.json'
     expect 3 '' 'write*' 'leastfault search examples/one_try.toml --tree examples'
-    expect 3 '' 'write*' 'leastfault search examples/one_try.toml --tree /dev/full'
 }
 
 test_own_file() {
@@ -298,8 +297,11 @@ test_devices() {
     expect 3 '' $'read\n*' 'leastfault answer nowhere.toml'
     expect 3 '' $'read\n*' "leastfault run nowhere.toml ''"
     expect 3 '' $'read\n*' 'leastfault check examples/claimed_away.toml nowhere.json'
-    expect 3 '' $'read\n*' 'leastfault search examples'
-    expect 3 '' $'write\n*' 'leastfault search examples/one_try.toml >/dev/full'
+    expect 3 '' $'read\nexamples: *irectory*' 'leastfault search examples'
+    expect 3 '' $'read\nexamples: *irectory*' 'leastfault check examples/claimed_away.toml examples'
+    expect 3 '' $'read\nstandard input: *irectory*' 'leastfault search - <examples'
+    expect 3 '' $'write\nstandard output: *space*' 'leastfault search examples/one_try.toml >/dev/full'
+    expect 3 '' $'write\n/dev/full: *space*' 'leastfault search examples/one_try.toml --tree /dev/full'
     expect 3 '' $'write\n*' "leastfault run examples/one_try.toml '' >/dev/full"
     expect 3 '' $'write\n*' 'leastfault check examples/claimed_away.toml examples/claimed_away.json >/dev/full'
 }

@@ -52,9 +52,11 @@ const HINTS: &str = concat!(
     "see|all 1 2;pause 0 @1;pause 1 @2;|to see the first: leastfault run a.toml 'pause 0 @1'\n",
     "see|all 0 1;-;|to see it: leastfault run a.toml ''\n",
     "verdict|no 9 -;{\"answer\":null,\"format\":1,\"root\":{\"misses\":true}}|at the root, without faults: a leaf stands at depth 0, and leaves stand at depth 2, the budget\n",
-    "verdict|no 2 0;{\"answer\":[\"omit 0>2 @1\"],\"format\":1,\"root\":{\"edges\":[\"omit 0>1 @1\"],\"kids\":[{\"misses\":false}],\"reach\":[1,2,2]}}|",
+    "verdict|no 2 0;{\"answer\":[\"omit 0>2 @1\"],",
+    "\"format\":1,\"root\":{\"edges\":[\"omit 0>1 @1\"],\"kids\":[{\"misses\":false}],\"reach\":[1,2,2]}}|",
     "at 0: omit 0>1 @1: the leaf says reaches, and the run misses\n",
-    "verdict|no 4 -;{\"answer\":null,\"format\":1,\"root\":{\"edges\":[],\"kids\":[],\"reach\":[0,9,0]}}|at the root, without faults: reach[1] = 9, and horizon = 5\n",
+    "verdict|no 4 -;{\"answer\":null,\"format\":1,\"root\":{\"edges\":[],\"kids\":[],\"reach\":[0,9,0]}}|",
+    "at the root, without faults: reach[1] = 9, and horizon = 5\n",
     "verdict|no 1 -;{\"answer\":[\"crash 0 @9\"],\"format\":1,\"root\":{\"misses\":true}}|answer: not allowed by the scenario: \"crash 0 @9\": the step\n",
 );
 

@@ -1,3 +1,6 @@
+mod CertificateLemmas
+mod CommandLemmas
+mod EngineLemmas
 mod LeastSets
 mod Limits
 mod LineTexts

@@ -180,7 +180,7 @@ tree_of_same s t tree same is =
     (subst (λ w. IsTreeOf w t.setting.spec s.formula tree) (worlds_are_one s t same)
     (subst (λ b. IsTreeOf (world_of s.setting) b s.formula tree) same.bounds is.search))
 
-no_answer_is_two : (answer : Option (List Parts)) → 2 ≡ search_status answer → ⊥
+pub no_answer_is_two : (answer : Option (List Parts)) → 2 ≡ search_status answer → ⊥
 no_answer_is_two None is = omega (arith, is)
 no_answer_is_two (Some faults) is = omega (arith, is)
 

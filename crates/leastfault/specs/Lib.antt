@@ -2,4 +2,6 @@ pub mod Answers
 pub mod Reports
 pub mod Replies
 pub mod Searches
-pub mod Made
+pub mod Engines
+pub mod Commands
+pub mod Checks

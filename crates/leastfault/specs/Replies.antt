@@ -1,6 +1,5 @@
--- The reply to a text, and what an engine answers.
-use Rattle.std.specs.Prelude.{◌≡◌, ◌⊎◌, ℕ, ◌<◌, ◌≤◌, Bool, true, false, List, length, take, drop, slice_get, Option, None, Some, Result, Ok, Err, IfSome}
-use Rattle.std.specs.Io.KnownBytes.{Appends}
+-- The reply to a text, and what is answered with it.
+use Rattle.std.specs.Prelude.{◌≡◌, ◌⊎◌, ℕ, List, slice_get, Option, None, Some}
 use Rattle.lf_certificate.specs.declared.reason.Reason.{Reason}
 use Rattle.lf_certificate.specs.Accepted.{IsAccepted}
 use Rattle.lf_certificate.specs.Faults.{IsFirstFault}
@@ -12,6 +11,7 @@ use Rattle.lf_faults.specs.declared.spec.Bounds.{Bounds}
 use Rattle.lf_outcome.specs.declared.formula.Formula.{Formula}
 use Rattle.lf_sim.specs.Runs.{World}
 use Rattle.lf_sim.specs.Settings.{world_of}
+use Rattle.lf_pool.specs.Solved.{AreWorkers}
 use Rattle.lf_scenario.specs.declared.error.ScenarioError.{ScenarioError}
 use Rattle.lf_scenario.specs.declared.scenario.Scenario.{Scenario}
 use Rattle.lf_scenario.specs.Scenarios.{IsRefused, IsText}
@@ -24,8 +24,7 @@ use Rattle.lf_tree.specs.Texts.{IsInRange, tree_text}
 use Rattle.lf_tree.specs.Trees.{IsTree}
 use Rattle.leastfault.specs.declared.answering.Wanted.{Wanted}
 use Rattle.leastfault.specs.declared.answering.Wanted.TheVariants as wanted
-use Rattle.leastfault.specs.declared.engine.BytesFault.{BytesFault}
-use Rattle.leastfault.specs.declared.engine.BytesFault.TheVariants as faults
+use Rattle.leastfault.specs.declared.reply.Searched.{Searched}
 use Rattle.leastfault.specs.Answers.{AreLeastSets, IsAnswer, reaches_in}
 use Rattle.leastfault.specs.Reports.{all_report, full_line, no_line, no_set_line, refusal, report, run_status, search_status, tree_refusal, yes_line}
 
@@ -92,14 +91,36 @@ HandsOut text None status = status ≡ 2
 HandsOut text (Some tree) status = (s : Scenario) × IsText s text × IsTreeFor s tree × (status ≡ search_status tree.answer)
 
 -- the reply of a search, and what is handed out with it
-abbrev pub IsSearchedWith : (Scenario → List ℕ → ℕ → Type 0) → Option Tree → List ℕ → List ℕ → ℕ → Type 0
-IsSearchedWith Reports tree text reply status = IsReplyWith Reports text reply status × HandsOut text tree status
+abbrev pub IsSearchedWith : (Scenario → List ℕ → ℕ → Type 0) → List ℕ → List ℕ → Searched → Type 0
+IsSearchedWith Reports text reply searched = IsReplyWith Reports text reply searched.status × HandsOut text searched.tree searched.status
 
-abbrev pub IsSearched : Option Tree → List ℕ → List ℕ → ℕ → Type 0
+abbrev pub IsSearched : List ℕ → List ℕ → Searched → Type 0
 IsSearched = IsSearchedWith RepliesReport
 
-abbrev pub IsSearchedAll : Option Tree → List ℕ → List ℕ → ℕ → Type 0
+abbrev pub IsSearchedAll : List ℕ → List ℕ → Searched → Type 0
 IsSearchedAll = IsSearchedWith RepliesAll
+
+-- so many workers may search, or the text is refused
+abbrev pub MayWork : ℕ → List ℕ → Type 0
+MayWork workers text = AreWorkers workers ⊎ ((e : ScenarioError) × IsRefused text e)
+
+-- the same of a search by so many workers
+abbrev pub IsSharedWith : (Scenario → List ℕ → ℕ → Type 0) → ℕ → List ℕ → List ℕ → Searched → Type 0
+IsSharedWith Reports workers text reply searched = IsSearchedWith Reports text reply searched × MayWork workers text
+
+abbrev pub IsShared : ℕ → List ℕ → List ℕ → Searched → Type 0
+IsShared = IsSharedWith RepliesReport
+
+abbrev pub IsSharedAll : ℕ → List ℕ → List ℕ → Searched → Type 0
+IsSharedAll = IsSharedWith RepliesAll
+
+-- why so many workers give no answer: 1 exactly where so many may not search, and else 3 or 4
+abbrev pub IsCauseOf : ℕ → ℕ → Type 0
+IsCauseOf workers number = ((number ≡ 1) × (¬ AreWorkers workers)) ⊎ (((number ≡ 3) ⊎ (number ≡ 4)) × AreWorkers workers)
+
+-- and they are asked where the text is a scenario's
+abbrev pub IsPoolCause : ℕ → List ℕ → ℕ → Type 0
+IsPoolCause workers text number = ((s : Scenario) × IsText s text) × IsCauseOf workers number
 
 -- the line that no allowed set has this name, where the words name none, or none that the scenario allows, with status 2
 abbrev pub RepliesNoSet : List ℕ → Scenario → List ℕ → ℕ → Type 0
@@ -155,41 +176,3 @@ IsCheckReply text certificate reply status =
 -- there is one reply at most, with one status
 abbrev pub HasOneReply : (List ℕ → ℕ → Type 0) → Type 0
 HasOneReply IsReply = (one other : List ℕ) (m n : ℕ) → IsReply one m → IsReply other n → (one ≡ other) × (m ≡ n)
-
--- a reply to what a source held: where it doesn't tell, to some text
-abbrev pub ToHeld : (List ℕ → List ℕ → ℕ → Type 0) → Option (List ℕ) → List ℕ → ℕ → Type 0
-ToHeld IsReply held reply status = (text : List ℕ) × IfSome held (λ h. text ≡ h) × IsReply text reply status
-
--- the same of two sources
-abbrev pub ToBoth : (List ℕ → List ℕ → List ℕ → ℕ → Type 0) → Option (List ℕ) → Option (List ℕ) → List ℕ → ℕ → Type 0
-ToBoth IsReply held other = ToHeld (λ text. ToHeld (IsReply text) other) held
-
--- of an engine, by which replies with which statuses there are
-module _ (IsReply : List ℕ → ℕ → Type 0) where
-  -- a reply was written
-  abbrev pub WroteReply : Option (List ℕ) → Option (List ℕ) → ℕ → Type 0
-  WroteReply old new status = (reply : List ℕ) × IsReply reply status × Appends old new reply
-
-  -- a part of one was written, from its front, and not the whole
-  abbrev pub WrotePart : Option (List ℕ) → Option (List ℕ) → Type 0
-  WrotePart old new =
-      (reply : List ℕ) × (status : ℕ) × (n : ℕ) × IsReply reply status × (n < length reply) × Appends old new (take n reply)
-
--- no more than so many bytes of a source were taken
-abbrev pub TookAtMost : ℕ → Option (List ℕ) → Option (List ℕ) → Type 0
-TookAtMost most held left = IfSome held (λ h. (n : ℕ) × (n ≤ most) × (left ≡ Some (drop n h)))
-
--- which answers say that the source failed, and which that the sink did
-abbrev pub tells_read : {X : Type 0} → Result X BytesFault → Bool
-tells_read (Ok _) = false
-tells_read (Err faults.Read) = true
-tells_read (Err faults.Write) = false
-tells_read (Err faults.Memory) = false
-tells_read (Err (faults.Pool number)) = false
-
-abbrev pub tells_write : {X : Type 0} → Result X BytesFault → Bool
-tells_write (Ok _) = false
-tells_write (Err faults.Read) = false
-tells_write (Err faults.Write) = true
-tells_write (Err faults.Memory) = false
-tells_write (Err (faults.Pool number)) = false

@@ -1,15 +1,27 @@
 -- What a search for a scenario comes to, before it is written.
-use Rattle.std.specs.Prelude.{◌≡◌, ◌⊎◌, None, Some, string_bytes}
+use Rattle.std.specs.Prelude.{◌≡◌, ◌⊎◌, ℕ, List, None, Some, Result, string_bytes}
+use Rattle.lf_pool.specs.Solved.{AreWorkers}
 use Rattle.lf_scenario.specs.declared.scenario.Scenario.{Scenario}
 use Rattle.lf_tree.specs.declared.tree.Tree.{Tree}
-use Rattle.leastfault.specs.declared.answering.Found.{Found}
 use Rattle.leastfault.specs.declared.answering.Wanted.{Wanted}
-use Rattle.leastfault.specs.Replies.{IsTreeFor, RepliesFull, reports_of}
+use Rattle.leastfault.specs.declared.fault.BytesFault.{BytesFault}
+use Rattle.leastfault.specs.declared.reply.Reply.{Reply}
+use Rattle.leastfault.specs.declared.reply.Searched.{Searched}
+use Rattle.leastfault.specs.Engines.{IsMadeHere, OfReply}
+use Rattle.leastfault.specs.Replies.{IsCauseOf, IsPoolCause, IsSharedWith, IsTreeFor, RepliesFull, reports_of}
 use Rattle.leastfault.specs.Reports.{search_status}
 
 -- a report has the tree of the search with it, and a level that is too full has none
-abbrev pub IsFoundFor : Wanted → Scenario → Found → Type 0
+abbrev pub IsFoundFor : Wanted → Scenario → Reply Searched → Type 0
 IsFoundFor wanted s found =
-    (RepliesFull s (string_bytes found.reply.text) found.reply.status × (found.tree ≡ None))
-    ⊎ (reports_of wanted s (string_bytes found.reply.text) found.reply.status
-    × ((tree : Tree) × (found.tree ≡ Some tree) × IsTreeFor s tree × (found.reply.status ≡ search_status tree.answer)))
+    (RepliesFull s (string_bytes found.text) found.value.status × (found.value.tree ≡ None))
+    ⊎ (reports_of wanted s (string_bytes found.text) found.value.status
+    × ((tree : Tree) × (found.value.tree ≡ Some tree) × IsTreeFor s tree × (found.value.status ≡ search_status tree.answer)))
+
+-- a search for the scenario by so many workers comes to this, and they may search; or it finds nothing for a cause
+abbrev pub IsEndFor : Wanted → ℕ → Scenario → Result (Reply Searched) BytesFault → Type 0
+IsEndFor wanted workers s = IsMadeHere (λ found. IsFoundFor wanted s found × AreWorkers workers) (IsCauseOf workers)
+
+-- and for a text to this
+abbrev pub IsEndIn : Wanted → ℕ → List ℕ → Result (Reply Searched) BytesFault → Type 0
+IsEndIn wanted workers text = IsMadeHere (OfReply (IsSharedWith (reports_of wanted) workers) text) (IsPoolCause workers text)

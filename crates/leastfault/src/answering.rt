@@ -13,6 +13,7 @@ ghost use Rattle.leastfault.specs.Replies.{IsAnswerReply, IsRunReply, IsSearched
 ghost use Rattle.leastfault.specs.Searches.{IsFoundFor};
 ghost use Rattle.leastfault.specs.Reports.{full_line, no_set_line, refusal, run_status, search_status};
 
+use crate::reply::{Reply, Searched, without_tree};
 use crate::{all_report, full_line, merged_watched, refusal, report};
 use lf_alone::{Ended, solve_watched};
 use lf_book::Book;
@@ -21,24 +22,9 @@ use lf_outcome::holds;
 use lf_scenario::{Scenario, ScenarioError, read};
 use lf_sim::run;
 use lf_trace::{read_faults, trace};
-use lf_tree::Tree;
 use lf_watch::Watch;
 use std::alloc::{AllocError, Global};
 use std::sync::Arc;
-
-/// A reply, before it is written.
-#[derive(Drop)]
-pub(crate) struct Reply {
-    pub(crate) text: String,
-    pub(crate) status: u8,
-}
-
-/// A search's reply, before it is written, and the tree that is handed out with it.
-#[derive(Drop)]
-pub(crate) struct Found {
-    pub(crate) reply: Reply,
-    pub(crate) tree: Option<Tree>,
-}
 
 /// What a search is to report.
 #[derive(Clone, Copy, Debug)]
@@ -55,16 +41,15 @@ pub(crate) fn search_reply<V: Watch>(
     wanted: Wanted,
     text: &[u8],
     watch: &V,
-) -> Result<Found, AllocError>
-    ensures { IfOk result (λ found.
-        IsSearchedWith (reports_of wanted) found.tree text.now (string_bytes found.reply.text) found.reply.status) }
+) -> Result<Reply<Searched>, AllocError>
+    ensures { IfOk result (λ found. IsSearchedWith (reports_of wanted) text.now (string_bytes found.text) found.value) }
 {
     match read(alloc, text) {
         Ok(scenario) => searched(alloc, wanted, scenario, watch),
-        Err(error) => Ok(Found {
-            reply: refused(alloc, error)?,
-            tree: None,
-        }),
+        Err(error) => {
+            let refusal = refused(alloc, error)?;
+            Ok(without_tree(refusal.text, refusal.value))
+        }
     }
 }
 
@@ -74,38 +59,41 @@ fn searched<V: Watch>(
     wanted: Wanted,
     scenario: Scenario,
     watch: &V,
-) -> Result<Found, AllocError>
+) -> Result<Reply<Searched>, AllocError>
     ensures { IfOk result (IsFoundFor wanted scenario) }
 {
     match solve_watched(alloc, Arc::new(alloc, scenario)?, watch)? {
         Ended::Finished(book) => finished(alloc, wanted, book),
-        Ended::Full { level, count } => Ok(Found {
-            reply: full(alloc, level, count)?,
-            tree: None,
-        }),
+        Ended::Full { level, count } => {
+            let told = full(alloc, level, count)?;
+            Ok(without_tree(told.text, told.value))
+        }
     }
 }
 
 /// What a search comes to that has ended with this book.
-fn finished(alloc: Global, wanted: Wanted, book: Book) -> Result<Found, AllocError>
+fn finished(alloc: Global, wanted: Wanted, book: Book) -> Result<Reply<Searched>, AllocError>
     requires finished { (state_of book).finished ≡ true }
     requires never_full { IsNeverFull (scenario_of book) }
     ensures { IfOk result (IsFoundFor wanted (scenario_of book)) }
 {
-    let reply = reported(alloc, wanted, &book)?;
+    let Reply { text, value } = reported(alloc, wanted, &book)?;
     let made = book.into_tree();
     let Ok(tree) = made else { unreachable!() };
-    Ok(Found {
-        reply,
-        tree: Some(tree),
+    Ok(Reply {
+        text,
+        value: Searched {
+            status: value,
+            tree: Some(tree),
+        },
     })
 }
 
 /// The reply that reports what a search found that has ended.
-fn reported(alloc: Global, wanted: Wanted, book: &Book) -> Result<Reply, AllocError>
+fn reported(alloc: Global, wanted: Wanted, book: &Book) -> Result<Reply<u8>, AllocError>
     requires finished { (state_of book.now).finished ≡ true }
     requires never_full { IsNeverFull (scenario_of book.now) }
-    ensures { IfOk result (λ reply. reports_of wanted (scenario_of book.now) (string_bytes reply.text) reply.status) }
+    ensures { IfOk result (λ reply. reports_of wanted (scenario_of book.now) (string_bytes reply.text) reply.value) }
 {
     match wanted {
         Wanted::Answer => answer_reported(alloc, book),
@@ -114,30 +102,33 @@ fn reported(alloc: Global, wanted: Wanted, book: &Book) -> Result<Reply, AllocEr
 }
 
 /// The reply that reports the answer of a search that has ended.
-fn answer_reported(alloc: Global, book: &Book) -> Result<Reply, AllocError>
+fn answer_reported(alloc: Global, book: &Book) -> Result<Reply<u8>, AllocError>
     requires finished { (state_of book.now).finished ≡ true }
     requires never_full { IsNeverFull (scenario_of book.now) }
-    ensures { IfOk result (λ reply. RepliesReport (scenario_of book.now) (string_bytes reply.text) reply.status) }
+    ensures { IfOk result (λ reply. RepliesReport (scenario_of book.now) (string_bytes reply.text) reply.value) }
 {
     let budget = budget_of(book);
     let answer = book.answer();
     Ok(Reply {
         text: report(alloc, budget, &answer)?,
-        status: search_status(&answer),
+        value: search_status(&answer),
     })
 }
 
 /// The reply that reports all least sets of a search that has ended.
-fn all_reported(alloc: Global, book: &Book) -> Result<Reply, AllocError>
+fn all_reported(alloc: Global, book: &Book) -> Result<Reply<u8>, AllocError>
     requires finished { (state_of book.now).finished ≡ true }
     requires never_full { IsNeverFull (scenario_of book.now) }
-    ensures { IfOk result (λ reply. RepliesAll (scenario_of book.now) (string_bytes reply.text) reply.status) }
+    ensures { IfOk result (λ reply. RepliesAll (scenario_of book.now) (string_bytes reply.text) reply.value) }
 {
     let budget = budget_of(book);
     let status = search_status(&book.answer());
     let sets = least_sets(book)?;
     let text = all_report(alloc, budget, sets.as_slice())?;
-    Ok(Reply { text, status })
+    Ok(Reply {
+        text,
+        value: status,
+    })
 }
 
 /// The most faults that the sets of a search may have.
@@ -162,8 +153,8 @@ pub(crate) fn answer_reply<V: Watch>(
     alloc: Global,
     text: &[u8],
     watch: &V,
-) -> Result<Reply, AllocError>
-    ensures { IfOk result (λ reply. IsAnswerReply text.now (string_bytes reply.text) reply.status) }
+) -> Result<Reply<u8>, AllocError>
+    ensures { IfOk result (λ reply. IsAnswerReply text.now (string_bytes reply.text) reply.value) }
 {
     match read(alloc, text) {
         Ok(scenario) => answered(alloc, &scenario, watch),
@@ -172,29 +163,33 @@ pub(crate) fn answer_reply<V: Watch>(
 }
 
 /// The reply that tells the answer to a scenario.
-fn answered<V: Watch>(alloc: Global, scenario: &Scenario, watch: &V) -> Result<Reply, AllocError>
-    ensures { IfOk result (λ reply. RepliesAnswer scenario.now (string_bytes reply.text) reply.status) }
+fn answered<V: Watch>(
+    alloc: Global,
+    scenario: &Scenario,
+    watch: &V,
+) -> Result<Reply<u8>, AllocError>
+    ensures { IfOk result (λ reply. RepliesAnswer scenario.now (string_bytes reply.text) reply.value) }
 {
     let answer = merged_watched(alloc, scenario, watch)?;
     Ok(Reply {
         text: report(alloc, scenario.setting().spec.budget(), &answer)?,
-        status: search_status(&answer),
+        value: search_status(&answer),
     })
 }
 
 /// The reply where a level is too full.
-pub(crate) fn full(alloc: Global, level: u32, count: u64) -> Result<Reply, AllocError>
-    ensures { IfOk result (λ reply. (string_bytes reply.text ≡ full_line level count) × (reply.status ≡ 2)) }
+pub(crate) fn full(alloc: Global, level: u32, count: u64) -> Result<Reply<u8>, AllocError>
+    ensures { IfOk result (λ reply. (string_bytes reply.text ≡ full_line level count) × (reply.value ≡ 2)) }
 {
     Ok(Reply {
         text: full_line(alloc, level, count)?,
-        status: 2,
+        value: 2,
     })
 }
 
 /// The reply of a run to a scenario's text and the words that name a set of faults.
-pub(crate) fn run_reply(alloc: Global, text: &[u8], faults: &str) -> Result<Reply, AllocError>
-    ensures { IfOk result (λ reply. IsRunReply faults.now text.now (string_bytes reply.text) reply.status) }
+pub(crate) fn run_reply(alloc: Global, text: &[u8], faults: &str) -> Result<Reply<u8>, AllocError>
+    ensures { IfOk result (λ reply. IsRunReply faults.now text.now (string_bytes reply.text) reply.value) }
 {
     match read(alloc, text) {
         Ok(scenario) => match allowed_set(&scenario, faults) {
@@ -219,40 +214,40 @@ fn allowed_set(scenario: &Scenario, faults: &str) -> Option<FaultSet>
 }
 
 /// The reply that tells the run of a set of faults.
-fn traced(alloc: Global, scenario: &Scenario, set: &FaultSet) -> Result<Reply, AllocError>
+fn traced(alloc: Global, scenario: &Scenario, set: &FaultSet) -> Result<Reply<u8>, AllocError>
     ensures { IfOk result (λ reply.
         (string_bytes reply.text ≡ trace (world_of scenario.now.setting) set.now scenario.now.formula)
-        × (reply.status ≡ run_status (reaches_in scenario.now set.now))) }
+        × (reply.value ≡ run_status (reaches_in scenario.now set.now))) }
 {
     let setting = scenario.setting();
     let formula = scenario.formula();
     let played = run(alloc, setting, set)?;
     Ok(Reply {
         text: trace(alloc, setting, formula, &played)?,
-        status: run_status(holds(setting, formula, &played)),
+        value: run_status(holds(setting, formula, &played)),
     })
 }
 
 /// The reply to words that name no allowed set.
-fn no_set(alloc: Global) -> Result<Reply, AllocError>
-    ensures { IfOk result (λ reply. (string_bytes reply.text ≡ no_set_line) × (reply.status ≡ 2)) }
+fn no_set(alloc: Global) -> Result<Reply<u8>, AllocError>
+    ensures { IfOk result (λ reply. (string_bytes reply.text ≡ no_set_line) × (reply.value ≡ 2)) }
 {
     let mut text = String::new(alloc);
     text.push_str("refused faults\n")?;
-    Ok(Reply { text, status: 2 })
+    Ok(Reply { text, value: 2 })
 }
 
 /// The reply to a text that is refused. The error is that memory has run out, here or in the reading.
-pub(crate) fn refused(alloc: Global, error: ScenarioError) -> Result<Reply, AllocError>
+pub(crate) fn refused(alloc: Global, error: ScenarioError) -> Result<Reply<u8>, AllocError>
     ensures { IfOk result (λ reply. (error ≢ ScenarioError.Memory)
-        × (string_bytes reply.text ≡ refusal error) × (reply.status ≡ 2)) }
+        × (string_bytes reply.text ≡ refusal error) × (reply.value ≡ 2)) }
 {
     if error == ScenarioError::Memory {
         return Err(AllocError);
     }
     Ok(Reply {
         text: refusal(alloc, error)?,
-        status: 2,
+        value: 2,
     })
 }
 

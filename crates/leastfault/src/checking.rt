@@ -1,11 +1,16 @@
 //! The replies of a check, before they are written.
 
-ghost use Rattle.std.specs.Prelude.{◌≡◌, ◌≢◌, string_bytes, IfOk};
+ghost use Rattle.std.specs.Prelude.{◌≡◌, ◌≢◌, ℕ, List, string_bytes, IfOk};
+ghost use Rattle.lf_check.specs.Verdicts.{IsVerdict};
+ghost use Rattle.lf_scenario.specs.Scenarios.{IsText};
 ghost use Rattle.lf_sim.specs.Settings.{world_of};
-ghost use Rattle.leastfault.specs.Replies.{IsCheckReply, RepliesCheck, RepliesVerdict};
+ghost use Rattle.leastfault.specs.Checks.{IsGiven, IsReplyTo};
+ghost use Rattle.leastfault.specs.Engines.{Remakes};
 ghost use Rattle.leastfault.specs.Reports.{check_status, judgement, tree_refusal};
 
-use crate::answering::{Reply, refused};
+use crate::answering::refused;
+use crate::fault::BytesFault;
+use crate::reply::Reply;
 use crate::{judgement, tree_refusal};
 use lf_check::{Verdict, check, check_rows_watched};
 use lf_scenario::{Scenario, read};
@@ -14,120 +19,103 @@ use lf_watch::Watch;
 use std::alloc::{AllocError, Global};
 use std::thread::Threads;
 
-/// The reply of a check to the texts of a scenario and of a tree.
-pub(crate) fn check_reply(
+/// What the texts of a scenario and of a tree give to be judged.
+#[derive(Drop)]
+pub(crate) enum Given {
+    /// Nothing: one of them is refused, and this is the reply.
+    Refused(Reply<u8>),
+    /// A scenario and a tree.
+    Both {
+        /// The scenario.
+        scenario: Scenario,
+        /// The tree.
+        tree: Tree,
+    },
+}
+
+/// What the texts of a scenario and of a tree give to be judged.
+pub(crate) fn texts_given(
     alloc: Global,
     text: &[u8],
     certificate: &[u8],
-) -> Result<Reply, AllocError>
-    ensures { IfOk result (λ reply.
-        IsCheckReply text.now certificate.now (string_bytes reply.text) reply.status) }
+) -> Result<Given, AllocError>
+    ensures { IfOk result (IsGiven text.now certificate.now) }
 {
     match read(alloc, text) {
-        Ok(scenario) => check_tree(alloc, &scenario, certificate),
-        Err(error) => refused(alloc, error),
+        Ok(scenario) => given_for(alloc, scenario, certificate),
+        Err(error) => Ok(Given::Refused(refused(alloc, error)?)),
     }
 }
 
-/// The reply of a check to the text of a tree for a scenario.
-fn check_tree(alloc: Global, scenario: &Scenario, certificate: &[u8]) -> Result<Reply, AllocError>
-    ensures { IfOk result (λ reply.
-        RepliesCheck scenario.now certificate.now (string_bytes reply.text) reply.status) }
+/// What a scenario and the text of a tree give to be judged.
+fn given_for(alloc: Global, scenario: Scenario, certificate: &[u8]) -> Result<Given, AllocError>
+    ensures { (text : List ℕ) → IsText scenario text → IfOk result (IsGiven text certificate.now) }
 {
     match read_tree(alloc, certificate) {
         Ok(tree) => {
             types_are_kept(&tree);
-            judge(alloc, scenario, &tree)
+            Ok(Given::Both { scenario, tree })
         }
-        Err(fault) => tree_refused(alloc, fault),
+        Err(fault) => Ok(Given::Refused(tree_refused(alloc, fault)?)),
     }
 }
 
-/// The reply of a check to a tree for a scenario.
-fn judge(alloc: Global, scenario: &Scenario, tree: &Tree) -> Result<Reply, AllocError>
-    ensures { IfOk result (λ reply.
-        RepliesVerdict (world_of scenario.now.setting) scenario.now.setting.spec scenario.now.formula tree.now
-        (string_bytes reply.text) reply.status) }
-{
-    let verdict = check(alloc, scenario, tree)?;
-    judged(alloc, &verdict)
-}
-
-/// The same as `check_reply`, where the tree is judged in as many threads as there are processors.
-pub(crate) fn check_reply_rows<V: Watch>(
-    rt: &(impl Threads + Sync),
+/// The reply to what is given, judged in one thread.
+pub(crate) fn judged_alone(
     alloc: Global,
-    text: &[u8],
-    certificate: &[u8],
-    watch: &V,
-) -> Result<Reply, AllocError>
-    ensures { IfOk result (λ reply.
-        IsCheckReply text.now certificate.now (string_bytes reply.text) reply.status) }
+    given: Result<Given, BytesFault>,
+) -> Result<Reply<u8>, BytesFault>
+    ensures { Remakes IsReplyTo given result }
 {
-    match read(alloc, text) {
-        Ok(scenario) => check_tree_rows(rt, alloc, &scenario, certificate, watch),
-        Err(error) => refused(alloc, error),
-    }
-}
-
-/// The same as `check_tree`, in so many threads.
-fn check_tree_rows<V: Watch>(
-    rt: &(impl Threads + Sync),
-    alloc: Global,
-    scenario: &Scenario,
-    certificate: &[u8],
-    watch: &V,
-) -> Result<Reply, AllocError>
-    ensures { IfOk result (λ reply.
-        RepliesCheck scenario.now certificate.now (string_bytes reply.text) reply.status) }
-{
-    match read_tree(alloc, certificate) {
-        Ok(tree) => {
-            types_are_kept(&tree);
-            judge_rows(rt, alloc, scenario, &tree, watch)
+    match given? {
+        Given::Refused(reply) => Ok(reply),
+        Given::Both { scenario, tree } => {
+            let verdict = check(alloc, &scenario, &tree)?;
+            Ok(judged(alloc, &verdict)?)
         }
-        Err(fault) => tree_refused(alloc, fault),
     }
 }
 
-/// The same as `judge`, in so many threads.
-fn judge_rows<V: Watch>(
-    rt: &(impl Threads + Sync),
+/// The reply to what is given, judged in as many threads as there are processors.
+pub(crate) fn judged_in_rows<T: Threads + Sync, V: Watch>(
+    rt: &T,
     alloc: Global,
-    scenario: &Scenario,
-    tree: &Tree,
+    given: Result<Given, BytesFault>,
     watch: &V,
-) -> Result<Reply, AllocError>
-    ensures { IfOk result (λ reply.
-        RepliesVerdict (world_of scenario.now.setting) scenario.now.setting.spec scenario.now.formula tree.now
-        (string_bytes reply.text) reply.status) }
+) -> Result<Reply<u8>, BytesFault>
+    ensures { Remakes IsReplyTo given result }
 {
-    let verdict = check_rows_watched(rt, alloc, scenario, tree, watch)?;
-    judged(alloc, &verdict)
+    match given? {
+        Given::Refused(reply) => Ok(reply),
+        Given::Both { scenario, tree } => {
+            let verdict = check_rows_watched(rt, alloc, &scenario, &tree, watch)?;
+            Ok(judged(alloc, &verdict)?)
+        }
+    }
 }
 
 /// The reply that tells a verdict.
-fn judged(alloc: Global, verdict: &Verdict) -> Result<Reply, AllocError>
+fn judged(alloc: Global, verdict: &Verdict) -> Result<Reply<u8>, AllocError>
     ensures { IfOk result (λ reply.
-        (string_bytes reply.text ≡ judgement verdict.now) × (reply.status ≡ check_status verdict.now)) }
+        (string_bytes reply.text ≡ judgement verdict.now) × (reply.value ≡ check_status verdict.now)) }
 {
     Ok(Reply {
         text: judgement(alloc, verdict)?,
-        status: check_status(verdict),
+        value: check_status(verdict),
     })
 }
 
 /// The reply to a tree's text that is refused. The error is that memory has run out, here or in the reading.
-fn tree_refused(alloc: Global, fault: TreeFault) -> Result<Reply, AllocError>
+pub(crate) fn tree_refused(alloc: Global, fault: TreeFault) -> Result<Reply<u8>, AllocError>
     ensures { IfOk result (λ reply. (fault ≢ TreeFault.Memory)
-        × (string_bytes reply.text ≡ tree_refusal fault) × (reply.status ≡ 2)) }
+        × (string_bytes reply.text ≡ tree_refusal fault) × (reply.value ≡ 2)) }
 {
     if fault == TreeFault::Memory {
         return Err(AllocError);
     }
     Ok(Reply {
         text: tree_refusal(alloc, fault)?,
-        status: 2,
+        value: 2,
     })
 }
 

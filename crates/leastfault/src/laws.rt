@@ -3,21 +3,26 @@
 ghost use Rattle.lf_alone.specs.Ends.{IsFull};
 ghost use Rattle.std.specs.Prelude.{◌≡◌, ◌⊎◌, ℕ, List, Option, length, slice_get};
 ghost use Rattle.std.specs.List.{Contains};
+ghost use Rattle.lf_faults.specs.Allowed.{IsInLimits};
 ghost use Rattle.lf_faults.specs.declared.fault.Parts.{Parts};
 ghost use Rattle.lf_scenario.specs.declared.scenario.Scenario.{Scenario};
 ghost use Rattle.lf_scenario.specs.Scenarios.{IsText};
 ghost use Rattle.lf_tree.specs.declared.tree.Tree.{Tree};
 ghost use Rattle.leastfault.specs.Answers.{AreLeastSets, IsAnswer, IsLeast};
+ghost use Rattle.leastfault.specs.Commands.{HasOneEnd, IsCertified};
+ghost use Rattle.leastfault.specs.Replies.{RepliesAll, RepliesReport};
 ghost use Rattle.leastfault.specs.Replies.{HandsOut, HasOneReply, IsAllReply, IsAnswerReply, IsCheckReply, IsRunReply, IsSearchReply, IsTreeText};
 ghost use Rattle.leastfault.specs.Reports.{yes_line};
 
-use lf_faults::orders_are_total;
+use lf_faults::{FaultSpec, orders_are_total};
 use lf_trace::names_are_one;
 use lf_tree::texts_are_json;
 
-/// A scenario has at most one answer.
+/// A scenario has at most one answer. Every allowed set with fewer faults than the answer reaches the outcome; where the answer is none,
+/// every allowed set does.
 pub fn answers_are_one()
-    ensures { (s : Scenario) (x y : Option (List Parts)) → IsAnswer s x → IsAnswer s y → x ≡ y }
+    ensures one { (s : Scenario) (x y : Option (List Parts)) → IsAnswer s x → IsAnswer s y → x ≡ y }
+    ensures least { (s : Scenario) (x : Option (List Parts)) → IsAnswer s x → IsLeast s x }
 {}
 
 /// A scenario has at most one list of all least sets. The answer is the first of them, or none where there is none, and they have as
@@ -33,8 +38,8 @@ pub fn least_sets_are_one()
 }
 
 /// A text has at most one reply of a search that reports the answer, and one of a search that reports all least sets, both with one
-/// status and one tree that is handed out; one that tells the answer alone, which is that of the search unless a level of it is too
-/// full; and with these words at most one of a run.
+/// status and one tree that is handed out, and each one with a certificate, which is one too; one that tells the answer alone, which is
+/// that of the search unless a level of it is too full; and with these words at most one of a run.
 pub fn replies_are_one(faults: &str)
     ensures search { (text : List ℕ) → HasOneReply (IsSearchReply text) }
     ensures all { (text : List ℕ) → HasOneReply (IsAllReply text) }
@@ -43,6 +48,8 @@ pub fn replies_are_one(faults: &str)
         ((one ≡ other) × (m ≡ n)) ⊎ ((s : Scenario) × (level : ℕ) × (count : ℕ) × IsText s text × IsFull s level count) }
     ensures status { (text one other : List ℕ) (m n : ℕ) → IsSearchReply text one m → IsAllReply text other n → m ≡ n }
     ensures tree { (text : List ℕ) (status : ℕ) (one other : Option Tree) → HandsOut text one status → HandsOut text other status → one ≡ other }
+    ensures certified { (text : List ℕ) → HasOneEnd (IsCertified RepliesReport text) }
+    ensures certified_all { (text : List ℕ) → HasOneEnd (IsCertified RepliesAll text) }
     ensures run { (text : List ℕ) → HasOneReply (IsRunReply faults.now text) }
 {
     orders_are_total();
@@ -65,3 +72,10 @@ pub fn yes_is_the_answer()
         × IsAnswer s tree.answer × IsLeast s tree.answer }
     ensures zero { (text certificate reply : List ℕ) → IsCheckReply text certificate reply 0 → reply ≡ yes_line }
 {}
+
+/// Bounds keep their limits. Their type says so, and a call of this tells it to the prover.
+pub(crate) fn limits_are_kept(spec: &FaultSpec)
+    ensures { IsInLimits spec.now }
+{
+    let _nodes = spec.nodes();
+}

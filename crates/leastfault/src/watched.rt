@@ -1,16 +1,15 @@
 //! The engines, with a watch: each is the same as one without, and tells how far it has come.
 
-ghost use Rattle.std.specs.Prelude.{◌≡◌, ◌≢◌, ◌+◌, ◌||◌, Err, false, IfOk, IfErr};
-ghost use Rattle.lf_scenario.specs.Limits.{longest};
-ghost use Rattle.lf_tree.specs.Texts.{most_bytes};
-ghost use Rattle.leastfault.specs.Replies.{IsAnswerReply, IsCheckReply, IsReplyWith, IsSearchedWith, reports_of};
-ghost use Rattle.leastfault.specs.Replies.{ToBoth, ToHeld, TookAtMost, WrotePart, WroteReply, tells_read, tells_write};
+ghost use Rattle.std.specs.Prelude.{◌≡◌, false};
+ghost use Rattle.leastfault.specs.Engines.{IsEngine, IsEngineOfBoth, NoCause};
+ghost use Rattle.leastfault.specs.Replies.{IsAnswerReply, IsCheckReply, IsPoolCause, IsSearchedWith, IsSharedWith, reports_of};
 
-use crate::answering::{Wanted, answer_reply, search_reply};
-use crate::checking::check_reply_rows;
-use crate::engine::{BytesFault, Searched, read_text, read_texts, send_found, send_made};
-use crate::workers::shared_reply;
-use lf_scenario::LONGEST;
+use crate::answering::Wanted;
+use crate::checking::judged_in_rows;
+use crate::fault::BytesFault;
+use crate::made::{answer_made, given_made, search_made, shared_made};
+use crate::reply::Searched;
+use crate::sending::send;
 use lf_streams::{Sink, Source};
 use lf_watch::Watch;
 use std::alloc::Global;
@@ -29,18 +28,11 @@ pub fn search_watched<R: Source, W: Sink, V: Watch>(
 ) -> Result<Searched, BytesFault>
     requires reader { R.has_failed reader.old ≡ false }
     requires writer { W.has_failed writer.old ≡ false }
-    ensures reply { IfOk result (λ searched. WroteReply (ToHeld (IsSearchedWith (reports_of wanted) searched.tree) (R.left reader.old))
-        (W.written writer.old) (W.written writer.new) searched.status) }
-    ensures part { result ≡ Err BytesFault.Write →
-        WrotePart (ToHeld (IsReplyWith (reports_of wanted)) (R.left reader.old)) (W.written writer.old) (W.written writer.new) }
-    ensures unwritten { IfErr result (λ e. e ≢ BytesFault.Write → writer.new ≡ writer.old) }
-    ensures source { R.has_failed reader.new ≡ tells_read result }
-    ensures sink { W.has_failed writer.new ≡ tells_write result }
-    ensures taken { TookAtMost (longest + 1) (R.left reader.old) (R.left reader.new) }
+    ensures { IsEngine R.left R.has_failed (IsSearchedWith (reports_of wanted)) NoCause reader.old reader.new
+        W.written W.has_failed writer.old writer.new result }
 {
-    let text = read_text(alloc, reader, LONGEST)?;
-    let found = search_reply(alloc, wanted, text.as_slice(), watch);
-    send_found(writer, found.or(Err(BytesFault::Memory)))
+    let made = search_made(alloc, wanted, reader, watch);
+    send(writer, made)
 }
 
 /// The same as `search_shared` where the answer is wanted, and as `all_shared` where all least sets are, with a watch that is told how
@@ -56,18 +48,11 @@ pub fn shared_watched<T: Threads + Wait + Clock + Sync, R: Source, W: Sink, V: W
 ) -> Result<Searched, BytesFault>
     requires reader { R.has_failed reader.old ≡ false }
     requires writer { W.has_failed writer.old ≡ false }
-    ensures reply { IfOk result (λ searched. WroteReply (ToHeld (IsSearchedWith (reports_of wanted) searched.tree) (R.left reader.old))
-        (W.written writer.old) (W.written writer.new) searched.status) }
-    ensures part { result ≡ Err BytesFault.Write →
-        WrotePart (ToHeld (IsReplyWith (reports_of wanted)) (R.left reader.old)) (W.written writer.old) (W.written writer.new) }
-    ensures unwritten { IfErr result (λ e. e ≢ BytesFault.Write → writer.new ≡ writer.old) }
-    ensures source { R.has_failed reader.new ≡ tells_read result }
-    ensures sink { W.has_failed writer.new ≡ tells_write result }
-    ensures taken { TookAtMost (longest + 1) (R.left reader.old) (R.left reader.new) }
+    ensures { IsEngine R.left R.has_failed (IsSharedWith (reports_of wanted) workers) (IsPoolCause workers) reader.old reader.new
+        W.written W.has_failed writer.old writer.new result }
 {
-    let text = read_text(alloc, reader, LONGEST)?;
-    let found = shared_reply(rt, alloc, wanted, workers, text.as_slice(), watch);
-    send_found(writer, found)
+    let made = shared_made(rt, alloc, wanted, workers, reader, watch);
+    send(writer, made)
 }
 
 /// The same as `answer_bytes`, with a watch that is told how far the answer has come.
@@ -79,26 +64,15 @@ pub fn answer_watched<R: Source, W: Sink, V: Watch>(
 ) -> Result<u8, BytesFault>
     requires reader { R.has_failed reader.old ≡ false }
     requires writer { W.has_failed writer.old ≡ false }
-    // The reply to what the source held was written, and the status is that of the reply.
-    ensures reply { IfOk result (λ status.
-        WroteReply (ToHeld IsAnswerReply (R.left reader.old)) (W.written writer.old) (W.written writer.new) status) }
-    // `Write` leaves a part of the reply, and any other fault nothing.
-    ensures part { result ≡ Err BytesFault.Write →
-        WrotePart (ToHeld IsAnswerReply (R.left reader.old)) (W.written writer.old) (W.written writer.new) }
-    ensures unwritten { IfErr result (λ e. e ≢ BytesFault.Write → writer.new ≡ writer.old) }
-    // `Read` says that the source failed, and `Write` that the sink did.
-    ensures source { R.has_failed reader.new ≡ tells_read result }
-    ensures sink { W.has_failed writer.new ≡ tells_write result }
-    // No more than one byte past the longest text is taken.
-    ensures taken { TookAtMost (longest + 1) (R.left reader.old) (R.left reader.new) }
+    ensures { IsEngine R.left R.has_failed IsAnswerReply NoCause reader.old reader.new W.written W.has_failed writer.old writer.new result }
 {
-    let text = read_text(alloc, reader, LONGEST)?;
-    send_made(writer, answer_reply(alloc, text.as_slice(), watch))
+    let made = answer_made(alloc, reader, watch);
+    send(writer, made)
 }
 
 /// The same as `check_bytes_rows`, with a watch that is told how far the check has come.
-pub fn check_watched<R: Source, S: Source, W: Sink, V: Watch>(
-    rt: &(impl Threads + Sync),
+pub fn check_watched<T: Threads + Sync, R: Source, S: Source, W: Sink, V: Watch>(
+    rt: &T,
     alloc: Global,
     scenario_reader: &mut R,
     tree_reader: &mut S,
@@ -108,26 +82,9 @@ pub fn check_watched<R: Source, S: Source, W: Sink, V: Watch>(
     requires scenario { R.has_failed scenario_reader.old ≡ false }
     requires tree { S.has_failed tree_reader.old ≡ false }
     requires writer { W.has_failed writer.old ≡ false }
-    // The reply to what the two sources held was written, and the status is that of the reply.
-    ensures reply { IfOk result (λ status.
-        WroteReply (ToBoth IsCheckReply (R.left scenario_reader.old) (S.left tree_reader.old))
-        (W.written writer.old) (W.written writer.new) status) }
-    // `Write` leaves a part of the reply, and any other fault nothing.
-    ensures part { result ≡ Err BytesFault.Write →
-        WrotePart (ToBoth IsCheckReply (R.left scenario_reader.old) (S.left tree_reader.old))
-        (W.written writer.old) (W.written writer.new) }
-    ensures unwritten { IfErr result (λ e. e ≢ BytesFault.Write → writer.new ≡ writer.old) }
-    // `Read` says that one of the sources failed, and `Write` that the sink did.
-    ensures sources { (R.has_failed scenario_reader.new || S.has_failed tree_reader.new) ≡ tells_read result }
-    ensures sink { W.has_failed writer.new ≡ tells_write result }
-    // No more than one byte past the longest text is taken of each.
-    ensures taken { TookAtMost (longest + 1) (R.left scenario_reader.old) (R.left scenario_reader.new) }
-    ensures taken_too { TookAtMost (most_bytes + 1) (S.left tree_reader.old) (S.left tree_reader.new) }
+    ensures { IsEngineOfBoth R.left R.has_failed S.left S.has_failed IsCheckReply NoCause
+        scenario_reader.old scenario_reader.new tree_reader.old tree_reader.new W.written W.has_failed writer.old writer.new result }
 {
-    let texts = read_texts(alloc, scenario_reader, tree_reader)?;
-    let (text, certificate) = (texts.scenario.as_slice(), texts.tree.as_slice());
-    send_made(
-        writer,
-        check_reply_rows(rt, alloc, text, certificate, watch),
-    )
+    let given = given_made(alloc, scenario_reader, tree_reader);
+    send(writer, judged_in_rows(rt, alloc, given, watch))
 }

@@ -1,14 +1,17 @@
 //! The replies of searches by several workers, before they are written.
 
-ghost use Rattle.std.specs.Prelude.{◌≡◌, ◌≢◌, ℕ, string_bytes, IfOk, IfErr};
+ghost use Rattle.std.specs.Prelude.{ℕ, IfOk};
 ghost use Rattle.std.specs.Arc.{arc_value};
-ghost use Rattle.lf_pool.specs.Solved.{AreFoundIn, IsFoundIn, IsFullBook};
+ghost use Rattle.lf_pool.specs.Solved.{AreFoundIn, IsFoundIn, IsFullBook, IsRefused};
+ghost use Rattle.lf_scenario.specs.declared.scenario.Scenario.{Scenario};
+ghost use Rattle.leastfault.specs.declared.answering.Wanted.{Wanted};
 ghost use Rattle.leastfault.specs.declared.answering.Wanted.TheVariants as wanted;
-ghost use Rattle.leastfault.specs.Replies.{IsSearchedWith, reports_of};
-ghost use Rattle.leastfault.specs.Searches.{IsFoundFor};
+ghost use Rattle.leastfault.specs.Searches.{IsEndFor, IsEndIn, IsFoundFor};
 
-use crate::answering::{Found, Reply, Wanted, full, refused, search_status};
-use crate::engine::BytesFault;
+use crate::answering::{Wanted, full, refused, search_status};
+use crate::fault::BytesFault;
+use crate::laws::limits_are_kept;
+use crate::reply::{Reply, Searched, without_tree};
 use crate::telling::Told;
 use crate::{all_report, report};
 use lf_book::Book;
@@ -17,7 +20,7 @@ use lf_pool::{PoolError, Solved, SolvedAll};
 use lf_scenario::{Scenario, read};
 use lf_tree::Tree;
 use lf_watch::Watch;
-use std::alloc::Global;
+use std::alloc::{AllocError, Global};
 use std::rt::Clock;
 use std::sync::{Arc, Wait};
 use std::thread::Threads;
@@ -30,17 +33,15 @@ pub(crate) fn shared_reply<R: Threads + Wait + Clock + Sync, V: Watch>(
     workers: u32,
     text: &[u8],
     watch: &V,
-) -> Result<Found, BytesFault>
-    ensures found { IfOk result (λ found.
-        IsSearchedWith (reports_of wanted) found.tree text.now (string_bytes found.reply.text) found.reply.status) }
-    ensures fault { IfErr result (λ e. (e ≢ BytesFault.Read) × (e ≢ BytesFault.Write)) }
+) -> Result<Reply<Searched>, BytesFault>
+    ensures { IsEndIn wanted workers text.now result }
 {
     match read(alloc, text) {
         Ok(scenario) => searched(rt, alloc, wanted, workers, scenario, watch),
-        Err(error) => match refused(alloc, error) {
-            Ok(reply) => Ok(Found { reply, tree: None }),
-            Err(_) => Err(BytesFault::Memory),
-        },
+        Err(error) => {
+            let refusal = refused(alloc, error)?;
+            Ok(without_tree(refusal.text, refusal.value))
+        }
     }
 }
 
@@ -52,9 +53,8 @@ fn searched<R: Threads + Wait + Clock + Sync, V: Watch>(
     workers: u32,
     scenario: Scenario,
     watch: &V,
-) -> Result<Found, BytesFault>
-    ensures found { IfOk result (IsFoundFor wanted scenario) }
-    ensures fault { IfErr result (λ e. (e ≢ BytesFault.Read) × (e ≢ BytesFault.Write)) }
+) -> Result<Reply<Searched>, BytesFault>
+    ensures { IsEndFor wanted workers scenario result }
 {
     let Ok(scenario) = Arc::new(alloc, scenario) else {
         return Err(BytesFault::Memory);
@@ -72,16 +72,13 @@ fn answered<R: Threads + Wait + Clock + Sync, V: Watch>(
     scenario: &Arc<Scenario>,
     workers: u32,
     watch: &V,
-) -> Result<Found, BytesFault>
-    ensures found { IfOk result (IsFoundFor wanted.Answer (arc_value scenario.now)) }
-    ensures fault { IfErr result (λ e. (e ≢ BytesFault.Read) × (e ≢ BytesFault.Write)) }
+) -> Result<Reply<Searched>, BytesFault>
+    ensures { IsEndFor wanted.Answer workers (arc_value scenario.now) result }
 {
-    let Ok(shared) = Arc::try_clone(scenario) else {
-        return Err(BytesFault::Memory);
-    };
+    let shared = Arc::try_clone(scenario)?;
     match lf_pool::solve(rt, alloc, shared, workers, &Told::new(watch)) {
-        Ok(Solved::Answer { set, tree, runs: _ }) => answer_found(alloc, scenario, &set, tree),
-        Ok(Solved::Full(book)) => full_found(alloc, scenario, &book),
+        Ok(Solved::Answer { set, tree, runs: _ }) => Ok(answer_found(alloc, scenario, &set, tree)?),
+        Ok(Solved::Full(book)) => Ok(full_found(alloc, scenario, &book)?),
         Err(error) => Err(fault_of(&error)),
     }
 }
@@ -93,13 +90,10 @@ fn listed<R: Threads + Wait + Clock + Sync, V: Watch>(
     scenario: &Arc<Scenario>,
     workers: u32,
     watch: &V,
-) -> Result<Found, BytesFault>
-    ensures found { IfOk result (IsFoundFor wanted.AllLeast (arc_value scenario.now)) }
-    ensures fault { IfErr result (λ e. (e ≢ BytesFault.Read) × (e ≢ BytesFault.Write)) }
+) -> Result<Reply<Searched>, BytesFault>
+    ensures { IsEndFor wanted.AllLeast workers (arc_value scenario.now) result }
 {
-    let Ok(shared) = Arc::try_clone(scenario) else {
-        return Err(BytesFault::Memory);
-    };
+    let shared = Arc::try_clone(scenario)?;
     match lf_pool::solve_all(rt, alloc, shared, workers, &Told::new(watch)) {
         Ok(
             SolvedAll::All {
@@ -107,8 +101,8 @@ fn listed<R: Threads + Wait + Clock + Sync, V: Watch>(
                 tree,
                 runs: _,
             },
-        ) => { all_found(alloc, scenario, sets.as_slice(), tree) }
-        Ok(SolvedAll::Full(book)) => full_found(alloc, scenario, &book),
+        ) => Ok(all_found(alloc, scenario, sets.as_slice(), tree)?),
+        Ok(SolvedAll::Full(book)) => Ok(full_found(alloc, scenario, &book)?),
         Err(error) => Err(fault_of(&error)),
     }
 }
@@ -119,20 +113,17 @@ fn answer_found(
     scenario: &Scenario,
     set: &Option<FaultSet>,
     tree: Tree,
-) -> Result<Found, BytesFault>
+) -> Result<Reply<Searched>, AllocError>
     requires { (runs : ℕ) × IsFoundIn scenario.now set.now tree runs }
-    ensures found { IfOk result (IsFoundFor wanted.Answer scenario.now) }
-    ensures fault { IfErr result (λ e. (e ≢ BytesFault.Read) × (e ≢ BytesFault.Write)) }
+    ensures { IfOk result (IsFoundFor wanted.Answer scenario.now) }
 {
-    let Ok(text) = report(alloc, scenario.setting().spec.budget(), set) else {
-        return Err(BytesFault::Memory);
-    };
-    Ok(Found {
-        reply: Reply {
-            text,
+    let text = report(alloc, scenario.setting().spec.budget(), set)?;
+    Ok(Reply {
+        text,
+        value: Searched {
             status: search_status(set),
+            tree: Some(tree),
         },
-        tree: Some(tree),
     })
 }
 
@@ -142,41 +133,38 @@ fn all_found(
     scenario: &Scenario,
     sets: &[FaultSet],
     tree: Tree,
-) -> Result<Found, BytesFault>
+) -> Result<Reply<Searched>, AllocError>
     requires { (runs : ℕ) × AreFoundIn scenario.now sets.now tree runs }
-    ensures found { IfOk result (IsFoundFor wanted.AllLeast scenario.now) }
-    ensures fault { IfErr result (λ e. (e ≢ BytesFault.Read) × (e ≢ BytesFault.Write)) }
+    ensures { IfOk result (IsFoundFor wanted.AllLeast scenario.now) }
 {
-    let Ok(text) = all_report(alloc, scenario.setting().spec.budget(), sets) else {
-        return Err(BytesFault::Memory);
-    };
-    Ok(Found {
-        reply: Reply {
-            text,
+    let text = all_report(alloc, scenario.setting().spec.budget(), sets)?;
+    Ok(Reply {
+        text,
+        value: Searched {
             status: search_status(&tree.answer),
+            tree: Some(tree),
         },
-        tree: Some(tree),
     })
 }
 
 /// What a search comes to whose book can't be deepened.
-fn full_found(alloc: Global, scenario: &Scenario, book: &Book) -> Result<Found, BytesFault>
+fn full_found(
+    alloc: Global,
+    scenario: &Scenario,
+    book: &Book,
+) -> Result<Reply<Searched>, AllocError>
     requires { (count : ℕ) × IsFullBook scenario.now count book.now }
     ensures answer { IfOk result (IsFoundFor wanted.Answer scenario.now) }
     ensures all { IfOk result (IsFoundFor wanted.AllLeast scenario.now) }
-    ensures fault { IfErr result (λ e. (e ≢ BytesFault.Read) × (e ≢ BytesFault.Write)) }
 {
-    let _budget = scenario.setting().spec.budget();
-    let level = book.level() + 1;
-    let Ok(reply) = full(alloc, level, book.counts().waiting) else {
-        return Err(BytesFault::Memory);
-    };
-    Ok(Found { reply, tree: None })
+    limits_are_kept(&scenario.setting().spec);
+    let told = full(alloc, book.level() + 1, book.counts().waiting)?;
+    Ok(without_tree(told.text, told.value))
 }
 
 /// Why a search by several workers gives no reply.
 fn fault_of(error: &PoolError) -> BytesFault
-    ensures { (result ≢ BytesFault.Read) × (result ≢ BytesFault.Write) }
+    ensures { (wanted : Wanted) (s : Scenario) (workers : ℕ) → IsRefused s workers error.now → IsEndFor wanted workers s (Err result) }
 {
     match error {
         PoolError::Memory => BytesFault::Memory,

@@ -1,22 +1,56 @@
-//! Files that are opened or made, and standard output.
+//! Files that are opened or made, and standard input and output.
 
+ghost use Rattle.std.specs.Prelude.{◌≡◌, false, IfOk};
+
+use crate::kept::Kept;
 use crate::stop::Stop;
-use leastfault::BytesFault;
+use leastfault::{BytesFault, FromRead, Source};
 use std::fs::File;
 use std::io;
-use std::io::Write;
+use std::io::{Read, Stdin, Write};
+
+/// What the program reads from.
+#[derive(Drop)]
+pub(crate) enum Input {
+    /// Standard input.
+    Standard(Stdin),
+    /// A file.
+    File(File),
+    /// Nothing: it is at its end.
+    Nothing,
+}
+
+impl Read for Input {
+    fn read(&mut self, buf: &mut [u8]) -> io::Result<usize> {
+        match self {
+            Input::Standard(input) => input.read(buf),
+            Input::File(file) => file.read(buf),
+            Input::Nothing => Ok(0),
+        }
+    }
+}
+
+/// A source whose bytes are kept.
+pub(crate) type Text = Kept<FromRead<Input>>;
 
 /// What the program calls the file that a word names: standard input is `-`.
 pub(crate) fn name_of(file: &str) -> &str {
     if file == "-" { "standard input" } else { file }
 }
 
-/// A file that can be read.
-pub(crate) fn opened(rt: &HostRuntime, file: &str) -> Result<File, Stop> {
-    match File::open(rt, file) {
-        Ok(opened) => Ok(opened),
-        Err(error) => Err(Stop::at(rt.alloc(), BytesFault::Read, file, &error)),
-    }
+/// A file that can be read, standard input where it is `-`, or nothing where none is named.
+pub(crate) fn opened(rt: &HostRuntime, file: Option<&str>) -> Result<Text, Stop>
+    ensures { IfOk result (λ text. ⟦<Text as Source>⟧.has_failed text ≡ false) }
+{
+    let input = match file {
+        None => Input::Nothing,
+        Some("-") => Input::Standard(rt.stdin()),
+        Some(file) => match File::open(rt, file) {
+            Ok(file) => Input::File(file),
+            Err(error) => return Err(Stop::at(rt.alloc(), BytesFault::Read, file, &error)),
+        },
+    };
+    Ok(Kept::new(rt.alloc(), FromRead::new(input)))
 }
 
 /// Makes a file that has these bytes and no others.
@@ -33,8 +67,8 @@ fn write_file(rt: &HostRuntime, file: &str, bytes: &[u8]) -> io::Result<()> {
 }
 
 /// Writes to standard output.
-pub(crate) fn print(rt: &HostRuntime, reply: &[u8]) -> Result<(), Stop> {
-    match rt.stdout().write_all(reply) {
+pub(crate) fn print(rt: &HostRuntime, reply: &str) -> Result<(), Stop> {
+    match rt.stdout().write_all(reply.as_bytes()) {
         Ok(()) => Ok(()),
         Err(error) => Err(Stop::at(rt.alloc(), BytesFault::Write, "standard output", &error)),
     }

@@ -1,11 +1,11 @@
-//! Devices that keep a copy of what went through them.
+//! Sources that keep a copy of what they gave.
 
 ghost use Rattle.std.specs.Prelude.{◌≡◌};
 
-use leastfault::{Failed, Sink, Source};
+use leastfault::{Failed, Source};
 use std::alloc::Global;
 
-/// A device, and a copy of the bytes that it gave or took.
+/// A source, and a copy of the bytes that it gave.
 #[derive(Drop)]
 pub(crate) struct Kept<D> {
     device: D,
@@ -14,7 +14,7 @@ pub(crate) struct Kept<D> {
 }
 
 impl<D> Kept<D> {
-    /// The device, of which nothing is kept so far. What it tells of itself it tells through this.
+    /// The source, of which nothing is kept so far.
     pub(crate) fn new(alloc: Global, device: D) -> Kept<D>
         ensures { result.device ≡ device }
     {
@@ -24,7 +24,12 @@ impl<D> Kept<D> {
         }
     }
 
-    /// The bytes that the device gave or took. Nothing where there was no memory for them.
+    /// The source.
+    pub(crate) fn device(&self) -> &D {
+        &self.device
+    }
+
+    /// The bytes that the source gave. Nothing where there was no memory for them.
     pub(crate) fn bytes(&self) -> Option<&[u8]> {
         match &self.bytes {
             Some(bytes) => Some(bytes.as_slice()),
@@ -42,22 +47,6 @@ impl<R: Source> Source for Kept<R> {
         let given = self.device.read(buf)?;
         add(&mut self.bytes, &buf[..given]);
         Ok(given)
-    }
-
-    fn failed(&self) -> bool {
-        self.device.failed()
-    }
-}
-
-impl<W: Sink> Sink for Kept<W> {
-    ghost written = { λ kept. W.written kept.device };
-
-    ghost has_failed = { λ kept. W.has_failed kept.device };
-
-    fn write(&mut self, bytes: &[u8]) -> Result<usize, Failed> {
-        let taken = self.device.write(bytes)?;
-        add(&mut self.bytes, &bytes[..taken]);
-        Ok(taken)
     }
 
     fn failed(&self) -> bool {

@@ -1,8 +1,6 @@
 //! The line on standard error that says how far the program has come.
 
-ghost use Rattle.std.specs.Prelude.{◌≡◌};
-
-use leastfault::{Failed, Progress, Sink, Watch};
+use leastfault::{Progress, Watch};
 use std::alloc::AllocError;
 use std::io::IsTerminal;
 use std::sync::atomic::{AtomicBool, AtomicU64, Ordering};
@@ -103,36 +101,5 @@ impl<'a> Watch for Line<'a> {
                 let _told = eprint!(self.rt; "{text}").is_ok();
             }
         }
-    }
-}
-
-/// A device before whose first byte a line is erased.
-#[derive(Drop)]
-pub(crate) struct Cleared<'a, D> {
-    line: &'a Line<'a>,
-    device: D,
-}
-
-impl<'a, D> Cleared<'a, D> {
-    /// The device, and the line.
-    pub(crate) fn new(line: &'a Line<'a>, device: D) -> Cleared<'a, D>
-        ensures { result.device ≡ device }
-    {
-        Cleared { line, device }
-    }
-}
-
-impl<'a, W: Sink> Sink for Cleared<'a, W> {
-    ghost written = { λ cleared. W.written cleared.device };
-
-    ghost has_failed = { λ cleared. W.has_failed cleared.device };
-
-    fn write(&mut self, bytes: &[u8]) -> Result<usize, Failed> {
-        self.line.erase();
-        self.device.write(bytes)
-    }
-
-    fn failed(&self) -> bool {
-        self.device.failed()
     }
 }

@@ -1,6 +1,5 @@
 //! Why the program ends without a whole reply.
 
-use crate::devices::name_of;
 use leastfault::BytesFault;
 use std::alloc::Global;
 use std::io;
@@ -32,19 +31,6 @@ impl Stop {
         Stop {
             fault,
             device: format!(in alloc; "{name}: {error}").ok(),
-        }
-    }
-
-    /// The fault of an engine that read this file, and wrote to standard output.
-    pub(crate) fn of(alloc: Global, fault: BytesFault, file: &str) -> Stop {
-        let name = match fault {
-            BytesFault::Read => name_of(file),
-            BytesFault::Write => "standard output",
-            BytesFault::Memory | BytesFault::Pool(_) => return Stop::from(fault),
-        };
-        Stop {
-            fault,
-            device: format!(in alloc; "{name}").ok(),
         }
     }
 

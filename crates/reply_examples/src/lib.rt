@@ -6,6 +6,8 @@
 #[cfg(test)]
 mod checks;
 #[cfg(test)]
+mod commands;
+#[cfg(test)]
 mod devices;
 #[cfg(test)]
 mod runs;

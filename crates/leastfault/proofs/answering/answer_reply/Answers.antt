@@ -8,8 +8,8 @@ use Rattle.leastfault.proofs.answering.answer_reply.Goals as goal
 pub returns-in-Ok : goal.returns-in-Ok
 returns-in-Ok g c =
     let s = c.in-Ok.scenario in
-    IfOk-weaker c.answered.result (λ reply. RepliesAnswer s (string_bytes reply.text) reply.status)
-    (λ reply. IsAnswerReply c.args.text.now (string_bytes reply.text) reply.status)
+    IfOk-weaker c.answered.result (λ reply. RepliesAnswer s (string_bytes reply.text) reply.value)
+    (λ reply. IsAnswerReply c.args.text.now (string_bytes reply.text) reply.value)
     (λ reply told. inr (s, c.in-Ok.ensures.reading, told))
     c.answered.ensures
 
@@ -17,7 +17,7 @@ pub returns-in-Err : goal.returns-in-Err
 returns-in-Err g c =
     let error = c.in-Err.why in
     IfOk-weaker c.refused.result
-    (λ reply. (error ≢ ScenarioError.Memory) × (string_bytes reply.text ≡ refusal error) × (reply.status ≡ 2))
-    (λ reply. IsAnswerReply c.args.text.now (string_bytes reply.text) reply.status)
+    (λ reply. (error ≢ ScenarioError.Memory) × (string_bytes reply.text ≡ refusal error) × (reply.value ≡ 2))
+    (λ reply. IsAnswerReply c.args.text.now (string_bytes reply.text) reply.value)
     (λ reply told. inl (error, c.in-Err.ensures.reading told.0, told.1, told.2))
     c.refused.ensures

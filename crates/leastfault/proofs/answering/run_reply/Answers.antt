@@ -16,9 +16,9 @@ returns-in-Some c =
     let s = c.in-Ok.scenario in
     let set = c.in-Some.set in
     IfOk-weaker c.traced.result
-    (λ reply. (string_bytes reply.text ≡ trace (world_of s.setting) set s.formula) × (reply.status ≡ run_status (reaches_in s set)))
-    (λ reply. IsRunReply words text (string_bytes reply.text) reply.status)
-    (λ reply told. run_of_set words text (string_bytes reply.text) reply.status s set c.in-Ok.ensures.reading
+    (λ reply. (string_bytes reply.text ≡ trace (world_of s.setting) set s.formula) × (reply.value ≡ run_status (reaches_in s set)))
+    (λ reply. IsRunReply words text (string_bytes reply.text) reply.value)
+    (λ reply told. run_of_set words text (string_bytes reply.text) reply.value s set c.in-Ok.ensures.reading
     ((c.allowed_set.ensures set).0 c.in-Some.is) told.0 told.1)
     c.traced.ensures
 
@@ -26,9 +26,9 @@ pub returns-in-Ok : goal.returns-in-Ok
 returns-in-Ok c =
     let words = c.args.faults.now in
     let text = c.args.text.now in
-    IfOk-weaker c.no_set.result (λ reply. (string_bytes reply.text ≡ no_set_line) × (reply.status ≡ 2))
-    (λ reply. IsRunReply words text (string_bytes reply.text) reply.status)
-    (λ reply told. run_without_set words text (string_bytes reply.text) reply.status c.in-Ok.scenario c.allowed_set.result
+    IfOk-weaker c.no_set.result (λ reply. (string_bytes reply.text ≡ no_set_line) × (reply.value ≡ 2))
+    (λ reply. IsRunReply words text (string_bytes reply.text) reply.value)
+    (λ reply told. run_without_set words text (string_bytes reply.text) reply.value c.in-Ok.scenario c.allowed_set.result
     c.in-Ok.ensures.reading c.allowed_set.ensures c.in-None.is told.0 told.1)
     c.no_set.ensures
 
@@ -36,7 +36,7 @@ pub returns : goal.returns
 returns c =
     let error = c.in-Err.error in
     IfOk-weaker c.refused.result
-    (λ reply. (error ≢ ScenarioError.Memory) × (string_bytes reply.text ≡ refusal error) × (reply.status ≡ 2))
-    (λ reply. IsRunReply c.args.faults.now c.args.text.now (string_bytes reply.text) reply.status)
+    (λ reply. (error ≢ ScenarioError.Memory) × (string_bytes reply.text ≡ refusal error) × (reply.value ≡ 2))
+    (λ reply. IsRunReply c.args.faults.now c.args.text.now (string_bytes reply.text) reply.value)
     (λ reply told. inl (error, c.in-Err.ensures.reading told.0, told.1, told.2))
     c.refused.ensures

@@ -1,36 +1,16 @@
-use Rattle.std.proofs.Common.{ℕ, List}
-use Rattle.std.proofs.lemmas.Result.{IfOk-weaker}
-use Rattle.leastfault.specs.Made.{IsMade}
-use Rattle.leastfault.specs.Replies.{IsCheckReply, ToBoth, WroteReply}
-use Rattle.leastfault.proofs.ReplyLemmas.{made_reply, part_wider, to_both, wrote_wider}
+use Rattle.leastfault.specs.Engines.{NoCause}
+use Rattle.leastfault.specs.Replies.{IsCheckReply}
+use Rattle.leastfault.proofs.CommandLemmas.{judged}
+use Rattle.leastfault.proofs.EngineLemmas.{sent_of_both}
 use Rattle.leastfault.proofs.engine.check_bytes.Goals as goal
 
-pub returns-clause-reply : goal.returns-clause-reply
-returns-clause-reply g c =
-    let held = g.R.Source.left c.args.scenario_reader.now in
-    let other = g.S.Source.left c.args.tree_reader.now in
-    let old = g.W.Sink.written c.args.writer.now in
-    let new = g.W.Sink.written c.send_made.new.writer in
-    let made = c.check_reply.result in
-    let texts = c.in_ok-texts.texts in
-    let wider = λ (reply : List ℕ) (status : ℕ) (told : IsMade made reply status).
-    to_both held other texts.scenario.items c.as_slice.result.now texts.tree.items c.as_slice-2.result.now reply status
-    c.in_ok-texts.ensures.scenario c.as_slice.ensures.value c.in_ok-texts.ensures.tree c.as_slice-2.ensures.value
-    (made_reply made (IsCheckReply c.as_slice.result.now c.as_slice-2.result.now) c.check_reply.ensures reply status told) in
-    IfOk-weaker c.send_made.result (WroteReply (IsMade made) old new) (WroteReply (ToBoth IsCheckReply held other) old new)
-    (wrote_wider (IsMade made) (ToBoth IsCheckReply held other) old new wider)
-    c.send_made.ensures.reply
-
-pub returns-clause-part : goal.returns-clause-part
-returns-clause-part g c fault =
-    let held = g.R.Source.left c.args.scenario_reader.now in
-    let other = g.S.Source.left c.args.tree_reader.now in
-    let old = g.W.Sink.written c.args.writer.now in
-    let new = g.W.Sink.written c.send_made.new.writer in
-    let made = c.check_reply.result in
-    let texts = c.in_ok-texts.texts in
-    let wider = λ (reply : List ℕ) (status : ℕ) (told : IsMade made reply status).
-    to_both held other texts.scenario.items c.as_slice.result.now texts.tree.items c.as_slice-2.result.now reply status
-    c.in_ok-texts.ensures.scenario c.as_slice.ensures.value c.in_ok-texts.ensures.tree c.as_slice-2.ensures.value
-    (made_reply made (IsCheckReply c.as_slice.result.now c.as_slice-2.result.now) c.check_reply.ensures reply status told) in
-    part_wider (IsMade made) (ToBoth IsCheckReply held other) old new wider (c.send_made.ensures.part fault)
+pub returns : goal.returns
+returns g c =
+    let old = c.args.scenario_reader.now in
+    let new = c.given_made-given.new.reader in
+    let old_too = c.args.tree_reader.now in
+    let new_too = c.given_made-given.new.tree_reader in
+    sent_of_both g.R.Source.left g.R.Source.has_failed old new g.W.Sink.written g.W.Sink.has_failed c.args.writer.now c.send.new.writer
+    c.requires.writer c.judged_alone.result c.send.result c.send.ensures g.S.Source.left g.S.Source.has_failed old_too new_too IsCheckReply NoCause
+    (judged g.R.Source.left g.R.Source.has_failed g.S.Source.left g.S.Source.has_failed old new old_too new_too c.given_made-given.result
+    c.judged_alone.result c.given_made-given.ensures c.judged_alone.ensures)

@@ -1,3 +1,5 @@
+use Rattle.leastfault.specs.Replies.{RepliesAll, RepliesReport}
+use Rattle.leastfault.proofs.CertificateLemmas.{certified_one}
 use Rattle.leastfault.proofs.Uniqueness.{all_replies_one, answer_replies_agree, answer_replies_one, handed_one, run_replies_one}
 use Rattle.leastfault.proofs.Uniqueness.{search_replies_one, statuses_agree}
 use Rattle.leastfault.proofs.laws.replies_are_one.Goals as goal
@@ -22,3 +24,11 @@ returns-clause-tree c text status one other a b = handed_one text status one oth
 
 pub returns-clause-run : goal.returns-clause-run
 returns-clause-run c text one other m n a b = run_replies_one c.args.faults.now c.names_are_one.ensures text one other m n a b
+
+pub returns-clause-certified : goal.returns-clause-certified
+returns-clause-certified c text one other x y a b =
+    certified_one RepliesReport text (λ l r m n. search_replies_one text l r m n) one other x y a b
+
+pub returns-clause-certified_all : goal.returns-clause-certified_all
+returns-clause-certified_all c text one other x y a b =
+    certified_one RepliesAll text (λ l r m n. all_replies_one c.orders_are_total.ensures.sets text l r m n) one other x y a b

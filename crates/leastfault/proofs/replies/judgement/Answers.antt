@@ -1,6 +1,5 @@
 use Rattle.std.proofs.Common.{◌++◌, ap, codes, string_bytes, sym, ◌∙◌}
 use Rattle.std.specs.Fmt.{decimal}
-use Rattle.lf_certificate.specs.Faults.{number_of}
 use Rattle.lf_trace.specs.Lines.{line}
 use Rattle.leastfault.specs.Reports.{judgement, path_text}
 use Rattle.leastfault.proofs.LineTexts.{no_line_parts}

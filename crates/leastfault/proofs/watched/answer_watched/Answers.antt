@@ -1,33 +1,10 @@
-use Rattle.std.proofs.Common.{ℕ, List}
-use Rattle.std.proofs.lemmas.Result.{IfOk-weaker}
-use Rattle.lf_scenario.specs.Limits.{longest}
-use Rattle.leastfault.specs.Made.{IsMade}
-use Rattle.leastfault.specs.Replies.{IsAnswerReply, ToHeld, WroteReply}
-use Rattle.leastfault.proofs.ReplyLemmas.{answer_by_front, made_reply, part_wider, to_held, wrote_wider}
+use Rattle.leastfault.specs.Engines.{NoCause}
+use Rattle.leastfault.specs.Replies.{IsAnswerReply}
+use Rattle.leastfault.proofs.EngineLemmas.{sent_of_one}
 use Rattle.leastfault.proofs.watched.answer_watched.Goals as goal
 
-pub returns-clause-reply : goal.returns-clause-reply
-returns-clause-reply g c =
-    let held = g.R.Source.left c.args.reader.now in
-    let old = g.W.Sink.written c.args.writer.now in
-    let new = g.W.Sink.written c.send_made.new.writer in
-    let made = c.answer_reply.result in
-    let Replies = IsAnswerReply in
-    let wider = λ (reply : List ℕ) (status : ℕ) (told : IsMade made reply status).
-    to_held longest Replies answer_by_front held c.in_ok-text.text.items c.as_slice.result.now reply status c.in_ok-text.ensures.text c.as_slice.ensures.value
-    (made_reply made (Replies c.as_slice.result.now) c.answer_reply.ensures reply status told) in
-    IfOk-weaker c.send_made.result (WroteReply (IsMade made) old new) (WroteReply (ToHeld Replies held) old new)
-    (wrote_wider (IsMade made) (ToHeld Replies held) old new wider)
-    c.send_made.ensures.reply
-
-pub returns-clause-part : goal.returns-clause-part
-returns-clause-part g c fault =
-    let held = g.R.Source.left c.args.reader.now in
-    let old = g.W.Sink.written c.args.writer.now in
-    let new = g.W.Sink.written c.send_made.new.writer in
-    let made = c.answer_reply.result in
-    let Replies = IsAnswerReply in
-    let wider = λ (reply : List ℕ) (status : ℕ) (told : IsMade made reply status).
-    to_held longest Replies answer_by_front held c.in_ok-text.text.items c.as_slice.result.now reply status c.in_ok-text.ensures.text c.as_slice.ensures.value
-    (made_reply made (Replies c.as_slice.result.now) c.answer_reply.ensures reply status told) in
-    part_wider (IsMade made) (ToHeld Replies held) old new wider (c.send_made.ensures.part fault)
+pub returns : goal.returns
+returns g c =
+    sent_of_one g.R.Source.left g.R.Source.has_failed c.args.reader.now c.answer_made-made.new.reader g.W.Sink.written g.W.Sink.has_failed
+    c.args.writer.now c.send.new.writer c.requires.writer c.answer_made-made.result c.send.result c.send.ensures IsAnswerReply NoCause
+    c.answer_made-made.ensures

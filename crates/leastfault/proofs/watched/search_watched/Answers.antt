@@ -1,43 +1,10 @@
-use Rattle.std.proofs.Common.{string_bytes}
-use Rattle.std.proofs.lemmas.Result.{IfOk-weaker}
-use Rattle.lf_scenario.specs.Limits.{longest}
-use Rattle.leastfault.specs.declared.engine.BytesFault.TheVariants as faults
-use Rattle.leastfault.specs.Made.{IsFound, IsFoundReply}
-use Rattle.leastfault.specs.Replies.{IsReplyWith, IsSearchedWith, ToHeld, WroteReply, reports_of}
-use Rattle.leastfault.proofs.ReplyLemmas.{found_reply, ok_or, part_wider, search_by_front, searched_by_front, to_held, wrote_wider}
+use Rattle.leastfault.specs.Engines.{NoCause}
+use Rattle.leastfault.specs.Replies.{IsSearchedWith, reports_of}
+use Rattle.leastfault.proofs.EngineLemmas.{sent_of_one}
 use Rattle.leastfault.proofs.watched.search_watched.Goals as goal
 
-pub returns-clause-reply : goal.returns-clause-reply
-returns-clause-reply g c =
-    let held = g.R.Source.left c.args.reader.now in
-    let old = g.W.Sink.written c.args.writer.now in
-    let new = g.W.Sink.written c.send_found.new.writer in
-    let Reports = reports_of c.args.wanted in
-    let text = c.as_slice.result.now in
-    let found = c.or.result in
-    let is = ok_or c.search_reply-found.result found faults.Memory
-    (λ f. IsSearchedWith Reports f.tree text (string_bytes f.reply.text) f.reply.status) c.or.ensures c.search_reply-found.ensures in
-    IfOk-weaker c.send_found.result (λ searched. WroteReply (IsFound found searched.tree) old new searched.status)
-    (λ searched. WroteReply (ToHeld (IsSearchedWith Reports searched.tree) held) old new searched.status)
-    (λ searched. wrote_wider (IsFound found searched.tree) (ToHeld (IsSearchedWith Reports searched.tree) held) old new
-    (λ reply status told. to_held longest (IsSearchedWith Reports searched.tree) (searched_by_front Reports searched.tree) held
-    c.in_ok-text.text.items text reply status c.in_ok-text.ensures.text c.as_slice.ensures.value
-    (found_reply found (λ tree. IsSearchedWith Reports tree text) is searched.tree reply status told))
-    searched.status)
-    c.send_found.ensures.reply
-
-pub returns-clause-part : goal.returns-clause-part
-returns-clause-part g c fault =
-    let held = g.R.Source.left c.args.reader.now in
-    let old = g.W.Sink.written c.args.writer.now in
-    let new = g.W.Sink.written c.send_found.new.writer in
-    let Reports = reports_of c.args.wanted in
-    let text = c.as_slice.result.now in
-    let found = c.or.result in
-    let is = ok_or c.search_reply-found.result found faults.Memory
-    (λ f. IsSearchedWith Reports f.tree text (string_bytes f.reply.text) f.reply.status) c.or.ensures c.search_reply-found.ensures in
-    part_wider (IsFoundReply found) (ToHeld (IsReplyWith Reports) held) old new
-    (λ reply status told. to_held longest (IsReplyWith Reports) (search_by_front Reports) held
-    c.in_ok-text.text.items text reply status c.in_ok-text.ensures.text c.as_slice.ensures.value
-    (found_reply found (λ tree. IsSearchedWith Reports tree text) is told.0 reply status told.1).0)
-    (c.send_found.ensures.part fault)
+pub returns : goal.returns
+returns g c =
+    sent_of_one g.R.Source.left g.R.Source.has_failed c.args.reader.now c.search_made-made.new.reader g.W.Sink.written g.W.Sink.has_failed
+    c.args.writer.now c.send.new.writer c.requires.writer c.search_made-made.result c.send.result c.send.ensures
+    (IsSearchedWith (reports_of c.args.wanted)) NoCause c.search_made-made.ensures

@@ -1,15 +1,14 @@
 use Rattle.std.proofs.Common.{subst, sym}
-use Rattle.std.specs.Prelude.{IfOk}
 use Rattle.leastfault.specs.declared.answering.Wanted.TheVariants as wanted
-use Rattle.leastfault.specs.Searches.{IsFoundFor}
+use Rattle.leastfault.specs.Searches.{IsEndFor}
 use Rattle.leastfault.proofs.workers.searched.Goals as goal
 
-pub returns-in-Answer-clause-found : goal.returns-in-Answer-clause-found
-returns-in-Answer-clause-found g c =
-    let found = subst (λ s. IfOk c.answered.result (IsFoundFor wanted.Answer s)) c.in-Ok.ensures.ok c.answered.ensures.found in
-    subst (λ w. IfOk c.answered.result (IsFoundFor w c.args.scenario)) (sym c.in-Answer.is) found
+pub returns-in-Answer : goal.returns-in-Answer
+returns-in-Answer g c =
+    let found = subst (λ s. IsEndFor wanted.Answer c.args.workers s c.answered.result) c.in-Ok.ensures.ok c.answered.ensures in
+    subst (λ w. IsEndFor w c.args.workers c.args.scenario c.answered.result) (sym c.in-Answer.is) found
 
-pub returns-clause-found : goal.returns-clause-found
-returns-clause-found g c =
-    let found = subst (λ s. IfOk c.listed.result (IsFoundFor wanted.AllLeast s)) c.in-Ok.ensures.ok c.listed.ensures.found in
-    subst (λ w. IfOk c.listed.result (IsFoundFor w c.args.scenario)) (sym c.in-AllLeast.is) found
+pub returns : goal.returns
+returns g c =
+    let found = subst (λ s. IsEndFor wanted.AllLeast c.args.workers s c.listed.result) c.in-Ok.ensures.ok c.listed.ensures in
+    subst (λ w. IsEndFor w c.args.workers c.args.scenario c.listed.result) (sym c.in-AllLeast.is) found

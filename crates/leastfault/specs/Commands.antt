@@ -1,0 +1,123 @@
+-- What a command comes to.
+use Rattle.std.specs.Prelude.{◌≡◌, ◌≢◌, ◌⊎◌, ℕ, ◌<◌, ◌≤◌, Bool, true, false, List, length, string_bytes}
+use Rattle.std.specs.Prelude.{Option, None, Some, MatchOption}
+use Rattle.std.specs.Option.{option_map}
+use Rattle.lf_scenario.specs.declared.scenario.Scenario.{Scenario}
+use Rattle.lf_tree.specs.declared.fault.TreeFault.TheVariants as trees
+use Rattle.lf_tree.specs.declared.tree.Tree.{Tree}
+use Rattle.lf_tree.specs.Texts.{most_bytes, tree_text}
+use Rattle.lf_tree.specs.Trees.{IsTree}
+use Rattle.lf_words.specs.declared.types.Asked.{Asked}
+use Rattle.lf_words.specs.declared.types.Asked.TheVariants as asked
+use Rattle.lf_words.specs.Words.{written_to}
+use Rattle.leastfault.specs.declared.answering.Wanted.{Wanted}
+use Rattle.leastfault.specs.declared.answering.Wanted.TheVariants as wanted
+use Rattle.leastfault.specs.declared.reply.Certified.{Certified}
+use Rattle.leastfault.specs.declared.reply.Reply.{Reply}
+use Rattle.leastfault.specs.declared.reply.Searched.{Searched}
+use Rattle.leastfault.specs.Replies.{HandsOut, IsAnswerReply, IsCheckReply, IsPoolCause, IsReplyWith, IsRunReply, MayWork, reports_of}
+use Rattle.leastfault.specs.Reports.{tree_refusal}
+
+-- the bytes of the certificate, where there is one
+abbrev pub certificate_of : Certified → Option (List ℕ)
+certificate_of ended = option_map (λ bytes. bytes.items) ended.certificate
+
+-- the bytes are the text of the tree, which isn't too long
+pub record IsCertificate (tree : Tree) (bytes : List ℕ) : Type 0 where
+  pub kept : IsTree tree
+  pub spelled : tree_text tree ≡ bytes
+  pub short : length bytes ≤ most_bytes
+
+-- of a search, by what it reports where it has ended
+module _ (Reports : Scenario → List ℕ → ℕ → Type 0) (text reply : List ℕ) (ended : Certified) where
+  -- no certificate is to be made: its reply alone
+  abbrev pub IsUncertified : Type 0
+  IsUncertified = IsReplyWith Reports text reply ended.status × (certificate_of ended ≡ None)
+
+  -- there is no answer: its reply, whose status is 2, and no certificate
+  abbrev pub HasNoAnswer : Type 0
+  HasNoAnswer = IsReplyWith Reports text reply ended.status × (ended.status ≡ 2) × (certificate_of ended ≡ None)
+
+  -- its reply, and the text of the tree that is handed out with it
+  abbrev pub HasCertificate : Type 0
+  HasCertificate =
+      (tree : Tree) × (bytes : List ℕ) × IsReplyWith Reports text reply ended.status × HandsOut text (Some tree) ended.status
+      × IsCertificate tree bytes × (certificate_of ended ≡ Some bytes)
+
+  -- that text is too long: its refusal in place of the reply, with status 2, and no certificate
+  abbrev pub HasLongText : Type 0
+  HasLongText =
+      (tree : Tree) × (own : List ℕ) × (status : ℕ) × IsReplyWith Reports text own status × HandsOut text (Some tree) status
+      × (most_bytes < length (tree_text tree))
+      × (reply ≡ tree_refusal trees.TooLong) × (ended.status ≡ 2) × (certificate_of ended ≡ None)
+
+  -- a certificate is to be made
+  abbrev pub IsCertified : Type 0
+  IsCertified = HasNoAnswer ⊎ (HasCertificate ⊎ HasLongText)
+
+-- there is one at most: one reply, with one status and one certificate or none
+abbrev pub HasOneEnd : (List ℕ → Certified → Type 0) → Type 0
+HasOneEnd IsEnd =
+    (one other : List ℕ) (x y : Certified) → IsEnd one x → IsEnd other y
+    → (one ≡ other) × (x.status ≡ y.status) × (certificate_of x ≡ certificate_of y)
+
+-- the same of a search by so many workers
+abbrev pub IsCertifiedBy : Wanted → ℕ → List ℕ → List ℕ → Certified → Type 0
+IsCertifiedBy wanted workers text reply ended = IsCertified (reports_of wanted) text reply ended × MayWork workers text
+
+-- one worker searches alone, and several may give no answer for a cause
+abbrev pub IsCauseAt : ℕ → List ℕ → ℕ → Type 0
+IsCauseAt workers text number = (workers ≢ 1) × IsPoolCause workers text number
+
+-- a reply with this text and status, and the text of the tree as its certificate; or that the latter is too long
+abbrev pub IsWritten : List ℕ → ℕ → Tree → Reply Certified → Type 0
+IsWritten text status tree r =
+    ((bytes : List ℕ) × IsCertificate tree bytes × (certificate_of r.value ≡ Some bytes) × (string_bytes r.text ≡ text) × (r.value.status ≡ status))
+    ⊎ ((most_bytes < length (tree_text tree)) × (string_bytes r.text ≡ tree_refusal trees.TooLong) × (r.value.status ≡ 2)
+    × (certificate_of r.value ≡ None))
+
+-- of the reply of a search: with its tree, it has that certificate, or the text is too long; and without one it has none
+abbrev pub GetsCertified : Reply Searched → Reply Certified → Type 0
+GetsCertified found r =
+    MatchOption found.value.tree
+    ((string_bytes r.text ≡ string_bytes found.text) × (r.value.status ≡ found.value.status) × (certificate_of r.value ≡ None))
+    (λ tree. IsWritten (string_bytes found.text) found.value.status tree r)
+
+-- a reply with its status and no certificate as the value
+abbrev pub IsAlone : {X : Type 0} → (X → ℕ) → Reply X → Reply Certified → Type 0
+IsAlone status_of r told =
+    (string_bytes told.text ≡ string_bytes r.text) × (told.value.status ≡ status_of r.value) × (certificate_of told.value ≡ None)
+
+-- what a search is to report, by whether all least sets are to be told
+abbrev pub wanted_of : Bool → Wanted
+wanted_of false = wanted.Answer
+wanted_of true = wanted.AllLeast
+
+-- a search's reply, with a certificate where a file is named for it
+abbrev pub IsSearchFor : Option (List ℕ) → Wanted → List ℕ → List ℕ → Certified → Type 0
+IsSearchFor None wanted text reply ended = IsUncertified (reports_of wanted) text reply ended
+IsSearchFor (Some file) wanted text reply ended = IsCertified (reports_of wanted) text reply ended
+
+-- the file of the certificate that is to be judged
+abbrev pub tree_file : Asked → Option (List ℕ)
+tree_file (asked.Search file tree all workers quiet) = None
+tree_file (asked.Run file faults) = None
+tree_file (asked.Check file tree quiet) = Some (string_bytes tree)
+tree_file (asked.Answer file quiet) = None
+
+-- what is asked for comes to this, by the texts of the scenario and of the certificate that is to be judged
+abbrev pub IsDone : Asked → List ℕ → List ℕ → List ℕ → Certified → Type 0
+IsDone (asked.Search file tree all workers quiet) text certificate reply ended =
+    IsSearchFor (written_to (asked.Search file tree all workers quiet)) (wanted_of all) text reply ended × MayWork workers text
+IsDone (asked.Run file faults) text certificate reply ended =
+    IsRunReply (string_bytes faults) text reply ended.status × (certificate_of ended ≡ None)
+IsDone (asked.Check file tree quiet) text certificate reply ended =
+    IsCheckReply text certificate reply ended.status × (certificate_of ended ≡ None)
+IsDone (asked.Answer file quiet) text certificate reply ended = IsAnswerReply text reply ended.status × (certificate_of ended ≡ None)
+
+-- for this cause workers give no answer
+abbrev pub IsCauseFor : Asked → List ℕ → ℕ → Type 0
+IsCauseFor (asked.Search file tree all workers quiet) text number = IsCauseAt workers text number
+IsCauseFor (asked.Run file faults) text number = ⊥
+IsCauseFor (asked.Check file tree quiet) text number = ⊥
+IsCauseFor (asked.Answer file quiet) text number = ⊥

@@ -1,0 +1,159 @@
+//! What the words of a command line come to.
+
+use crate::texts::{agrees, behind, columns, is_reply, text_of};
+use leastfault::{
+    Asked, BytesFault, Certified, NoWatch, Reply, Wanted, asked, certificate_file, execute,
+    search_certified, tree_file,
+};
+use lf_streams::FromRead;
+use std::alloc::{AllocError, Global};
+use std::rt::Clock;
+use std::sync::Wait;
+use std::thread::Threads;
+
+/// The certificate of one lost note, of two that may be lost.
+const LOST: &str = concat!(
+    r#"{"answer":["omit 0>1 @1"],"format":1,"root":{"edges":["omit 0>1 @1","omit 0>2 @1"],"#,
+    r#""kids":[{"misses":true},{"misses":true}],"reach":[4,4,4]}}"#,
+);
+
+/// What the words of a line ask for, where they ask for something. A `+` parts them.
+fn asked_in(alloc: Global, line: &str) -> Option<Asked> {
+    match words_of(alloc, line) {
+        Ok(words) => asked(alloc, words.as_slice()).ok(),
+        Err(_) => None,
+    }
+}
+
+/// The words of a line.
+fn words_of(alloc: Global, line: &str) -> Result<Vec<String>, AllocError> {
+    let mut words = Vec::new(alloc);
+    for word in line.split('+') {
+        words.push(String::from_str(alloc, word)?)?;
+    }
+    Ok(words)
+}
+
+/// What is asked comes to, of a scenario's text and of that certificate.
+fn executed(
+    rt: &(impl Threads + Wait + Clock + Sync),
+    alloc: Global,
+    asked: &Asked,
+    text: &[u8],
+) -> Result<Reply<Certified>, BytesFault> {
+    let mut source = FromRead::new(text);
+    let mut tree = FromRead::new(LOST.as_bytes());
+    execute(rt, alloc, asked, &mut source, &mut tree, &NoWatch)
+}
+
+/// Whether a reply, its status and whether it has that certificate are those of a row.
+fn is_done(done: &Reply<Certified>, wanted: &str) -> bool {
+    let (kind, reply) = columns(wanted);
+    let is_right = match &done.value.certificate {
+        Some(text) => kind == "certified" && text.as_slice() == LOST.as_bytes(),
+        None => kind == "plain",
+    };
+    is_right && is_reply(done.text.as_bytes(), done.value.status, reply)
+}
+
+/// Whether the words of a row come to what it says.
+fn row_is_done(rt: &(impl Threads + Wait + Clock + Sync), alloc: Global, row: &str) -> bool {
+    let (words, rest) = columns(row);
+    let (Some(asked), Ok(text)) = (asked_in(alloc, words), text_of(alloc, rest)) else {
+        return false;
+    };
+    match executed(rt, alloc, &asked, text.as_bytes()) {
+        Ok(done) => is_done(&done, behind(rest)),
+        Err(_) => false,
+    }
+}
+
+/// Words, a scenario, whether a certificate is to be written, the status and the reply.
+const DONE: &str = concat!(
+    // one lost note is enough, whoever searches
+    "search+-|3 4 3 0 2|protocol = \"retry\";tries = 1;outcome = \"delivered\"|plain|1|least 1;omit 0>1 @1\n",
+    "search+-+--tree+t|3 4 3 0 2|protocol = \"retry\";tries = 1;outcome = \"delivered\"|certified|1|least 1;omit 0>1 @1\n",
+    "search+-+--tree+t+--workers+3|3 4 3 0 2|protocol = \"retry\";tries = 1;outcome = \"delivered\"|certified|1|least 1;omit 0>1 @1\n",
+    "search+-+--all|3 4 3 0 2|protocol = \"retry\";tries = 1;outcome = \"delivered\"|plain|1|all 1 2;omit 0>1 @1;omit 0>2 @1\n",
+    "search+-+--all+--tree+t|3 4 3 0 2|protocol = \"retry\";tries = 1;outcome = \"delivered\"|certified|1|",
+    "all 1 2;omit 0>1 @1;omit 0>2 @1\n",
+    "search+-+--all+--workers+2|3 4 3 0 2|protocol = \"retry\";tries = 1;outcome = \"delivered\"|plain|1|all 1 2;omit 0>1 @1;omit 0>2 @1\n",
+    "answer+-|3 4 3 0 2|protocol = \"retry\";tries = 1;outcome = \"delivered\"|plain|1|least 1;omit 0>1 @1\n",
+    // the certificate is the scenario's
+    "check+-+t|3 4 3 0 2|protocol = \"retry\";tries = 1;outcome = \"delivered\"|plain|0|yes\n",
+    "check+-+t|3 4 2 0 6|protocol = \"retry\";tries = 3;outcome = \"delivered\"|plain|1|no 6 -\n",
+    // a run of no fault, of words that name none, and of a set that misses
+    "run+-+|2 1 0 0 0|protocol = \"retry\";tries = 1;outcome = \"delivered\"|plain|1|step 1;0 has;1 lacks;0>1 data lost;misses\n",
+    "run+-+,|3 4 3 0 2|protocol = \"retry\";tries = 1;outcome = \"delivered\"|plain|2|refused faults\n",
+    // where there is no answer there is no certificate
+    "search+-+--tree+t|3 4 3 0 3|protocol = \"retry\";tries = 3;outcome = \"delivered\";max_sets = 14|plain|2|full 2 15\n",
+    "search+-+--tree+t|3 4 3 0 3|protocol = \"retry\";tries = 3;outcome = \"agreement\"|plain|2|refused 10 outcome\n",
+);
+
+#[test]
+fn words_come_to_a_reply_and_a_certificate(rt: HostRuntime) {
+    for row in DONE.lines() {
+        agrees(&rt, row_is_done(&rt, rt.alloc(), row), row);
+    }
+}
+
+/// Whether the words of a row name these files: the scenario's, the certificate's that is judged and the one's that is written, and `/` for
+/// none.
+fn files_are_named(alloc: Global, row: &str) -> bool {
+    let (words, names) = columns(row);
+    let Some(asked) = asked_in(alloc, words) else {
+        return false;
+    };
+    let tree = tree_file(&asked).unwrap_or("/");
+    let certificate = certificate_file(&asked).unwrap_or("/");
+    match format!(in alloc; "{} {tree} {certificate}", asked.file()) {
+        Ok(found) => found.as_str() == names,
+        Err(_) => false,
+    }
+}
+
+/// Words, and the files that they name.
+const NAMED: &str = concat!(
+    "search+s|s / /\n",
+    "search+s+--tree+t|s / t\n",
+    "search+-+--tree+-|- / -\n",
+    "run+s+t|s / /\n",
+    "answer+s|s / /\n",
+    "check+s+t|s t /\n",
+    "check+-+t|- t /\n",
+);
+
+#[test]
+fn words_name_files(rt: HostRuntime) {
+    for row in NAMED.lines() {
+        agrees(&rt, files_are_named(rt.alloc(), row), row);
+    }
+}
+
+/// Whether a number of workers out of range is told where the scenario isn't refused.
+fn is_out_of_range(rt: &(impl Threads + Wait + Clock + Sync), alloc: Global, row: &str) -> bool {
+    let (workers, rest) = columns(row);
+    let (Ok(workers), Ok(text)) = (workers.parse::<u32>(), text_of(alloc, rest)) else {
+        return false;
+    };
+    let mut source = FromRead::new(text.as_bytes());
+    match search_certified(rt, alloc, Wanted::Answer, workers, &mut source, &NoWatch) {
+        Ok(done) => is_done(&done, behind(rest)),
+        Err(fault) => behind(rest) == "pool" && fault == BytesFault::Pool(1),
+    }
+}
+
+/// Numbers of workers, scenarios, and what they come to.
+const OUT_OF_RANGE: &str = concat!(
+    "0|3 4 3 0 2|protocol = \"retry\";tries = 1;outcome = \"delivered\"|pool\n",
+    "33|3 4 3 0 2|protocol = \"retry\";tries = 1;outcome = \"delivered\"|pool\n",
+    "33|3 4 3 0 2|protocol = \"retry\";tries = 1;outcome = \"agreement\"|plain|2|refused 10 outcome\n",
+    "32|3 4 3 0 2|protocol = \"retry\";tries = 1;outcome = \"delivered\"|certified|1|least 1;omit 0>1 @1\n",
+);
+
+#[test]
+fn so_many_workers_may_search(rt: HostRuntime) {
+    for row in OUT_OF_RANGE.lines() {
+        agrees(&rt, is_out_of_range(&rt, rt.alloc(), row), row);
+    }
+}
