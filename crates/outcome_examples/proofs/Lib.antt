@@ -1,1 +1,2 @@
 mod OnePoint
+mod Outside

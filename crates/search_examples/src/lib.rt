@@ -30,4 +30,6 @@ mod told;
 #[cfg(test)]
 mod turns;
 #[cfg(test)]
+mod waits;
+#[cfg(test)]
 mod works;

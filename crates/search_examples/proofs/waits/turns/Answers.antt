@@ -1,0 +1,12 @@
+use denote.Exit as exit
+use denote.Param.{param}
+use denote.Param.Send.{param_send, arg_send}
+use Rattle.search_examples.proofs.Lent.{holding_sync, lent_send, share_send, shared_sync}
+use Rattle.search_examples.proofs.waits.turns.Goals as goal
+
+pub join-waiting-requires-send-F : goal.join-waiting-requires-send-F
+join-waiting-requires-send-F g c κs within =
+    let L = param 0 g.row.L in
+    param_send 1 _
+    (arg_send _ exit.no _
+    (lent_send _ _ _ _ _ _ _ _ _ _ _ _ _ c.type_bounds.sync-R (shared_sync L g.L.Ledger) (share_send L g.L.Ledger) holding_sync))
