@@ -1,0 +1,4 @@
+mod ChoicesLemmas
+mod FoldsLemmas
+pub mod Laws
+mod RangesLemmas

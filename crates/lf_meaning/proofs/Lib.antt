@@ -1,0 +1,2 @@
+mod SetsLemmas
+mod ValuesLemmas

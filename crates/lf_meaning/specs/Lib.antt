@@ -1,0 +1,4 @@
+pub mod Sets
+pub mod States
+pub mod Operators
+pub mod Values

@@ -1,0 +1,2 @@
+mod IndexesLemmas
+mod RangesLemmas

@@ -1,0 +1,5 @@
+pub mod Constants
+pub mod Indexes
+pub mod Machines
+pub mod Ruleds
+pub mod RuledLemmas

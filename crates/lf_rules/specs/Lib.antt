@@ -1,0 +1,4 @@
+pub mod Trees
+pub mod Kinds
+pub mod Sorts
+pub mod Forms

@@ -1,0 +1,399 @@
+//! When a definition is well formed.
+
+ghost use Rattle.std.specs.Prelude.{◌≡◌, slice_get, min};
+ghost use Rattle.std.specs.List.{list_all};
+ghost use Rattle.lf_rules.specs.Forms.{is_from, has_words, is_kind, is_word_of, is_variable, are_variables, is_form, is_value, is_given, is_constant, is_let, is_fact, is_assigned, is_assignment, are_fields, are_sent, is_send, is_rule_in, is_event, scope_of, sends_of, is_chain, rules_in, is_shown, is_in_limits, is_well_formed};
+
+use crate::definition::{Constant, Definition, Given, Guard, Named, NoteForm, Value, Variable};
+use crate::expr::Expr;
+use crate::kind::Kind;
+use crate::rule::{Assignment, Chain, Event, Rule, Send};
+use crate::sort::{Scope, Sort};
+
+impl Definition {
+    /// Whether the definition is well formed: all that has a number is there, each expression is of the sort that its place wants, and nothing passes its
+    /// limit.
+    pub fn is_well_formed(&self) -> bool
+        ensures { result ≡ is_well_formed self.now }
+    {
+        self.is_in_limits()
+            && self.are_variables()
+            && self.are_forms()
+            && self.are_constants()
+            && self.are_lets()
+            && self.are_facts()
+            && self.are_chains()
+            && self.are_shown()
+    }
+
+    /// Whether all forms of notes are well formed.
+    fn are_forms(&self) -> bool
+        ensures { result ≡ list_all (is_form self.now) self.now.notes.items }
+    {
+        for form in self.notes.as_slice() {
+            if !self.is_form(form) {
+                return false;
+            }
+        }
+        true
+    }
+
+    /// Whether all constants are well formed.
+    fn are_constants(&self) -> bool
+        ensures { result ≡ list_all (is_constant self.now) self.now.given.items }
+    {
+        for constant in self.given.as_slice() {
+            if !self.is_constant(constant) {
+                return false;
+            }
+        }
+        true
+    }
+
+    /// Whether all named expressions are well formed.
+    fn are_lets(&self) -> bool
+        ensures { result ≡ list_all (is_let self.now) self.now.lets.items }
+    {
+        for named in self.lets.as_slice() {
+            if !self.is_let(named) {
+                return false;
+            }
+        }
+        true
+    }
+
+    /// Whether all named guards are well formed.
+    fn are_facts(&self) -> bool
+        ensures { result ≡ list_all (is_fact self.now) self.now.facts.items }
+    {
+        for guard in self.facts.as_slice() {
+            if !self.is_fact(guard) {
+                return false;
+            }
+        }
+        true
+    }
+
+    /// Whether all chains of rules are well formed.
+    fn are_chains(&self) -> bool
+        ensures { result ≡ list_all (is_chain self.now) self.now.chains.items }
+    {
+        for chain in self.chains.as_slice() {
+            if !self.is_chain(chain) {
+                return false;
+            }
+        }
+        true
+    }
+
+    /// Whether all variables of a trace are there.
+    fn are_shown(&self) -> bool
+        ensures { result ≡ list_all (is_shown self.now) self.now.trace.items }
+    {
+        for variable in self.trace.as_slice() {
+            if !self.is_shown(*variable) {
+                return false;
+            }
+        }
+        true
+    }
+
+    /// Whether the values of all kinds are there.
+    fn are_kinds(&self, kinds: &[Kind]) -> bool
+        ensures { result ≡ list_all (is_kind self.now) kinds.now }
+    {
+        for kind in kinds {
+            if !self.is_kind(*kind) {
+                return false;
+            }
+        }
+        true
+    }
+
+    /// Whether a constant of a sort may have all these values.
+    fn are_values(&self, sort: Sort, values: &[Value]) -> bool
+        ensures { result ≡ list_all (is_value self.now sort) values.now }
+    {
+        for value in values {
+            if !self.is_value(sort, value) {
+                return false;
+            }
+        }
+        true
+    }
+
+    /// Whether all rules are well formed that send at most so often.
+    fn are_rules(&self, scope: Scope, sends: usize, rules: &[Rule]) -> bool
+        ensures { result ≡ list_all (is_rule_in self.now scope sends) rules.now }
+    {
+        for rule in rules {
+            if !self.is_rule(scope, sends, rule) {
+                return false;
+            }
+        }
+        true
+    }
+
+    /// Whether variables may get all these values.
+    fn are_assignments(&self, scope: Scope, sets: &[Assignment]) -> bool
+        ensures { result ≡ list_all (is_assignment self.now scope) sets.now }
+    {
+        for set in sets {
+            if !self.is_assignment(scope, set) {
+                return false;
+            }
+        }
+        true
+    }
+
+    /// Whether all these notes may be sent.
+    fn are_sends(&self, scope: Scope, sends: &[Send]) -> bool
+        ensures { result ≡ list_all (is_send self.now scope) sends.now }
+    {
+        for send in sends {
+            if !self.is_send(scope, send) {
+                return false;
+            }
+        }
+        true
+    }
+
+    /// Whether there is no more of anything than its limit.
+    fn is_in_limits(&self) -> bool
+        ensures { result ≡ is_in_limits self.now }
+    {
+        is_from(1, 16, self.variables.len())
+            && self.notes.len() <= 16
+            && self.given.len() <= 16
+            && self.lets.len() <= 16
+            && self.facts.len() <= 32
+            && rules_in(self.chains.as_slice()) <= 128
+            && is_from(1, 16, self.trace.len())
+    }
+
+    /// Whether the values of a kind are there.
+    fn is_kind(&self, kind: Kind) -> bool
+        ensures { result ≡ is_kind self.now kind }
+    {
+        match kind {
+            Kind::Flag | Kind::Nodes => true,
+            Kind::UpTo(most) => 1 <= most,
+            Kind::Word { of, words } => {
+                is_from(2, 16, usize::from(words)) && self.has_words(of, words)
+            }
+        }
+    }
+
+    /// Whether a variable has so many words.
+    fn has_words(&self, of: u8, words: u8) -> bool
+        ensures { result ≡ has_words (slice_get self.now.variables.items of) words }
+    {
+        match self.variables.get(usize::from(of)) {
+            Some(variable) => variable.words.len() == usize::from(words),
+            None => false,
+        }
+    }
+
+    /// Whether all variables are well formed.
+    fn are_variables(&self) -> bool
+        ensures { result ≡ are_variables self.now 0 self.now.variables.items }
+    {
+        for (i, variable) in self.variables.as_slice().iter().enumerate() {
+            if !self.is_variable(i, variable) {
+                return false;
+            }
+        }
+        true
+    }
+
+    /// Whether a variable is well formed, by its number.
+    fn is_variable(&self, i: usize, variable: &Variable) -> bool
+        ensures { result ≡ is_variable self.now i variable.now }
+    {
+        self.is_kind(variable.kind) && (variable.words.len() == 0 || is_word_of(i, variable.kind))
+    }
+
+    /// Whether a form of notes is well formed.
+    fn is_form(&self, form: &NoteForm) -> bool
+        ensures { result ≡ is_form self.now form.now }
+    {
+        form.fields.len() <= 6 && self.are_kinds(form.fields.as_slice())
+    }
+
+    /// Whether a constant is well formed.
+    fn is_constant(&self, constant: &Constant) -> bool
+        ensures { result ≡ is_constant self.now constant.now }
+    {
+        self.is_given(constant.sort, &constant.value)
+    }
+
+    /// Whether a constant of a sort may be this.
+    pub fn is_given(&self, sort: Sort, given: &Given) -> bool
+        ensures { result ≡ is_given self.now sort given.now }
+    {
+        match given {
+            Given::One(value) => self.is_value(sort, value),
+            Given::Each(values) => {
+                is_from(1, 8, values.len()) && self.are_values(sort, values.as_slice())
+            }
+        }
+    }
+
+    /// Whether a constant of a sort may have this value.
+    fn is_value(&self, sort: Sort, value: &Value) -> bool
+        ensures { result ≡ is_value self.now sort value.now }
+    {
+        match value {
+            Value::Number(_) => sort.same(Sort::Number),
+            Value::Truth(_) => sort.same(Sort::Truth),
+            Value::Nodes(expr) => {
+                sort.same(Sort::Nodes) && self.is_a(Scope::Given, Sort::Nodes, expr)
+            }
+        }
+    }
+
+    /// Whether a named expression is well formed.
+    fn is_let(&self, named: &Named) -> bool
+        ensures { result ≡ is_let self.now named.now }
+    {
+        self.is_a(Scope::Let, named.sort, &named.value)
+    }
+
+    /// Whether a named guard is well formed.
+    fn is_fact(&self, guard: &Guard) -> bool
+        ensures { result ≡ is_fact self.now guard.now }
+    {
+        self.is_a(Scope::Fact, Sort::Truth, &guard.value)
+    }
+
+    /// Whether a chain of rules is well formed.
+    fn is_chain(&self, chain: &Chain) -> bool
+        ensures { result ≡ is_chain self.now chain.now }
+    {
+        let scope = scope_of(chain.on);
+        let sends = sends_of(chain.on);
+        self.is_a(Scope::Who, Sort::Nodes, &chain.who)
+            && self.is_event(chain.on)
+            && 1 <= chain.rules.len()
+            && self.are_rules(scope, sends, chain.rules.as_slice())
+    }
+
+    /// Whether the note of an event is there.
+    fn is_event(&self, event: Event) -> bool
+        ensures { result ≡ is_event self.now event }
+    {
+        match event {
+            Event::Note(form) => usize::from(form) < self.notes.len(),
+            _ => true,
+        }
+    }
+
+    /// Whether a rule is well formed that sends at most so often.
+    fn is_rule(&self, scope: Scope, sends: usize, rule: &Rule) -> bool
+        ensures { result ≡ is_rule_in self.now scope sends rule.now }
+    {
+        self.is_a(scope, Sort::Truth, &rule.guard)
+            && rule.sets.len() <= 8
+            && self.are_assignments(scope, rule.sets.as_slice())
+            && rule.sends.len() <= sends
+            && self.are_sends(scope, rule.sends.as_slice())
+    }
+
+    /// Whether a variable may get this value.
+    fn is_assignment(&self, scope: Scope, set: &Assignment) -> bool
+        ensures { result ≡ is_assignment self.now scope set.now }
+    {
+        match self.variables.get(usize::from(set.variable)) {
+            Some(variable) => self.is_a(scope, variable.kind.sort(), &set.value),
+            None => false,
+        }
+    }
+
+    /// Whether a note may be sent with these values.
+    fn is_send(&self, scope: Scope, send: &Send) -> bool
+        ensures { result ≡ is_send self.now scope send.now }
+    {
+        self.are_sent(scope, send.form, send.fields.as_slice())
+            && self.is_a(scope, Sort::Nodes, &send.to)
+    }
+
+    /// Whether a note of this form may have these values.
+    fn are_sent(&self, scope: Scope, form: u8, values: &[Expr]) -> bool
+        ensures { result ≡ are_sent self.now scope (slice_get self.now.notes.items form) values.now }
+    {
+        match self.notes.get(usize::from(form)) {
+            Some(form) => self.are_fields(scope, form.fields.as_slice(), values),
+            None => false,
+        }
+    }
+
+    /// Whether fields of these kinds may have these values.
+    fn are_fields(&self, scope: Scope, kinds: &[Kind], values: &[Expr]) -> bool
+        ensures { result ≡ are_fields self.now scope kinds.now values.now }
+    {
+        match kinds {
+            [] => values.is_empty(),
+            [kind, kinds @ ..] => match values {
+                [] => false,
+                [value, values @ ..] => {
+                    self.is_a(scope, kind.sort(), value) && self.are_fields(scope, kinds, values)
+                }
+            },
+        }
+    }
+
+    /// Whether there is a variable with this number.
+    fn is_shown(&self, variable: u8) -> bool
+        ensures { result ≡ is_shown self.now variable }
+    {
+        usize::from(variable) < self.variables.len()
+    }
+}
+
+/// Whether a length is in a range.
+fn is_from(least: usize, most: usize, length: usize) -> bool
+    ensures { result ≡ is_from least most length }
+{
+    least <= length && length <= most
+}
+
+/// Whether a variable's values are its own words, by its number.
+fn is_word_of(i: usize, kind: Kind) -> bool
+    ensures { result ≡ is_word_of i kind }
+{
+    match kind {
+        Kind::Word { of, .. } => usize::from(of) == i,
+        _ => false,
+    }
+}
+
+/// Where the expressions of rules on an event stand.
+fn scope_of(event: Event) -> Scope
+    ensures { result ≡ scope_of event }
+{
+    match event {
+        Event::Note(form) => Scope::Note(form),
+        _ => Scope::Plain,
+    }
+}
+
+/// How often a rule on an event sends at most.
+fn sends_of(event: Event) -> usize
+    ensures { result ≡ sends_of event }
+{
+    match event {
+        Event::Start | Event::Wake => 0,
+        _ => 8,
+    }
+}
+
+/// How many rules there are in all, and the greatest `usize` where they are more.
+fn rules_in(chains: &[Chain]) -> usize
+    ensures { result ≡ min (rules_in chains.now) 18446744073709551615 }
+{
+    let mut count: usize = 0;
+    for chain in chains {
+        count = count.saturating_add(chain.rules.len());
+    }
+    count
+}

@@ -1,0 +1,21 @@
+//! The language of protocols that a designer writes as rules: its types, and when a definition in it is well formed.
+//!
+//! A node keeps a value for each of some variables. At each event of a step, its chains of rules are gone through in order: of a chain the first rule whose
+//! guard is true sets variables and then sends notes.
+#![tactic(auto)]
+
+mod definition;
+mod expr;
+mod forms;
+mod kind;
+mod rule;
+mod rules;
+mod sort;
+mod sorting;
+
+pub use definition::{Constant, Definition, Given, Guard, Named, NoteForm, Value, Variable};
+pub use expr::{Binary, Expr, Leaf, Tree, Unary};
+pub use kind::Kind;
+pub use rule::{Assignment, Chain, Event, Rule, Send};
+pub use rules::Rules;
+pub use sort::{Scope, Sort};

@@ -1,0 +1,60 @@
+//! Rules.
+
+use crate::expr::Expr;
+
+/// What a rule is on.
+#[derive(Clone, Copy, Debug, PartialEq, Eq)]
+pub enum Event {
+    /// The node's state is made, before step 1.
+    Start,
+    /// The node goes on after a pause.
+    Wake,
+    /// A step begins, before the letters.
+    Begin,
+    /// A letter is heard, whose note has the form with this number.
+    Note(u8),
+    /// A step ends, after the letters.
+    End,
+}
+
+/// A variable that gets a value.
+#[derive(Debug, Drop)]
+pub struct Assignment {
+    /// The variable's number.
+    pub variable: u8,
+    pub value: Expr,
+}
+
+/// A note that is sent to each node of a set but the sender.
+#[derive(Debug, Drop)]
+pub struct Send {
+    /// The number of the note's form.
+    pub form: u8,
+    /// The values of the fields, in order.
+    pub fields: Vec<Expr>,
+    /// The set of nodes.
+    pub to: Expr,
+}
+
+/// What a node does where a guard is true.
+#[derive(Debug, Drop)]
+pub struct Rule {
+    pub guard: Expr,
+    /// The assignments, which are made first, in order.
+    pub sets: Vec<Assignment>,
+    /// What is sent then, in order.
+    pub sends: Vec<Send>,
+}
+
+/// The rules of some nodes at an event of which at most one is taken: the first whose guard is true.
+///
+/// A rule without `else` begins a chain, and each one right under it with `else` goes on with it. They have the same event and the same nodes, so these
+/// stand here once.
+#[derive(Debug, Drop)]
+pub struct Chain {
+    /// The set of nodes whose rules these are, worked out at each of them.
+    pub who: Expr,
+    pub on: Event,
+    /// The rules, in order: 1 at least.
+    pub rules: Vec<Rule>,
+}
