@@ -4,19 +4,14 @@ use mir.Syntax.{Sym}
 use denote.Builtin as builtin
 use denote.RattleType.{RattleType}
 use denote.Ref.{NamedLft}
-use denote.Param.Send.{IsSend, IsSync, struct_send, recorded_send, shr_send, mut_slice_send, sendable}
+use denote.Param.Send.{IsSend, IsSync, struct_send, recorded_send, shr_send, mut_slice_send}
 use denote.Struct.Declared.{shape}
 use denote.Struct.Field.{shr_ref_field, mut_slice_field}
 use denote.Struct.Tuple as tuple
-use Rattle.std.proofs.Crossing.{crosses}
 use Rattle.std.specs.declared.sync.ledger.Ledger as ledger
 use Rattle.lf_pool.proofs.Laws.{workers_cross}
 use Rattle.lf_pool.specs.contracts.share.Share as share
 use Rattle.lf_pool.specs.contracts.shared.SharedBook as shared
-use Rattle.search_examples.specs.contracts.waits.Holding as holding
-
-pub holding_sync : IsSync holding.the_row
-holding_sync = search (crosses, sendable) depth 60 fits 20000
 
 module _ (T : RattleType) (g : ledger.Ghosts T.Denot) where
   pub shared_sync : IsSync (shared.the_row T g)

@@ -1,8 +1,13 @@
 use denote.Exit as exit
 use denote.Param.{param}
-use denote.Param.Send.{param_send, arg_send}
-use Rattle.search_examples.proofs.Lent.{holding_sync, lent_send, share_send, shared_sync}
+use denote.Param.Send.{IsSync, param_send, arg_send, sendable}
+use Rattle.std.proofs.Crossing.{crosses}
+use Rattle.search_examples.specs.contracts.waits.Holding as holding
+use Rattle.search_examples.proofs.Lent.{lent_send, share_send, shared_sync}
 use Rattle.search_examples.proofs.waits.turns.Goals as goal
+
+holding_sync : IsSync holding.the_row
+holding_sync = search (crosses, sendable) depth 60 fits 20000
 
 pub join-waiting-requires-send-F : goal.join-waiting-requires-send-F
 join-waiting-requires-send-F g c κs within =
