@@ -17,22 +17,22 @@ module _ (d : Definition) (at : Moment) (event : Event) where
   is_so = is_passed at.nodes at.me at.given event
 
   -- one chain, and then those after it
-  chosen-next : (x : Chain) (xs : List Chain) (i : ℕ) (turn : Stepped State Note) (b : Bool) → is_so x ≡ b → slice_get d.chains.items i ≡ Some x
+  chosen-next : (x : Chain) (xs : List Chain) (i : ℕ) (turn : Stepped State Note) (b : Bool) → is_so x ≡ b → slice_get d.chains i ≡ Some x
       → ((after : Stepped State Note) → fold (take_at d at) after (numbers_of is_so (i + 1) xs) ≡ fold (pass d at event) after xs)
       → fold (take_at d at) turn (numbers_of is_so i (x ∷ xs)) ≡ fold (pass d at event) turn (x ∷ xs)
   chosen-next x xs i turn true so here next =
-      rw so (ap (λ c. fold (take_at d at) (take_of d at turn c) (numbers_of is_so (i + 1) xs)) here ∙ next (take_first d at turn x.rules.items))
+      rw so (ap (λ c. fold (take_at d at) (take_of d at turn c) (numbers_of is_so (i + 1) xs)) here ∙ next (take_first d at turn x.rules))
   chosen-next x xs i turn false so here next = rw so (next turn)
 
   -- from the i-th chain on
-  chosen-from : (xs : List Chain) (i : ℕ) (turn : Stepped State Note) → ((k : ℕ) → slice_get d.chains.items (i + k) ≡ slice_get xs k)
+  chosen-from : (xs : List Chain) (i : ℕ) (turn : Stepped State Note) → ((k : ℕ) → slice_get d.chains (i + k) ≡ slice_get xs k)
       → fold (take_at d at) turn (numbers_of is_so i xs) ≡ fold (pass d at event) turn xs
   chosen-from [] i turn same = refl
   chosen-from (x ∷ xs) i turn same =
       let first : i ≡ i + 0 = omega arith in
-      chosen-next x xs i turn (is_so x) refl (ap (slice_get d.chains.items) first ∙ same 0) (λ after. chosen-from xs (i + 1) after (λ k.
-      let one_on : i + 1 + k ≡ i + suc k = omega arith in ap (slice_get d.chains.items) one_on ∙ same (suc k)))
+      chosen-next x xs i turn (is_so x) refl (ap (slice_get d.chains) first ∙ same 0) (λ after. chosen-from xs (i + 1) after (λ k.
+      let one_on : i + 1 + k ≡ i + suc k = omega arith in ap (slice_get d.chains) one_on ∙ same (suc k)))
 
   pub chosen-acts : (turn : Stepped State Note) → fold (take_at d at) turn (chosen d at.nodes at.me at.given event) ≡ act d at event turn
   unfolding act
-  chosen-acts turn = chosen-from d.chains.items 0 turn (λ k. let e : 0 + k ≡ k = omega arith in ap (slice_get d.chains.items) e)
+  chosen-acts turn = chosen-from d.chains 0 turn (λ k. let e : 0 + k ≡ k = omega arith in ap (slice_get d.chains) e)

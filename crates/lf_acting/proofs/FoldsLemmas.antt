@@ -5,7 +5,7 @@ use Rattle.std.specs.List.{fold, range_with_len}
 use Rattle.std.proofs.Math.Seq.{drop-cons}
 use Rattle.lf_sim.specs.declared.out.Stepped.{Stepped}
 use Rattle.lf_rules.specs.declared.kind.Kind.{Kind}
-use Rattle.lf_rules.specs.declared.expr.Expr.{Expr}
+use Rattle.lf_rules.specs.Terms.{Term}
 use Rattle.lf_rules.specs.declared.rule.Rule.{Rule}
 use Rattle.lf_rules.specs.declared.definition.Definition.{Definition}
 use Rattle.lf_meaning.specs.declared.moment.Moment.{Moment}
@@ -41,11 +41,11 @@ fold-range-more f b n =
 
 module _ (d : Definition) (at : Moment) where
   -- the fields from the k-th on
-  pub fill-next : (kinds : List Kind) (draft : Draft) (k : ℕ) (es : List Expr) (e : Expr) → k < length es → e ≡ get_or es k e
+  pub fill-next : (kinds : List Kind) (draft : Draft) (k : ℕ) (es : List Term) (e : Term) → k < length es → e ≡ get_or es k e
       → fill d at kinds draft k (drop k es) ≡ fill d at kinds (fill_as d at draft k (slice_get kinds k) e) (k + 1) (drop (k + 1) es)
   fill-next kinds draft k es e h is = ap (fill d at kinds draft k) (rest-is es k e h is)
 
-  pub fill-end : (kinds : List Kind) (draft : Draft) (k : ℕ) (es : List Expr) → length es ≤ k → fill d at kinds draft k (drop k es) ≡ draft
+  pub fill-end : (kinds : List Kind) (draft : Draft) (k : ℕ) (es : List Term) → length es ≤ k → fill d at kinds draft k (drop k es) ≡ draft
   fill-end kinds draft k es h = ap (fill d at kinds draft k) (rest-none es k h)
 
   -- a chain by what was taken: once a rule was taken, nothing changes

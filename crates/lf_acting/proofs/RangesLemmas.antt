@@ -4,7 +4,7 @@ use Rattle.std.specs.Prelude.{slice_get, slice_set, Option, None, Some}
 use Rattle.std.specs.List.{fold, range_with_len}
 use Rattle.lf_sim.specs.declared.out.Stepped.{Stepped}
 use Rattle.lf_rules.specs.declared.kind.Kind.{Kind}
-use Rattle.lf_rules.specs.declared.expr.Expr.{Expr}
+use Rattle.lf_rules.specs.Terms.{Term}
 use Rattle.lf_rules.specs.declared.rule.Event.{Event}
 use Rattle.lf_rules.specs.declared.rule.Assignment.{Assignment}
 use Rattle.lf_rules.specs.declared.rule.Send.{Send}
@@ -43,26 +43,26 @@ variable_or y None = y
 variable_or y (Some x) = x
 
 module _ (d : Definition) (at : Moment) where
-  assigned-ranged : (s : State) (i : ℕ) (found : Option Variable) (e : Expr) → slice_get d.variables.items i ≡ found → IsInRange d s
+  assigned-ranged : (s : State) (i : ℕ) (found : Option Variable) (e : Term) → slice_get d.variables i ≡ found → IsInRange d s
       → IsInRange d (assign_to d at s i found e)
   assigned-ranged s i None e there ranged = ranged
   assigned-ranged s i (Some x) e there ranged = λ j y is.
       set-small s.values i j (fitted x.kind (value_of d at s e)) (most_of y.kind)
       (λ same.
-      let one : x ≡ y = ap (variable_or x) (sym there ∙ ap (slice_get d.variables.items) same ∙ is) in
+      let one : x ≡ y = ap (variable_or x) (sym there ∙ ap (slice_get d.variables) same ∙ is) in
       let low : fitted x.kind (value_of d at s e) ≤ most_of x.kind = omega arith in
       subst (λ z. fitted x.kind (value_of d at s e) ≤ most_of z.kind) one low)
       (ranged j y is)
 
   assign-ranged : (s : State) (a : Assignment) → IsInRange d s → IsInRange d (assign d at s a)
-  assign-ranged s a ranged = assigned-ranged s a.variable (slice_get d.variables.items a.variable) a.value refl ranged
+  assign-ranged s a ranged = assigned-ranged s a.variable (slice_get d.variables a.variable) a.value refl ranged
 
   -- a send changes no variable
-  filled-ranged : (draft : Draft) (k : ℕ) (kind : Option Kind) (e : Expr) → IsInRange d draft.state → IsInRange d (fill_as d at draft k kind e).state
+  filled-ranged : (draft : Draft) (k : ℕ) (kind : Option Kind) (e : Term) → IsInRange d draft.state → IsInRange d (fill_as d at draft k kind e).state
   filled-ranged draft k None e ranged = ranged
   filled-ranged draft k (Some kind) e ranged = ranged
 
-  fill-ranged : (kinds : List Kind) (draft : Draft) (k : ℕ) (es : List Expr) → IsInRange d draft.state → IsInRange d (fill d at kinds draft k es).state
+  fill-ranged : (kinds : List Kind) (draft : Draft) (k : ℕ) (es : List Term) → IsInRange d draft.state → IsInRange d (fill d at kinds draft k es).state
   fill-ranged kinds draft k [] ranged = ranged
   fill-ranged kinds draft k (e ∷ es) ranged =
       fill-ranged kinds (fill_as d at draft k (slice_get kinds k) e) (k + 1) es (filled-ranged draft k (slice_get kinds k) e ranged)
@@ -79,19 +79,19 @@ module _ (d : Definition) (at : Moment) where
       let note : Note = record { form = x.form; fields = draft.fields } in
       let set = value_of d at draft.state x.to in
       fold-keeps IsRanged (put at set note) (put-ranged set note) (record { state = draft.state; out = turn.out }) (range_with_len 0 at.nodes)
-      (fill-ranged (kinds_of (slice_get d.notes.items x.form)) _ 0 x.fields.items ranged)
+      (fill-ranged (kinds_of (slice_get d.notes x.form)) _ 0 x.fields ranged)
 
   rule-ranged : (turn : Stepped State Note) (found : Option Rule) → IsRanged turn → IsRanged (do_found d at turn found)
   rule-ranged turn None ranged = ranged
   rule-ranged turn (Some rule) ranged =
-      fold-keeps IsRanged (send d at) send-ranged (record { state = fold (assign d at) turn.state rule.sets.items; out = turn.out }) rule.sends.items
-      (fold-keeps (IsInRange d) (assign d at) assign-ranged turn.state rule.sets.items ranged)
+      fold-keeps IsRanged (send d at) send-ranged (record { state = fold (assign d at) turn.state rule.sets; out = turn.out }) rule.sends
+      (fold-keeps (IsInRange d) (assign d at) assign-ranged turn.state rule.sets ranged)
 
   pass-ranged : (event : Event) (turn : Stepped State Note) (chain : Chain) → IsRanged turn → IsRanged (pass d at event turn chain)
   pass-ranged event turn chain ranged =
-      cond-keeps IsRanged (is_passed at.nodes at.me at.given event chain) (take_first d at turn chain.rules.items) turn
-      (rule-ranged turn (first_true d at turn.state chain.rules.items) ranged) ranged
+      cond-keeps IsRanged (is_passed at.nodes at.me at.given event chain) (take_first d at turn chain.rules) turn
+      (rule-ranged turn (first_true d at turn.state chain.rules) ranged) ranged
 
   pub act-ranged : (event : Event) (turn : Stepped State Note) → IsInRange d turn.state → IsInRange d (act d at event turn).state
   unfolding act
-  act-ranged event turn ranged = fold-keeps IsRanged (pass d at event) (pass-ranged event) turn d.chains.items ranged
+  act-ranged event turn ranged = fold-keeps IsRanged (pass d at event) (pass-ranged event) turn d.chains ranged

@@ -16,13 +16,13 @@ numbers_of f i (x ∷ xs) = if f x then i ∷ numbers_of f (i + 1) xs else numbe
 
 -- the numbers of the chains that a node goes through at an event, in order
 abbrev pub chosen : Definition → ℕ → ℕ → List ℕ → Event → List ℕ
-chosen d nodes me given event = numbers_of (is_passed nodes me given event) 0 d.chains.items
+chosen d nodes me given event = numbers_of (is_passed nodes me given event) 0 d.chains
 
 -- a chain that is gone through, by its number
 module _ (d : Definition) (at : Moment) where
   abbrev pub take_of : Stepped State Note → Option Chain → Stepped State Note
   take_of turn None = turn
-  take_of turn (Some chain) = take_first d at turn chain.rules.items
+  take_of turn (Some chain) = take_first d at turn chain.rules
 
   abbrev pub take_at : Stepped State Note → ℕ → Stepped State Note
-  take_at turn i = take_of turn (slice_get d.chains.items i)
+  take_at turn i = take_of turn (slice_get d.chains i)

@@ -4,7 +4,7 @@ use Rattle.std.specs.List.{fold, range_with_len}
 use Rattle.lf_sim.specs.declared.out.Stepped.{Stepped}
 use Rattle.lf_sim.specs.Outs.{note_to, with_note}
 use Rattle.lf_rules.specs.declared.kind.Kind.{Kind}
-use Rattle.lf_rules.specs.declared.expr.Expr.{Expr}
+use Rattle.lf_rules.specs.Terms.{Term}
 use Rattle.lf_rules.specs.declared.rule.Event.{Event}
 use Rattle.lf_rules.specs.declared.rule.Event.TheVariants as events
 use Rattle.lf_rules.specs.declared.rule.Assignment.{Assignment}
@@ -54,7 +54,7 @@ is_another (Some old) note = not (same_note old note)
 
 abbrev pub kinds_of : Option NoteForm → List Kind
 kinds_of None = []
-kinds_of (Some form) = form.fields.items
+kinds_of (Some form) = form.fields
 
 -- a note for m: where there was another one, that is remembered
 abbrev pub place : Note → Stepped State Note → ℕ → Stepped State Note
@@ -80,15 +80,15 @@ module _ (at : Moment) where
 
 module _ (d : Definition) (at : Moment) where
   -- a variable gets a value: a number of none does nothing
-  abbrev pub assign_to : State → ℕ → Option Variable → Expr → State
+  abbrev pub assign_to : State → ℕ → Option Variable → Term → State
   assign_to s i None e = s
   assign_to s i (Some x) e = with_value i (fitted x.kind (value_of d at s e)) (remembered x.kind (value_of d at s e) s)
 
   abbrev pub assign : State → Assignment → State
-  assign s a = assign_to s a.variable (slice_get d.variables.items a.variable) a.value
+  assign s a = assign_to s a.variable (slice_get d.variables a.variable) a.value
 
   -- a note's field gets a value: one past the form's fields does nothing
-  abbrev pub fill_as : Draft → ℕ → Option Kind → Expr → Draft
+  abbrev pub fill_as : Draft → ℕ → Option Kind → Term → Draft
   fill_as draft k None e = draft
   fill_as draft k (Some kind) e = record {
     state = remembered kind (value_of d at draft.state e) draft.state;
@@ -96,13 +96,13 @@ module _ (d : Definition) (at : Moment) where
   }
 
   -- the fields from the k-th on, from the left
-  abbrev pub fill : List Kind → Draft → ℕ → List Expr → Draft
+  abbrev pub fill : List Kind → Draft → ℕ → List Term → Draft
   fill kinds draft k [] = draft
   fill kinds draft k (e ∷ es) = fill kinds (fill_as draft k (slice_get kinds k) e) (k + 1) es
 
   -- a send works out its fields, then its set of nodes, and then puts the note
   abbrev pub drafted : State → Send → Draft
-  drafted s x = fill (kinds_of (slice_get d.notes.items x.form)) (record { state = s; fields = replicate 6 0 }) 0 x.fields.items
+  drafted s x = fill (kinds_of (slice_get d.notes x.form)) (record { state = s; fields = replicate 6 0 }) 0 x.fields
 
   abbrev pub put_draft : Stepped State Note → Send → Draft → Stepped State Note
   put_draft turn x draft =
@@ -113,7 +113,7 @@ module _ (d : Definition) (at : Moment) where
 
   -- a rule that is taken makes its assignments from the left, and then its sends from the left
   abbrev pub do_rule : Stepped State Note → Rule → Stepped State Note
-  do_rule turn rule = fold send (record { state = fold assign turn.state rule.sets.items; out = turn.out }) rule.sends.items
+  do_rule turn rule = fold send (record { state = fold assign turn.state rule.sets; out = turn.out }) rule.sends
 
   -- of a chain the first rule is taken whose guard is true
   abbrev pub first_true : State → List Rule → Option Rule
@@ -129,8 +129,8 @@ module _ (d : Definition) (at : Moment) where
 
   -- a chain that isn't gone through does nothing
   abbrev pub pass : Event → Stepped State Note → Chain → Stepped State Note
-  pass event turn chain = if is_passed at.nodes at.me at.given event chain then take_first turn chain.rules.items else turn
+  pass event turn chain = if is_passed at.nodes at.me at.given event chain then take_first turn chain.rules else turn
 
   -- an event goes through the chains in order
   unfoldable pub act : Event → Stepped State Note → Stepped State Note
-  act event turn = fold (pass event) turn d.chains.items
+  act event turn = fold (pass event) turn d.chains

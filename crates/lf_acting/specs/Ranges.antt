@@ -8,4 +8,4 @@ use Rattle.lf_meaning.specs.Values.{zero_or}
 
 -- no variable has a value past the greatest of its kind
 abbrev pub IsInRange : Definition → State → Type 0
-IsInRange d s = (i : ℕ) (x : Variable) → slice_get d.variables.items i ≡ Some x → zero_or (slice_get s.values i) ≤ most_of x.kind
+IsInRange d s = (i : ℕ) (x : Variable) → slice_get d.variables i ≡ Some x → zero_or (slice_get s.values i) ≤ most_of x.kind

@@ -32,7 +32,7 @@ pub fn go_through(
 fn take_at(definition: &Definition, at: &Moment, turn: &mut Stepped<State, Note>, number: usize)
     ensures { turn.new ≡ take_at definition.now at.now turn.old number }
 {
-    match definition.chains.get(number) {
+    match definition.chains.as_slice().get(number) {
         Some(chain) => take_first(definition, at, turn, chain.rules.as_slice()),
         None => {}
     }
@@ -93,7 +93,11 @@ fn assign_all(definition: &Definition, at: &Moment, state: &mut State, sets: &[A
 fn assign(definition: &Definition, at: &Moment, state: &mut State, set: &Assignment)
     ensures { state.new ≡ assign definition.now at.now state.old set.now }
 {
-    match definition.variables.get(usize::from(set.variable)) {
+    match definition
+        .variables
+        .as_slice()
+        .get(usize::from(set.variable))
+    {
         Some(variable) => {
             let value = value_of(definition, at, state, &set.value);
             remember(variable.kind, value, state);

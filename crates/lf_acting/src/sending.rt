@@ -58,9 +58,9 @@ fn drafted(definition: &Definition, at: &Moment, state: State, message: &Send) -
 
 /// The kinds of a note's fields, and none where there is no such form.
 fn kinds_of(definition: &Definition, form: u8) -> &[Kind]
-    ensures { result.now ≡ kinds_of (slice_get definition.now.notes.items form) }
+    ensures { result.now ≡ kinds_of (slice_get definition.now.notes form) }
 {
-    match definition.notes.get(usize::from(form)) {
+    match definition.notes.as_slice().get(usize::from(form)) {
         Some(form) => form.fields.as_slice(),
         None => &[],
     }

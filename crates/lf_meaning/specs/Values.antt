@@ -3,9 +3,8 @@
 use Rattle.std.specs.Prelude.{ℕ, List, Option, None, Some, slice_get, replicate}
 use Rattle.lf_rules.specs.declared.expr.Leaf.{Leaf}
 use Rattle.lf_rules.specs.declared.expr.Leaf.TheVariants as leaves
-use Rattle.lf_rules.specs.declared.expr.Tree.{Tree}
-use Rattle.lf_rules.specs.declared.expr.Tree.TheVariants as trees
-use Rattle.lf_rules.specs.declared.expr.Expr.{Expr}
+use Rattle.lf_rules.specs.Terms.{Term}
+use Rattle.lf_rules.specs.Terms as terms
 use Rattle.lf_rules.specs.declared.definition.Named.{Named}
 use Rattle.lf_rules.specs.declared.definition.Guard.{Guard}
 use Rattle.lf_rules.specs.declared.definition.Definition.{Definition}
@@ -17,10 +16,10 @@ use Rattle.lf_meaning.specs.Operators.{unary, binary}
 
 -- a tree's value, by the values of what it begins with
 module _ (nodes : ℕ) (leaf : Leaf → ℕ) where
-  abbrev pub value : Tree → ℕ
-  value (trees.Leaf x) = leaf x
-  value (trees.Unary' op p a) = unary nodes op (value a)
-  value (trees.Binary' op p a q b) = binary nodes op (value a) (value b)
+  abbrev pub value : Term → ℕ
+  value (terms.Leaf x) = leaf x
+  value (terms.Unary op a) = unary nodes op (value a)
+  value (terms.Binary op a b) = binary nodes op (value a) (value b)
 
 -- a number of a list, and 0 where there is none
 abbrev pub zero_or : Option ℕ → ℕ
@@ -49,31 +48,31 @@ plain at s (leaves.Fact i) = 0
 -- a named expression is worked out where it is named, at this node and on the state of this moment. It names no other
 abbrev pub value_of_let : Moment → State → Option Named → ℕ
 value_of_let at s None = 0
-value_of_let at s (Some x) = value at.nodes (plain at s) x.value.tree
+value_of_let at s (Some x) = value at.nodes (plain at s) x.value
 
 -- what a guard may name: all that, and named expressions
 abbrev pub in_fact : Definition → Moment → State → Leaf → ℕ
-in_fact d at s (leaves.Let i) = value_of_let at s (slice_get d.lets.items i)
+in_fact d at s (leaves.Let i) = value_of_let at s (slice_get d.lets i)
 in_fact d at s leaf = plain at s leaf
 
 -- a named guard too
 abbrev pub value_of_fact : Definition → Moment → State → Option Guard → ℕ
 value_of_fact d at s None = 0
-value_of_fact d at s (Some x) = value at.nodes (in_fact d at s) x.value.tree
+value_of_fact d at s (Some x) = value at.nodes (in_fact d at s) x.value
 
 -- what a rule may name: all that, and named guards
 abbrev pub in_rule : Definition → Moment → State → Leaf → ℕ
-in_rule d at s (leaves.Fact i) = value_of_fact d at s (slice_get d.facts.items i)
+in_rule d at s (leaves.Fact i) = value_of_fact d at s (slice_get d.facts i)
 in_rule d at s leaf = in_fact d at s leaf
 
 -- the value of an expression in a rule
-abbrev pub value_of : Definition → Moment → State → Expr → ℕ
-value_of d at s e = value at.nodes (in_rule d at s) e.tree
+abbrev pub value_of : Definition → Moment → State → Term → ℕ
+value_of d at s e = value at.nodes (in_rule d at s) e
 
 -- a moment of no step: of it are known how many nodes there are, and the constants
 abbrev pub outside : ℕ → List ℕ → Moment
 outside nodes given = record { nodes = nodes; me = 0; given = given; step = 0; sender = 0; fields = replicate 6 0 }
 
 -- the value of an expression that names constants, nodes and all alone
-abbrev pub fixed_value : ℕ → List ℕ → Expr → ℕ
-fixed_value nodes given e = value nodes (plain (outside nodes given) zeros) e.tree
+abbrev pub fixed_value : ℕ → List ℕ → Term → ℕ
+fixed_value nodes given e = value nodes (plain (outside nodes given) zeros) e

@@ -2,6 +2,7 @@
 
 ghost use Rattle.std.specs.Prelude.{◌≡◌, ◌*◌, ◌≤◌, slice_get};
 ghost use Rattle.lf_meaning.specs.Sets.{below};
+ghost use Rattle.lf_rules.specs.Terms.{term_of};
 ghost use Rattle.lf_rules.specs.Trees.{parts};
 ghost use Rattle.lf_meaning.specs.Values.{zero_or, plain, value, in_fact, in_rule, value_of_let, value_of_fact, value_of, fixed_value, outside};
 
@@ -39,9 +40,9 @@ fn outside(nodes: u32, given: &[u8; 16]) -> Moment
 
 /// The value of a tree in a rule.
 fn rule_value(definition: &Definition, at: &Moment, state: &State, tree: &Tree) -> u64
-    requires { parts tree.now ≤ 256 }
-    ensures value { result ≡ value at.now.nodes (in_rule definition.now at.now state.now) tree.now }
-    ensures small { result ≤ parts tree.now * 281474976645120 }
+    requires { parts (term_of tree.now) ≤ 256 }
+    ensures value { result ≡ value at.now.nodes (in_rule definition.now at.now state.now) (term_of tree.now) }
+    ensures small { result ≤ parts (term_of tree.now) * 281474976645120 }
 {
     match tree {
         Tree::Leaf(leaf) => rule_leaf(definition, at, state, *leaf),
@@ -77,10 +78,10 @@ fn rule_leaf(definition: &Definition, at: &Moment, state: &State, leaf: Leaf) ->
 
 /// The value of a named guard, and 0 where there is none.
 pub fn fact_value(definition: &Definition, at: &Moment, state: &State, i: u8) -> u64
-    ensures value { result ≡ value_of_fact definition.now at.now state.now (slice_get definition.now.facts.items i) }
+    ensures value { result ≡ value_of_fact definition.now at.now state.now (slice_get definition.now.facts i) }
     ensures small { result ≤ 281474976645120 }
 {
-    match definition.facts.get(usize::from(i)) {
+    match definition.facts.as_slice().get(usize::from(i)) {
         Some(guard) => guard_value(definition, at, state, guard.value.tree()),
         None => 0,
     }
@@ -88,9 +89,9 @@ pub fn fact_value(definition: &Definition, at: &Moment, state: &State, i: u8) ->
 
 /// The value of a tree in a named guard.
 fn guard_value(definition: &Definition, at: &Moment, state: &State, tree: &Tree) -> u64
-    requires { parts tree.now ≤ 256 }
-    ensures value { result ≡ value at.now.nodes (in_fact definition.now at.now state.now) tree.now }
-    ensures small { result ≤ parts tree.now * 1099511627520 }
+    requires { parts (term_of tree.now) ≤ 256 }
+    ensures value { result ≡ value at.now.nodes (in_fact definition.now at.now state.now) (term_of tree.now) }
+    ensures small { result ≤ parts (term_of tree.now) * 1099511627520 }
 {
     match tree {
         Tree::Leaf(leaf) => guard_leaf(definition, at, state, *leaf),
@@ -126,10 +127,10 @@ fn guard_leaf(definition: &Definition, at: &Moment, state: &State, leaf: Leaf) -
 
 /// The value of a named expression, and 0 where there is none.
 fn named(definition: &Definition, at: &Moment, state: &State, i: u8) -> u64
-    ensures value { result ≡ value_of_let at.now state.now (slice_get definition.now.lets.items i) }
+    ensures value { result ≡ value_of_let at.now state.now (slice_get definition.now.lets i) }
     ensures small { result ≤ 1099511627520 }
 {
-    match definition.lets.get(usize::from(i)) {
+    match definition.lets.as_slice().get(usize::from(i)) {
         Some(named) => plain_value(at, state, named.value.tree()),
         None => 0,
     }
@@ -137,9 +138,9 @@ fn named(definition: &Definition, at: &Moment, state: &State, i: u8) -> u64
 
 /// The value of a tree that names no expression.
 fn plain_value(at: &Moment, state: &State, tree: &Tree) -> u64
-    requires { parts tree.now ≤ 256 }
-    ensures value { result ≡ value at.now.nodes (plain at.now state.now) tree.now }
-    ensures small { result ≤ parts tree.now * 4294967295 }
+    requires { parts (term_of tree.now) ≤ 256 }
+    ensures value { result ≡ value at.now.nodes (plain at.now state.now) (term_of tree.now) }
+    ensures small { result ≤ parts (term_of tree.now) * 4294967295 }
 {
     match tree {
         Tree::Leaf(leaf) => plain_leaf(at, state, *leaf),

@@ -67,32 +67,32 @@ module _ (d : Definition) (nodes : ℕ) (given : List (List ℕ)) where
 
   chosen-beyond : (n : ℕ) (row : List ℕ) (event : Event) → 8 ≤ n → chosen d nodes n row event ≡ []
   chosen-beyond n row event far =
-      none-of (is_passed nodes n row event) (λ x. true) (λ x so. passed-beyond n row event far x) d.chains.items 0 (all-true d.chains.items)
+      none-of (is_passed nodes n row event) (λ x. true) (λ x so. passed-beyond n row event far x) d.chains 0 (all-true d.chains)
     where
       all-true : (xs : List Chain) → list_all (λ x. true) xs ≡ true
       all-true [] = refl
       all-true (x ∷ xs) = all-true xs
 
   -- no chain is on a form of notes from 16 on
-  chains-formed : is_well_formed d ≡ true → list_all (is_chain d) d.chains.items ≡ true
+  chains-formed : is_well_formed d ≡ true → list_all (is_chain d) d.chains ≡ true
   chains-formed formed =
-      seventh (is_in_limits d) (are_variables d 0 d.variables.items) (list_all (is_form d) d.notes.items) (list_all (is_constant d) d.given.items)
-      (list_all (is_let d) d.lets.items) (list_all (is_fact d) d.facts.items) (list_all (is_chain d) d.chains.items) (list_all (is_shown d) d.trace.items) formed
+      seventh (is_in_limits d) (are_variables d 0 d.variables) (list_all (is_form d) d.notes) (list_all (is_constant d) d.given)
+      (list_all (is_let d) d.lets) (list_all (is_fact d) d.facts) (list_all (is_chain d) d.chains) (list_all (is_shown d) d.trace) formed
 
-  few-notes : is_well_formed d ≡ true → length d.notes.items ≤ 16
-  few-notes formed = leb-true (length d.notes.items) 16 (
-      second (is_from 1 16 (length d.variables.items)) (nat_le (length d.notes.items) 16) _ (first (is_in_limits d) _ formed))
+  few-notes : is_well_formed d ≡ true → length d.notes ≤ 16
+  few-notes formed = leb-true (length d.notes) 16 (
+      second (is_from 1 16 (length d.variables)) (nat_le (length d.notes) 16) _ (first (is_in_limits d) _ formed))
 
-  event-unformed : (event : Event) (form : ℕ) → length d.notes.items ≤ form → is_event d event ≡ true → same_event event (events.Note form) ≡ false
+  event-unformed : (event : Event) (form : ℕ) → length d.notes ≤ form → is_event d event ≡ true → same_event event (events.Note form) ≡ false
   event-unformed events.Start form far there = refl
   event-unformed events.Wake form far there = refl
   event-unformed events.Begin form far there = refl
   event-unformed events.End form far there = refl
   event-unformed (events.Note a) form far there =
-      let low : a < length d.notes.items = ltb-true a (length d.notes.items) there in
+      let low : a < length d.notes = ltb-true a (length d.notes) there in
       not-so (nat_eq a form) (λ same. let one : a ≡ form = eqb-true a form same in omega (arith, low, far, one))
 
-  chain-unformed : (n : ℕ) (row : List ℕ) (form : ℕ) → length d.notes.items ≤ form → (x : Chain) → is_chain d x ≡ true
+  chain-unformed : (n : ℕ) (row : List ℕ) (form : ℕ) → length d.notes ≤ form → (x : Chain) → is_chain d x ≡ true
       → is_passed nodes n row (events.Note form) x ≡ false
   chain-unformed n row form far x formed =
       let there : is_event d x.on ≡ true = second (is_a d scopes.Who sorts.Nodes x.who) (is_event d x.on) _ formed in
@@ -106,7 +106,7 @@ module _ (d : Definition) (nodes : ℕ) (given : List (List ℕ)) where
   chosen-unformed formed n row (events.Note form) far =
       let few = few-notes formed in
       none-of (is_passed nodes n row (events.Note form)) (is_chain d)
-      (chain-unformed n row form (omega (arith, far, few))) d.chains.items 0 (chains-formed formed)
+      (chain-unformed n row form (omega (arith, far, few))) d.chains 0 (chains-formed formed)
 
   -- a row that is there
   row-there : (n : ℕ) (event : Event) → n < 8 → number_of event < 20

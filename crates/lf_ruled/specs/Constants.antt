@@ -24,7 +24,7 @@ item_value nodes (Some v) = constant_value nodes v
 
 abbrev pub value_at : ℕ → ℕ → Given → ℕ
 value_at nodes n (givens.One v) = constant_value nodes v
-value_at nodes n (givens.Each vs) = item_value nodes (slice_get vs.items n)
+value_at nodes n (givens.Each vs) = item_value nodes (slice_get vs n)
 
 abbrev pub given_value : ℕ → ℕ → Option Given → ℕ
 given_value nodes n None = 0
@@ -45,7 +45,7 @@ row_of (Some row) = row
 -- a list has an item for each node
 abbrev pub is_for : ℕ → Given → Bool
 is_for nodes (givens.One v) = true
-is_for nodes (givens.Each vs) = length vs.items == nodes
+is_for nodes (givens.Each vs) = length vs == nodes
 
 -- values fit the constants that there are
 abbrev pub are_given : Definition → ℕ → List Constant → List Given → Bool

@@ -1,3 +1,4 @@
+pub mod Instances
 pub mod Constants
 pub mod Indexes
 pub mod Machines

@@ -24,7 +24,7 @@ use Rattle.lf_ruled.specs.Constants.{row_of, are_given}
 
 -- a protocol of rules with so many nodes and these values is a machine
 abbrev pub is_machine : Definition → ℕ → List Given → Bool
-is_machine d nodes given = is_from 2 8 nodes && are_given d nodes d.given.items given
+is_machine d nodes given = is_from 2 8 nodes && are_given d nodes d.given given
 
 abbrev pub no_fields : List ℕ
 no_fields = replicate 6 0
@@ -66,7 +66,7 @@ module _ (d : Definition) (nodes : ℕ) (given : List (List ℕ)) where
 
   -- what is told of a state
   abbrev pub is_told : ℕ → State → Told → Bool
-  is_told n s (tolds.Named i) = is_true (value_of_fact d (moment nodes given n 0 0 no_fields) s (slice_get d.facts.items i))
+  is_told n s (tolds.Named i) = is_true (value_of_fact d (moment nodes given n 0 0 no_fields) s (slice_get d.facts i))
   is_told n s (tolds.Word variable word) = zero_or (slice_get s.values variable) == word
   is_told n s (tolds.Flag variable) = is_true (zero_or (slice_get s.values variable))
   is_told n s tolds.Clamped = s.clamped

@@ -2,7 +2,6 @@
 use Rattle.std.proofs.Common.{◌≡◌, ℕ, zero, suc, ◌+◌, ◌<◌, ◌≤◌, Bool, true, false, cond, not, List, [], ◌∷◌, nat_eq, refl, sym, ◌∙◌, arith, inl, inr}
 use Rattle.std.specs.Prelude.{◌⊎◌, ◌≢◌, None, Option, Some}
 use Rattle.std.specs.List.{fold, range_with_len}
-use Rattle.std.specs.Arc.{arc_value}
 use Rattle.std.proofs.lemmas.Bool.{and_parts, eq-eqb, both_ways, not-true}
 use Rattle.lf_sim.specs.declared.letter.Letter.{Letter}
 use Rattle.lf_sim.specs.declared.out.Stepped.{Stepped}
@@ -15,17 +14,17 @@ use Rattle.lf_rules.specs.declared.rule.Rule.{Rule}
 use Rattle.lf_rules.specs.declared.rule.Chain.{Chain}
 use Rattle.lf_rules.specs.declared.definition.Definition.{Definition}
 use Rattle.lf_meaning.specs.declared.moment.Moment.{Moment}
-use Rattle.lf_ruled.specs.declared.machine.Ruled.{Ruled}
+use Rattle.lf_ruled.specs.Instances.{Instance}
 use Rattle.lf_meaning.specs.declared.state.State.{State}
 use Rattle.lf_meaning.specs.declared.state.Note.{Note}
 use Rattle.lf_meaning.specs.Sets.{has}
 use Rattle.lf_meaning.specs.Values.{value_of}
 use Rattle.lf_acting.specs.Events.{is_passed, place, is_receiver, put, put_all, drafted, send, do_rule, assign, first_true, do_found, take_first, pass, act}
-use Rattle.lf_ruled.specs.Machines.{moment, hear_of, begin_of, step_of, no_fields, opened}
+use Rattle.lf_ruled.specs.Machines.{moment, hear_of, begin_of, end_of, step_of, no_fields, opened}
 use Rattle.lf_ruled.specs.Ruleds.{rules_of}
 
 -- what each step of a fold keeps, the fold keeps
-fold-keeps : {A B : Type 0} (P : B → Type 0) (f : B → A → B) → ((b : B) (x : A) → P b → P (f b x)) → (b : B) (xs : List A) → P b → P (fold f b xs)
+pub fold-keeps : {A B : Type 0} (P : B → Type 0) (f : B → A → B) → ((b : B) (x : A) → P b → P (f b x)) → (b : B) (xs : List A) → P b → P (fold f b xs)
 fold-keeps P f keeps b [] h = h
 fold-keeps P f keeps b (x ∷ xs) h = fold-keeps P f keeps (f b x) xs (keeps b x h)
 
@@ -36,7 +35,7 @@ range-keeps P f a (suc n) keeps b h =
     range-keeps P f (a + 1) n (λ c m low. keeps c m (omega arith)) (f b a) (keeps b a (omega arith) h)
 
 -- no note goes to this node, or past the nodes
-record IsQuiet (nodes me : ℕ) (turn : Stepped State Note) : Type 0 where
+pub record IsQuiet (nodes me : ℕ) (turn : Stepped State Note) : Type 0 where
   pub none : (to : ℕ) → (to ≡ me) ⊎ (nodes ≤ to) → note_to turn.out to ≡ None
 
 cond-keeps : {A : Type 0} (P : A → Type 0) (b : Bool) (x y : A) → (b ≡ true → P x) → P y → P (cond b x y)
@@ -71,7 +70,7 @@ module _ (d : Definition) (at : Moment) where
 
   rule-still : (turn : Stepped State Note) (rule : Rule) → IsStill turn → IsStill (do_rule d at turn rule)
   rule-still turn rule quiet =
-      fold-keeps IsStill (send d at) send-still (record { state = fold (assign d at) turn.state rule.sets.items; out = turn.out }) rule.sends.items
+      fold-keeps IsStill (send d at) send-still (record { state = fold (assign d at) turn.state rule.sets; out = turn.out }) rule.sends
       (record { none = quiet.none })
 
   found-still : (turn : Stepped State Note) (found : Option Rule) → IsStill turn → IsStill (do_found d at turn found)
@@ -80,31 +79,34 @@ module _ (d : Definition) (at : Moment) where
 
   pass-still : (event : Event) (turn : Stepped State Note) (chain : Chain) → IsStill turn → IsStill (pass d at event turn chain)
   pass-still event turn chain quiet =
-      cond-keeps IsStill (is_passed at.nodes at.me at.given event chain) (take_first d at turn chain.rules.items) turn
-      (λ _. found-still turn (first_true d at turn.state chain.rules.items) quiet) quiet
+      cond-keeps IsStill (is_passed at.nodes at.me at.given event chain) (take_first d at turn chain.rules) turn
+      (λ _. found-still turn (first_true d at turn.state chain.rules) quiet) quiet
 
   act-still : (event : Event) (turn : Stepped State Note) → IsStill turn → IsStill (act d at event turn)
   unfolding act
-  act-still event turn quiet = fold-keeps IsStill (pass d at event) (pass-still event) turn d.chains.items quiet
+  act-still event turn quiet = fold-keeps IsStill (pass d at event) (pass-still event) turn d.chains quiet
 
 module _ (d : Definition) (nodes : ℕ) (given : List (List ℕ)) (n t : ℕ) where
-  abbrev IsCalm : Stepped State Note → Type 0
+  abbrev pub IsCalm : Stepped State Note → Type 0
   IsCalm = IsQuiet nodes n
 
   opened-calm : (s : State) → IsCalm (opened s)
   opened-calm s = record { none = λ to nobody. note_to-nothing {Note = Note} to }
 
-  begun-calm : (s : State) → IsCalm (begin_of d nodes given n t s)
+  pub begun-calm : (s : State) → IsCalm (begin_of d nodes given n t s)
   begun-calm s = act-still d (moment nodes given n t 0 no_fields) events.Begin (opened s) (opened-calm s)
 
-  heard-calm : (turn : Stepped State Note) (letter : Letter Note) → IsCalm turn → IsCalm (hear_of d nodes given n t turn letter)
+  pub heard-calm : (turn : Stepped State Note) (letter : Letter Note) → IsCalm turn → IsCalm (hear_of d nodes given n t turn letter)
   heard-calm turn letter calm = act-still d (moment nodes given n t letter.from letter.note.fields) (events.Note letter.note.form) turn calm
+
+  pub ended-calm : (turn : Stepped State Note) → IsCalm turn → IsCalm (end_of d nodes given n t turn)
+  ended-calm turn calm = act-still d (moment nodes given n t 0 no_fields) events.End turn calm
 
   stepped-calm : (s : State) (inbox : List (Letter Note)) → IsCalm (step_of d nodes given n t s inbox)
   stepped-calm s inbox =
-      act-still d (moment nodes given n t 0 no_fields) events.End _
+      ended-calm _
       (fold-keeps IsCalm (hear_of d nodes given n t) heard-calm (begin_of d nodes given n t s) inbox (begun-calm s))
 
-pub rules_of-silent : (m : Ruled) (n t to : ℕ) (s : State) (inbox : List (Letter Note)) → (to ≡ n) ⊎ ((rules_of m).nodes ≤ to)
+pub rules_of-silent : (m : Instance) (n t to : ℕ) (s : State) (inbox : List (Letter Note)) → (to ≡ n) ⊎ ((rules_of m).nodes ≤ to)
     → note_to ((rules_of m).step n t s inbox).out to ≡ None
-rules_of-silent m n t to s inbox nobody = (stepped-calm (arc_value m.rules).definition m.nodes m.given n t s inbox).none to nobody
+rules_of-silent m n t to s inbox nobody = (stepped-calm m.definition m.nodes m.given n t s inbox).none to nobody

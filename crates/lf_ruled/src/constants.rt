@@ -8,7 +8,7 @@ use lf_rules::{Constant, Definition, Given, Value};
 
 /// Whether values fit the constants of a definition.
 pub(crate) fn are_given(definition: &Definition, nodes: u32, given: &[Given]) -> bool
-    ensures { result ≡ are_given definition.now nodes definition.now.given.items given.now }
+    ensures { result ≡ are_given definition.now nodes definition.now.given given.now }
 {
     are_these(definition, nodes, definition.given.as_slice(), given)
 }
@@ -106,7 +106,7 @@ fn value_at(nodes: u32, node: usize, given: &Given) -> u8
 {
     match given {
         Given::One(value) => constant_value(nodes, value),
-        Given::Each(values) => match values.get(node) {
+        Given::Each(values) => match values.as_slice().get(node) {
             Some(value) => constant_value(nodes, value),
             None => 0,
         },

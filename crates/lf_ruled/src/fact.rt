@@ -1,7 +1,7 @@
 //! What can be told of a state.
 
 /// What a fact is about.
-#[derive(Clone, Copy, Debug, PartialEq, Eq)]
+#[derive(Clone, Copy, Debug, PartialEq, Eq, PartialOrd, Ord)]
 pub enum Told {
     /// A named guard of the protocol, by its number.
     Named(u8),
@@ -16,7 +16,7 @@ pub enum Told {
 }
 
 /// That something is so of a node's state, or that it is not.
-#[derive(Clone, Copy, Debug, PartialEq, Eq)]
+#[derive(Clone, Copy, Debug, PartialEq, Eq, PartialOrd, Ord)]
 pub struct Fact {
     pub told: Told,
     /// Whether the fact says that it is not so.

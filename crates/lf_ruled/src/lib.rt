@@ -4,6 +4,7 @@
 mod constants;
 mod fact;
 mod index;
+mod indexed;
 mod machine;
 mod readings;
 

@@ -1,50 +1,49 @@
 //! Protocols of rules as machines.
 
-ghost use Rattle.std.specs.Prelude.{◌≡◌, ◌≤◌, ◌↔◌, IsSome, IsTrue, IfSome, IfOk, map, slice_get};
+ghost use Rattle.std.specs.Prelude.{◌≡◌, ◌↔◌, true, IsSome, IsTrue, IfSome, IfOk};
+ghost use Rattle.lf_rules.specs.Forms.{is_well_formed};
 ghost use Rattle.std.specs.Arc.{arc_value};
-ghost use Rattle.std.specs.List.{fold};
-ghost use Rattle.lf_ruled.specs.Constants.{given_table, row_of};
-ghost use Rattle.lf_ruled.specs.Indexes.{rows_of};
-ghost use Rattle.lf_acting.specs.Events.{act};
-ghost use Rattle.lf_ruled.specs.Machines.{is_machine, opened, moment, act_alone, begin_of, hear_of, end_of, is_told};
+ghost use Rattle.lf_ruled.specs.Constants.{given_table};
+ghost use Rattle.lf_ruled.specs.Machines.{is_machine, opened, begin_of, hear_of, end_of};
 
-use crate::constants::{are_given, constants_at, given_table};
-use crate::{Fact, Told, index};
-use lf_acting::go_through;
-use lf_meaning::{Moment, Note, State, fact_value, item};
-use lf_rules::{Event, Given, Rules};
+use crate::constants::{are_given, given_table};
+use crate::indexed::Indexed;
+use crate::{Fact, index};
+use lf_meaning::{Note, State};
+use lf_rules::{Definition, Event, Given, Rules};
 use lf_sim::{Letter, Machine, Out, Stepped};
 use std::alloc::{AllocError, Global};
+use std::marker::Model;
 use std::sync::Arc;
 
 /// A protocol of rules among so many nodes, with the values that its constants have at each of them.
-#[derive(Drop)]
+#[derive(Debug, Drop)]
 pub struct Ruled {
-    rules: Arc<Rules>,
-    /// 2..=8.
-    nodes: u32,
-    /// The values of the constants, by node and number.
-    given: [[u8; 16]; 8],
-    /// The chains that each node goes through at each event.
-    rows: Vec<Vec<usize>>,
-    ghost indexed: { map (λ row. row.items) rows.items ≡ rows_of (arc_value rules).definition nodes given },
-    ghost many: { 2 ≤ nodes },
-    ghost few: { nodes ≤ 8 },
+    indexed: Arc<Indexed>,
+}
+
+impl Model for Ruled {
+    ghost use Rattle.std.specs.Arc.{arc_value};
+    ghost use Rattle.lf_ruled.specs.Instances.{Instance, instance_code, instance_of};
+
+    ghost Value = { Instance };
+
+    ghost coded = { instance_code };
+
+    ghost view = { λ m. instance_of (arc_value m.indexed) };
 }
 
 impl Ruled {
     /// The machine of a protocol among so many nodes, with a value for each of its constants. None where there aren't 2 to 8 nodes, where the values don't fit
-    /// the constants, or where a list hasn't an item for each node.
+    /// the constants, or where a list hasn't an item for each node. The error is that memory has run out.
     pub fn new(
         alloc: Global,
         rules: Arc<Rules>,
         nodes: u32,
         given: &[Given],
     ) -> Result<Option<Ruled>, AllocError>
-        ensures some { IfOk result (λ made. IsSome made ↔ IsTrue (is_machine (arc_value rules).definition nodes given.now)) }
-        ensures rules { IfOk result (λ made. IfSome made (λ m. m.rules ≡ rules)) }
-        ensures nodes { IfOk result (λ made. IfSome made (λ m. m.nodes ≡ nodes)) }
-        ensures given { IfOk result (λ made. IfSome made (λ m. m.given ≡ given_table nodes given.now)) }
+        ensures some { IfOk result (λ made. IsSome made ↔ IsTrue (is_machine (arc_value rules) nodes given.now)) }
+        ensures value { IfOk result (λ made. IfSome made (λ m. m ≡ record { definition = arc_value rules; nodes = nodes; given = given_table nodes given.now })) }
     {
         if nodes < 2 {
             return Ok(None);
@@ -57,20 +56,43 @@ impl Ruled {
         }
         let given = given_table(nodes, given);
         let rows = index::rows(alloc, rules.definition(), nodes, &given)?;
-        Ok(Some(Ruled {
+        let indexed = Indexed {
             rules,
             nodes,
             given,
             rows,
-        }))
+        };
+        match Arc::new(alloc, indexed) {
+            Ok(indexed) => Ok(Some(Ruled { indexed })),
+            Err(_) => Err(AllocError),
+        }
+    }
+
+    /// Whether two machines are the same: of protocols that say the same, among as many nodes, with the same values.
+    pub fn same(&self, other: &Ruled) -> bool
+        ensures { IsTrue result ↔ (self.now ≡ other.now) }
+    {
+        let one: &Indexed = &self.indexed;
+        let another: &Indexed = &other.indexed;
+        one.nodes == another.nodes
+            && are_same_values(&one.given, &another.given)
+            && one.rules.definition().same(another.rules.definition())
+    }
+
+    /// The protocol's definition.
+    pub fn definition(&self) -> &Definition
+        ensures value { result.now ≡ self.now.definition }
+        ensures well_formed { is_well_formed result.now ≡ true }
+    {
+        self.indexed.rules.definition()
     }
 
     /// What a node does at step `t` before its inbox: the state and the notes that it comes to.
     pub fn begin(&self, node: u32, t: u32, state: State) -> Stepped<State, Note>
-        ensures { result ≡ begin_of (arc_value self.now.rules).definition self.now.nodes self.now.given node t state }
+        ensures { result ≡ begin_of self.now.definition self.now.nodes self.now.given node t state }
     {
         let mut turn = opened(state);
-        self.act_alone(node, t, Event::Begin, &mut turn);
+        self.indexed.act_alone(node, t, Event::Begin, &mut turn);
         turn
     }
 
@@ -82,91 +104,20 @@ impl Ruled {
         turn: Stepped<State, Note>,
         letter: Letter<Note>,
     ) -> Stepped<State, Note>
-        ensures { result ≡ hear_of (arc_value self.now.rules).definition self.now.nodes self.now.given node t turn letter }
+        ensures { result ≡ hear_of self.now.definition self.now.nodes self.now.given node t turn letter }
     {
         let mut turn = turn;
-        self.take_in(node, t, &mut turn, &letter);
+        self.indexed.take_in(node, t, &mut turn, &letter);
         turn
     }
 
     /// What it comes to after its inbox: what the step gives.
     pub fn end(&self, node: u32, t: u32, turn: Stepped<State, Note>) -> Stepped<State, Note>
-        ensures { result ≡ end_of (arc_value self.now.rules).definition self.now.nodes self.now.given node t turn }
+        ensures { result ≡ end_of self.now.definition self.now.nodes self.now.given node t turn }
     {
         let mut turn = turn;
-        self.act_alone(node, t, Event::End, &mut turn);
+        self.indexed.act_alone(node, t, Event::End, &mut turn);
         turn
-    }
-
-    /// Takes in the letters of an inbox, in order.
-    fn take_in_all(
-        &self,
-        node: u32,
-        t: u32,
-        turn: &mut Stepped<State, Note>,
-        inbox: &[Letter<Note>],
-    )
-        ensures { turn.new ≡ fold (hear_of (arc_value self.now.rules).definition self.now.nodes self.now.given node t) turn.old inbox.now }
-    {
-        for letter in inbox {
-            self.take_in(node, t, turn, letter);
-        }
-    }
-
-    /// Takes in a letter.
-    fn take_in(&self, node: u32, t: u32, turn: &mut Stepped<State, Note>, letter: &Letter<Note>)
-        ensures { turn.new ≡ hear_of (arc_value self.now.rules).definition self.now.nodes self.now.given node t turn.old letter.now }
-    {
-        let at = self.moment(node, t, letter.from, letter.note.fields);
-        self.act(&at, Event::Note(letter.note.form), turn);
-    }
-
-    /// Acts at an event without a letter.
-    fn act_alone(&self, node: u32, t: u32, event: Event, turn: &mut Stepped<State, Note>)
-        ensures { turn.new ≡ act_alone (arc_value self.now.rules).definition self.now.nodes self.now.given node t event turn.old }
-    {
-        let at = self.moment(node, t, 0, [0; 6]);
-        self.act(&at, event, turn);
-    }
-
-    /// Acts at an event.
-    fn act(&self, at: &Moment, event: Event, turn: &mut Stepped<State, Note>)
-        requires nodes { at.now.nodes ≡ self.now.nodes }
-        requires given { at.now.given ≡ row_of (slice_get self.now.given at.now.me) }
-        ensures { turn.new ≡ act (arc_value self.now.rules).definition at.now event turn.old }
-    {
-        let numbers = index::row_for(self.rows.as_slice(), at.me, event);
-        go_through(self.rules.definition(), at, turn, numbers);
-    }
-
-    /// A moment of a node's step.
-    fn moment(&self, node: u32, t: u32, sender: u32, fields: [u8; 6]) -> Moment
-        ensures { result ≡ moment self.now.nodes self.now.given node t sender fields }
-    {
-        Moment {
-            nodes: self.nodes,
-            me: node,
-            given: constants_at(&self.given, node),
-            step: t,
-            sender,
-            fields,
-        }
-    }
-
-    /// Whether something is so of a state.
-    fn is_told(&self, node: u32, state: &State, told: Told) -> bool
-        ensures { result ≡ is_told (arc_value self.now.rules).definition self.now.nodes self.now.given node state.now told }
-    {
-        match told {
-            Told::Named(i) => {
-                let at = self.moment(node, 0, 0, [0; 6]);
-                fact_value(self.rules.definition(), &at, state, i) != 0
-            }
-            Told::Word { variable, word } => item(&state.values, variable) == word,
-            Told::Flag(variable) => item(&state.values, variable) != 0,
-            Told::Clamped => state.clamped,
-            Told::Replaced => state.replaced,
-        }
     }
 }
 
@@ -183,12 +134,12 @@ impl Machine for Ruled {
     ghost rules = { rules_of };
 
     fn nodes(&self) -> u32 {
-        self.nodes
+        self.indexed.nodes
     }
 
     fn start(&self, node: u32) -> State {
         let mut turn = opened(State::zeros());
-        self.act_alone(node, 0, Event::Start, &mut turn);
+        self.indexed.act_alone(node, 0, Event::Start, &mut turn);
         turn.state
     }
 
@@ -200,24 +151,30 @@ impl Machine for Ruled {
         inbox: &[Letter<Note>],
     ) -> Stepped<State, Note> {
         let mut turn = opened(state);
-        self.act_alone(node, t, Event::Begin, &mut turn);
-        self.take_in_all(node, t, &mut turn, inbox);
-        self.act_alone(node, t, Event::End, &mut turn);
+        self.indexed.act_alone(node, t, Event::Begin, &mut turn);
+        self.indexed.take_in_all(node, t, &mut turn, inbox);
+        self.indexed.act_alone(node, t, Event::End, &mut turn);
         turn
     }
 
     fn wake(&self, node: u32, t: u32, state: State) -> State {
         let mut turn = opened(state);
-        self.act_alone(node, t, Event::Wake, &mut turn);
+        self.indexed.act_alone(node, t, Event::Wake, &mut turn);
         turn.state
     }
 
     fn shows(&self, node: u32, state: State, fact: Fact) -> bool {
-        let told = self.is_told(node, &state, fact.told);
-        if fact.denied { !told } else { told }
+        self.indexed.shows(node, &state, fact)
     }
 
     ghost silent = { λ m n t to state inbox node first last nobody. rules_of-silent m n t to state inbox nobody };
+}
+
+/// Whether constants have the same values at each node.
+fn are_same_values(one: &[[u8; 16]; 8], other: &[[u8; 16]; 8]) -> bool
+    ensures { IsTrue result ↔ (one.now ≡ other.now) }
+{
+    one == other
 }
 
 /// A state, and no note yet.

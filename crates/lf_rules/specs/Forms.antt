@@ -7,7 +7,7 @@ use Rattle.lf_rules.specs.declared.sort.Sort.{Sort}
 use Rattle.lf_rules.specs.declared.sort.Sort.TheVariants as sorts
 use Rattle.lf_rules.specs.declared.sort.Scope.{Scope}
 use Rattle.lf_rules.specs.declared.sort.Scope.TheVariants as scopes
-use Rattle.lf_rules.specs.declared.expr.Expr.{Expr}
+use Rattle.lf_rules.specs.Terms.{Term}
 use Rattle.lf_rules.specs.declared.rule.Event.{Event}
 use Rattle.lf_rules.specs.declared.rule.Event.TheVariants as events
 use Rattle.lf_rules.specs.declared.rule.Assignment.{Assignment}
@@ -34,14 +34,14 @@ is_from least most n = nat_le least n && nat_le n most
 -- a variable has so many words
 abbrev pub has_words : Option Variable → ℕ → Bool
 has_words None words = false
-has_words (Some x) words = length x.words.items == words
+has_words (Some x) words = length x.words == words
 
 -- words are those of a variable that has them
 abbrev pub is_kind : Definition → Kind → Bool
 is_kind d kinds.Flag = true
 is_kind d kinds.Nodes = true
 is_kind d (kinds.UpTo most) = nat_le 1 most
-is_kind d (kinds.Word of words) = is_from 2 16 words && has_words (slice_get d.variables.items of) words
+is_kind d (kinds.Word of words) = is_from 2 16 words && has_words (slice_get d.variables of) words
 
 -- a variable with words of its own has these as its values
 abbrev pub is_word_of : ℕ → Kind → Bool
@@ -49,14 +49,14 @@ is_word_of i (kinds.Word of words) = of == i
 is_word_of i other = false
 
 abbrev pub is_variable : Definition → ℕ → Variable → Bool
-is_variable d i x = is_kind d x.kind && (length x.words.items == 0 || is_word_of i x.kind)
+is_variable d i x = is_kind d x.kind && (length x.words == 0 || is_word_of i x.kind)
 
 abbrev pub are_variables : Definition → ℕ → List Variable → Bool
 are_variables d i [] = true
 are_variables d i (x ∷ xs) = is_variable d i x && are_variables d (i + 1) xs
 
 abbrev pub is_form : Definition → NoteForm → Bool
-is_form d form = nat_le (length form.fields.items) 6 && list_all (is_kind d) form.fields.items
+is_form d form = nat_le (length form.fields) 6 && list_all (is_kind d) form.fields
 
 -- a constant is a number, a truth value or a set, for all nodes or for each of up to 8
 abbrev pub is_value : Definition → Sort → Value → Bool
@@ -66,7 +66,7 @@ is_value d sort (values.Nodes e) = same_sort sort sorts.Nodes && is_a d scopes.G
 
 abbrev pub is_given : Definition → Sort → Given → Bool
 is_given d sort (givens.One v) = is_value d sort v
-is_given d sort (givens.Each vs) = is_from 1 8 (length vs.items) && list_all (is_value d sort) vs.items
+is_given d sort (givens.Each vs) = is_from 1 8 (length vs) && list_all (is_value d sort) vs
 
 abbrev pub is_constant : Definition → Constant → Bool
 is_constant d x = is_given d x.sort x.value
@@ -78,35 +78,35 @@ abbrev pub is_fact : Definition → Guard → Bool
 is_fact d x = is_a d scopes.Fact sorts.Truth x.value
 
 -- a value goes to a variable, or to a field, of its kind
-abbrev pub is_assigned : Definition → Scope → Option Variable → Expr → Bool
+abbrev pub is_assigned : Definition → Scope → Option Variable → Term → Bool
 is_assigned d scope None e = false
 is_assigned d scope (Some x) e = is_a d scope (sort_of x.kind) e
 
 abbrev pub is_assignment : Definition → Scope → Assignment → Bool
-is_assignment d scope x = is_assigned d scope (slice_get d.variables.items x.variable) x.value
+is_assignment d scope x = is_assigned d scope (slice_get d.variables x.variable) x.value
 
-abbrev pub are_fields : Definition → Scope → List Kind → List Expr → Bool
+abbrev pub are_fields : Definition → Scope → List Kind → List Term → Bool
 are_fields d scope [] [] = true
 are_fields d scope [] (e ∷ es) = false
 are_fields d scope (kind ∷ kinds) [] = false
 are_fields d scope (kind ∷ kinds) (e ∷ es) = is_a d scope (sort_of kind) e && are_fields d scope kinds es
 
-abbrev pub are_sent : Definition → Scope → Option NoteForm → List Expr → Bool
+abbrev pub are_sent : Definition → Scope → Option NoteForm → List Term → Bool
 are_sent d scope None es = false
-are_sent d scope (Some form) es = are_fields d scope form.fields.items es
+are_sent d scope (Some form) es = are_fields d scope form.fields es
 
 abbrev pub is_send : Definition → Scope → Send → Bool
-is_send d scope x = are_sent d scope (slice_get d.notes.items x.form) x.fields.items && is_a d scope sorts.Nodes x.to
+is_send d scope x = are_sent d scope (slice_get d.notes x.form) x.fields && is_a d scope sorts.Nodes x.to
 
 abbrev pub is_rule_in : Definition → Scope → ℕ → Rule → Bool
 is_rule_in d scope sends x =
     is_a d scope sorts.Truth x.guard
-    && (nat_le (length x.sets.items) 8 && (list_all (is_assignment d scope) x.sets.items
-    && (nat_le (length x.sends.items) sends && list_all (is_send d scope) x.sends.items)))
+    && (nat_le (length x.sets) 8 && (list_all (is_assignment d scope) x.sets
+    && (nat_le (length x.sends) sends && list_all (is_send d scope) x.sends)))
 
 -- an event is one of a note that there is
 abbrev pub is_event : Definition → Event → Bool
-is_event d (events.Note form) = nat_lt form (length d.notes.items)
+is_event d (events.Note form) = nat_lt form (length d.notes)
 is_event d other = true
 
 abbrev pub scope_of : Event → Scope
@@ -122,25 +122,25 @@ sends_of other = 8
 abbrev pub is_chain : Definition → Chain → Bool
 is_chain d x =
     is_a d scopes.Who sorts.Nodes x.who
-    && (is_event d x.on && (nat_le 1 (length x.rules.items) && list_all (is_rule_in d (scope_of x.on) (sends_of x.on)) x.rules.items))
+    && (is_event d x.on && (nat_le 1 (length x.rules) && list_all (is_rule_in d (scope_of x.on) (sends_of x.on)) x.rules))
 
 -- how many rules there are in all
 abbrev pub rules_in : List Chain → ℕ
-rules_in chains = sum (map (λ x. length x.rules.items) chains)
+rules_in chains = sum (map (λ x. length x.rules) chains)
 
 abbrev pub is_shown : Definition → ℕ → Bool
-is_shown d i = nat_lt i (length d.variables.items)
+is_shown d i = nat_lt i (length d.variables)
 
 -- the limits of what there is in all
 abbrev pub is_in_limits : Definition → Bool
 is_in_limits d =
-    is_from 1 16 (length d.variables.items)
-    && (nat_le (length d.notes.items) 16 && (nat_le (length d.given.items) 16 && (nat_le (length d.lets.items) 16
-    && (nat_le (length d.facts.items) 32 && (nat_le (rules_in d.chains.items) 128 && is_from 1 16 (length d.trace.items))))))
+    is_from 1 16 (length d.variables)
+    && (nat_le (length d.notes) 16 && (nat_le (length d.given) 16 && (nat_le (length d.lets) 16
+    && (nat_le (length d.facts) 32 && (nat_le (rules_in d.chains) 128 && is_from 1 16 (length d.trace))))))
 
 abbrev pub is_well_formed : Definition → Bool
 is_well_formed d =
     is_in_limits d
-    && (are_variables d 0 d.variables.items && (list_all (is_form d) d.notes.items && (list_all (is_constant d) d.given.items
-    && (list_all (is_let d) d.lets.items && (list_all (is_fact d) d.facts.items && (list_all (is_chain d) d.chains.items
-    && list_all (is_shown d) d.trace.items))))))
+    && (are_variables d 0 d.variables && (list_all (is_form d) d.notes && (list_all (is_constant d) d.given
+    && (list_all (is_let d) d.lets && (list_all (is_fact d) d.facts && (list_all (is_chain d) d.chains
+    && list_all (is_shown d) d.trace))))))

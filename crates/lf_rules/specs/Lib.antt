@@ -1,3 +1,4 @@
+pub mod Terms
 pub mod Trees
 pub mod Kinds
 pub mod Sorts

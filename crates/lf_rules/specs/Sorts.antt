@@ -12,9 +12,8 @@ use Rattle.lf_rules.specs.declared.expr.Unary.{Unary}
 use Rattle.lf_rules.specs.declared.expr.Unary.TheVariants as unaries
 use Rattle.lf_rules.specs.declared.expr.Binary.{Binary}
 use Rattle.lf_rules.specs.declared.expr.Binary.TheVariants as binaries
-use Rattle.lf_rules.specs.declared.expr.Tree.{Tree}
-use Rattle.lf_rules.specs.declared.expr.Tree.TheVariants as trees
-use Rattle.lf_rules.specs.declared.expr.Expr.{Expr}
+use Rattle.lf_rules.specs.Terms.{Term}
+use Rattle.lf_rules.specs.Terms as terms
 use Rattle.lf_rules.specs.declared.definition.Variable.{Variable}
 use Rattle.lf_rules.specs.declared.definition.NoteForm.{NoteForm}
 use Rattle.lf_rules.specs.declared.definition.Constant.{Constant}
@@ -84,11 +83,11 @@ kind_sort (Some kind) = Some (sort_of kind)
 
 abbrev pub field_sort : Option NoteForm → ℕ → Option Sort
 field_sort None i = None
-field_sort (Some form) i = kind_sort (slice_get form.fields.items i)
+field_sort (Some form) i = kind_sort (slice_get form.fields i)
 
 abbrev pub word_sort : Option Variable → ℕ → ℕ → Option Sort
 word_sort None of word = None
-word_sort (Some x) of word = where_so (nat_lt word (length x.words.items)) (Some (sorts.Word of))
+word_sort (Some x) of word = where_so (nat_lt word (length x.words)) (Some (sorts.Word of))
 
 -- the sender and the fields are named in rules on a note
 abbrev pub sender_sort : Scope → Option Sort
@@ -97,27 +96,27 @@ sender_sort other = None
 
 module _ (d : Definition) where
   abbrev pub heard_sort : Scope → ℕ → Option Sort
-  heard_sort (scopes.Note form) i = field_sort (slice_get d.notes.items form) i
+  heard_sort (scopes.Note form) i = field_sort (slice_get d.notes form) i
   heard_sort other i = None
 
   -- what an expression begins with
   abbrev pub leaf_sort : Scope → Leaf → Option Sort
   leaf_sort scope (leaves.Number n) = Some sorts.Number
   leaf_sort scope (leaves.Truth b) = Some sorts.Truth
-  leaf_sort scope (leaves.Word of word) = word_sort (slice_get d.variables.items of) of word
+  leaf_sort scope (leaves.Word of word) = word_sort (slice_get d.variables of) of word
   leaf_sort scope leaves.Empty = Some sorts.Nodes
   leaf_sort scope leaves.Nodes = Some sorts.Number
   leaf_sort scope leaves.All = Some sorts.Nodes
-  leaf_sort scope (leaves.Given i) = where_so (names_constants scope) (constant_sort (slice_get d.given.items i))
+  leaf_sort scope (leaves.Given i) = where_so (names_constants scope) (constant_sort (slice_get d.given i))
   leaf_sort scope leaves.Me = where_so (names_state scope) (Some sorts.Number)
   leaf_sort scope leaves.Step = where_so (is_rule scope) (Some sorts.Number)
   leaf_sort scope leaves.Sender = sender_sort scope
   leaf_sort scope (leaves.Field i) = heard_sort scope i
-  leaf_sort scope (leaves.Variable i) = where_so (names_state scope) (variable_sort (slice_get d.variables.items i))
+  leaf_sort scope (leaves.Variable i) = where_so (names_state scope) (variable_sort (slice_get d.variables i))
   leaf_sort scope leaves.Clamped = where_so (names_state scope) (Some sorts.Truth)
   leaf_sort scope leaves.Replaced = where_so (names_state scope) (Some sorts.Truth)
-  leaf_sort scope (leaves.Let i) = where_so (names_lets scope) (let_sort (slice_get d.lets.items i))
-  leaf_sort scope (leaves.Fact i) = where_so (is_rule scope) (fact_sort (slice_get d.facts.items i))
+  leaf_sort scope (leaves.Let i) = where_so (names_lets scope) (let_sort (slice_get d.lets i))
+  leaf_sort scope (leaves.Fact i) = where_so (is_rule scope) (fact_sort (slice_get d.facts i))
 
 -- what an operator takes, and what it gives
 abbrev pub taken : Unary → Sort
@@ -166,11 +165,11 @@ binary_sort op a b = where_so (takes op a b) (Some (made op))
 
 -- what an expression is where it stands, if it is anything
 module _ (d : Definition) (scope : Scope) where
-  abbrev pub tree_sort : Tree → Option Sort
-  tree_sort (trees.Leaf x) = leaf_sort d scope x
-  tree_sort (trees.Unary' op p a) = unary_sort op (tree_sort a)
-  tree_sort (trees.Binary' op p a q b) = binary_sort op (tree_sort a) (tree_sort b)
+  abbrev pub tree_sort : Term → Option Sort
+  tree_sort (terms.Leaf x) = leaf_sort d scope x
+  tree_sort (terms.Unary op a) = unary_sort op (tree_sort a)
+  tree_sort (terms.Binary op a b) = binary_sort op (tree_sort a) (tree_sort b)
 
 -- an expression is of a sort where it stands
-abbrev pub is_a : Definition → Scope → Sort → Expr → Bool
-is_a d scope sort e = is_of (tree_sort d scope e.tree) sort
+abbrev pub is_a : Definition → Scope → Sort → Term → Bool
+is_a d scope sort e = is_of (tree_sort d scope e) sort

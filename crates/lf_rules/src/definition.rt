@@ -2,23 +2,25 @@
 
 use crate::expr::Expr;
 use crate::kind::Kind;
+use crate::name::Name;
 use crate::rule::Chain;
 use crate::sort::Sort;
+use lf_list::Listed;
 
 /// A variable of a node's state. It is 0 at first: false, no nodes, the number 0, or the first word.
 #[derive(Debug, Drop)]
 pub struct Variable {
-    pub name: String,
+    pub name: Name,
     pub kind: Kind,
     /// The words, in order, where it has words of its own.
-    pub words: Vec<String>,
+    pub words: Listed<Name>,
 }
 
 /// A form of notes: a name, and the kinds of the fields, in order.
 #[derive(Debug, Drop)]
 pub struct NoteForm {
-    pub name: String,
-    pub fields: Vec<Kind>,
+    pub name: Name,
+    pub fields: Listed<Kind>,
 }
 
 /// A value of a constant. A text stands for the set of nodes that it is, which is known once it is known how many nodes there are.
@@ -33,13 +35,13 @@ pub enum Value {
 #[derive(Debug, Drop)]
 pub enum Given {
     One(Value),
-    Each(Vec<Value>),
+    Each(Listed<Value>),
 }
 
 /// A constant that a scenario may change.
 #[derive(Debug, Drop)]
 pub struct Constant {
-    pub name: String,
+    pub name: Name,
     /// What each of its values is.
     pub sort: Sort,
     /// The value where no scenario changes it.
@@ -49,7 +51,7 @@ pub struct Constant {
 /// A named expression: it is worked out where it is named, as if it stood there.
 #[derive(Debug, Drop)]
 pub struct Named {
-    pub name: String,
+    pub name: Name,
     /// What the expression is.
     pub sort: Sort,
     pub value: Expr,
@@ -58,20 +60,20 @@ pub struct Named {
 /// A named guard, which can be told of a state.
 #[derive(Debug, Drop)]
 pub struct Guard {
-    pub name: String,
+    pub name: Name,
     pub value: Expr,
 }
 
 /// A protocol as it is written, well formed or not. What it is made of is known by its number, from 0 on.
 #[derive(Debug, Drop)]
 pub struct Definition {
-    pub variables: Vec<Variable>,
-    pub notes: Vec<NoteForm>,
-    pub given: Vec<Constant>,
-    pub lets: Vec<Named>,
-    pub facts: Vec<Guard>,
+    pub variables: Listed<Variable>,
+    pub notes: Listed<NoteForm>,
+    pub given: Listed<Constant>,
+    pub lets: Listed<Named>,
+    pub facts: Listed<Guard>,
     /// The chains of rules, in order.
-    pub chains: Vec<Chain>,
+    pub chains: Listed<Chain>,
     /// The variables that a trace shows, in order.
-    pub trace: Vec<u8>,
+    pub trace: Listed<u8>,
 }

@@ -1,7 +1,10 @@
 //! Expressions.
 
 ghost use Rattle.std.specs.Prelude.{◌≡◌, ◌≤◌, ◌↔◌, IsSome, IfSome, min};
+ghost use Rattle.lf_rules.specs.Terms.{term_of};
 ghost use Rattle.lf_rules.specs.Trees.{parts};
+
+use std::marker::Model;
 
 /// The most parts that an expression has.
 pub const MOST_PARTS: u32 = 256;
@@ -112,14 +115,28 @@ pub enum Binary {
 #[derive(Debug, Drop)]
 pub struct Expr {
     tree: Tree,
-    ghost short: { parts tree ≤ 256 },
+}
+
+impl Model for Expr {
+    ghost use Rattle.std.specs.Prelude.{◌≤◌};
+    ghost use Rattle.lf_rules.specs.Terms.{Term, term_code, term_of};
+
+    ghost Value = { Term };
+
+    ghost coded = { term_code };
+
+    ghost use Rattle.lf_rules.specs.Trees.{parts};
+
+    ghost view = { λ e. term_of e.tree };
+
+    ghost invariant = { λ e. parts (term_of e.tree) ≤ 256 };
 }
 
 impl Expr {
     /// The expression with this tree. None where it has more than 256 parts.
     pub fn new(tree: Tree) -> Option<Expr>
-        ensures some { IsSome result ↔ (parts tree ≤ 256) }
-        ensures value { IfSome result (λ e. e.tree ≡ tree) }
+        ensures some { IsSome result ↔ (parts (term_of tree) ≤ 256) }
+        ensures value { IfSome result (λ e. e ≡ term_of tree) }
     {
         if count_parts(&tree) <= MOST_PARTS {
             Some(Expr { tree })
@@ -130,8 +147,8 @@ impl Expr {
 
     /// The expression as a tree.
     pub fn tree(&self) -> &Tree
-        ensures value { result.now ≡ self.now.tree }
-        ensures short { parts result.now ≤ 256 }
+        ensures value { term_of result.now ≡ self.now }
+        ensures short { parts (term_of result.now) ≤ 256 }
     {
         &self.tree
     }
@@ -139,7 +156,7 @@ impl Expr {
 
 /// How many parts a tree has, and the greatest `u32` where they are more.
 fn count_parts(tree: &Tree) -> u32
-    ensures { result ≡ min (parts tree.now) 4294967295 }
+    ensures { result ≡ min (parts (term_of tree.now)) 4294967295 }
 {
     match tree {
         Tree::Leaf(_) => 1,

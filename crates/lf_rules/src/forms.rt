@@ -28,7 +28,7 @@ impl Definition {
 
     /// Whether all forms of notes are well formed.
     fn are_forms(&self) -> bool
-        ensures { result ≡ list_all (is_form self.now) self.now.notes.items }
+        ensures { result ≡ list_all (is_form self.now) self.now.notes }
     {
         for form in self.notes.as_slice() {
             if !self.is_form(form) {
@@ -40,7 +40,7 @@ impl Definition {
 
     /// Whether all constants are well formed.
     fn are_constants(&self) -> bool
-        ensures { result ≡ list_all (is_constant self.now) self.now.given.items }
+        ensures { result ≡ list_all (is_constant self.now) self.now.given }
     {
         for constant in self.given.as_slice() {
             if !self.is_constant(constant) {
@@ -52,7 +52,7 @@ impl Definition {
 
     /// Whether all named expressions are well formed.
     fn are_lets(&self) -> bool
-        ensures { result ≡ list_all (is_let self.now) self.now.lets.items }
+        ensures { result ≡ list_all (is_let self.now) self.now.lets }
     {
         for named in self.lets.as_slice() {
             if !self.is_let(named) {
@@ -64,7 +64,7 @@ impl Definition {
 
     /// Whether all named guards are well formed.
     fn are_facts(&self) -> bool
-        ensures { result ≡ list_all (is_fact self.now) self.now.facts.items }
+        ensures { result ≡ list_all (is_fact self.now) self.now.facts }
     {
         for guard in self.facts.as_slice() {
             if !self.is_fact(guard) {
@@ -76,7 +76,7 @@ impl Definition {
 
     /// Whether all chains of rules are well formed.
     fn are_chains(&self) -> bool
-        ensures { result ≡ list_all (is_chain self.now) self.now.chains.items }
+        ensures { result ≡ list_all (is_chain self.now) self.now.chains }
     {
         for chain in self.chains.as_slice() {
             if !self.is_chain(chain) {
@@ -88,7 +88,7 @@ impl Definition {
 
     /// Whether all variables of a trace are there.
     fn are_shown(&self) -> bool
-        ensures { result ≡ list_all (is_shown self.now) self.now.trace.items }
+        ensures { result ≡ list_all (is_shown self.now) self.now.trace }
     {
         for variable in self.trace.as_slice() {
             if !self.is_shown(*variable) {
@@ -186,9 +186,9 @@ impl Definition {
 
     /// Whether a variable has so many words.
     fn has_words(&self, of: u8, words: u8) -> bool
-        ensures { result ≡ has_words (slice_get self.now.variables.items of) words }
+        ensures { result ≡ has_words (slice_get self.now.variables of) words }
     {
-        match self.variables.get(usize::from(of)) {
+        match self.variables.as_slice().get(usize::from(of)) {
             Some(variable) => variable.words.len() == usize::from(words),
             None => false,
         }
@@ -196,7 +196,7 @@ impl Definition {
 
     /// Whether all variables are well formed.
     fn are_variables(&self) -> bool
-        ensures { result ≡ are_variables self.now 0 self.now.variables.items }
+        ensures { result ≡ are_variables self.now 0 self.now.variables }
     {
         for (i, variable) in self.variables.as_slice().iter().enumerate() {
             if !self.is_variable(i, variable) {
@@ -303,7 +303,7 @@ impl Definition {
     fn is_assignment(&self, scope: Scope, set: &Assignment) -> bool
         ensures { result ≡ is_assignment self.now scope set.now }
     {
-        match self.variables.get(usize::from(set.variable)) {
+        match self.variables.as_slice().get(usize::from(set.variable)) {
             Some(variable) => self.is_a(scope, variable.kind.sort(), &set.value),
             None => false,
         }
@@ -319,9 +319,9 @@ impl Definition {
 
     /// Whether a note of this form may have these values.
     fn are_sent(&self, scope: Scope, form: u8, values: &[Expr]) -> bool
-        ensures { result ≡ are_sent self.now scope (slice_get self.now.notes.items form) values.now }
+        ensures { result ≡ are_sent self.now scope (slice_get self.now.notes form) values.now }
     {
-        match self.notes.get(usize::from(form)) {
+        match self.notes.as_slice().get(usize::from(form)) {
             Some(form) => self.are_fields(scope, form.fields.as_slice(), values),
             None => false,
         }

@@ -8,14 +8,17 @@ mod definition;
 mod expr;
 mod forms;
 mod kind;
+mod name;
 mod rule;
 mod rules;
+mod same;
 mod sort;
 mod sorting;
 
 pub use definition::{Constant, Definition, Given, Guard, Named, NoteForm, Value, Variable};
 pub use expr::{Binary, Expr, Leaf, Tree, Unary};
 pub use kind::Kind;
+pub use name::Name;
 pub use rule::{Assignment, Chain, Event, Rule, Send};
 pub use rules::Rules;
 pub use sort::{Scope, Sort};

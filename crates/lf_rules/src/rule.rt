@@ -1,6 +1,7 @@
 //! Rules.
 
 use crate::expr::Expr;
+use lf_list::Listed;
 
 /// What a rule is on.
 #[derive(Clone, Copy, Debug, PartialEq, Eq)]
@@ -31,7 +32,7 @@ pub struct Send {
     /// The number of the note's form.
     pub form: u8,
     /// The values of the fields, in order.
-    pub fields: Vec<Expr>,
+    pub fields: Listed<Expr>,
     /// The set of nodes.
     pub to: Expr,
 }
@@ -41,9 +42,9 @@ pub struct Send {
 pub struct Rule {
     pub guard: Expr,
     /// The assignments, which are made first, in order.
-    pub sets: Vec<Assignment>,
+    pub sets: Listed<Assignment>,
     /// What is sent then, in order.
-    pub sends: Vec<Send>,
+    pub sends: Listed<Send>,
 }
 
 /// The rules of some nodes at an event of which at most one is taken: the first whose guard is true.
@@ -56,5 +57,5 @@ pub struct Chain {
     pub who: Expr,
     pub on: Event,
     /// The rules, in order: 1 at least.
-    pub rules: Vec<Rule>,
+    pub rules: Listed<Rule>,
 }

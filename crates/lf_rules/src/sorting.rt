@@ -1,6 +1,7 @@
 //! What the expressions of a definition are.
 
 ghost use Rattle.std.specs.Prelude.{◌≡◌, slice_get};
+ghost use Rattle.lf_rules.specs.Terms.{term_of};
 ghost use Rattle.lf_rules.specs.Sorts.{constant_sort, let_sort, fact_sort, variable_sort, field_sort, heard_sort, sender_sort, word_sort, leaf_sort, tree_sort, is_a};
 
 use crate::definition::Definition;
@@ -17,7 +18,7 @@ impl Definition {
 
     /// What a tree is where it stands, if it is anything.
     fn tree_sort(&self, scope: Scope, tree: &Tree) -> Option<Sort>
-        ensures { result ≡ tree_sort self.now scope tree.now }
+        ensures { result ≡ tree_sort self.now scope (term_of tree.now) }
     {
         match tree {
             Tree::Leaf(leaf) => self.leaf_sort(scope, *leaf),
@@ -52,9 +53,9 @@ impl Definition {
 
     /// What a variable's word is.
     fn word_sort(&self, of: u8, word: u8) -> Option<Sort>
-        ensures { result ≡ word_sort (slice_get self.now.variables.items of) of word }
+        ensures { result ≡ word_sort (slice_get self.now.variables of) of word }
     {
-        match self.variables.get(usize::from(of)) {
+        match self.variables.as_slice().get(usize::from(of)) {
             Some(variable) => {
                 where_so(
                     usize::from(word) < variable.words.len(),
@@ -67,9 +68,9 @@ impl Definition {
 
     /// What a constant is.
     fn constant_sort(&self, i: u8) -> Option<Sort>
-        ensures { result ≡ constant_sort (slice_get self.now.given.items i) }
+        ensures { result ≡ constant_sort (slice_get self.now.given i) }
     {
-        match self.given.get(usize::from(i)) {
+        match self.given.as_slice().get(usize::from(i)) {
             Some(constant) => Some(constant.sort),
             None => None,
         }
@@ -77,9 +78,9 @@ impl Definition {
 
     /// What a variable is.
     fn variable_sort(&self, i: u8) -> Option<Sort>
-        ensures { result ≡ variable_sort (slice_get self.now.variables.items i) }
+        ensures { result ≡ variable_sort (slice_get self.now.variables i) }
     {
-        match self.variables.get(usize::from(i)) {
+        match self.variables.as_slice().get(usize::from(i)) {
             Some(variable) => Some(variable.kind.sort()),
             None => None,
         }
@@ -87,9 +88,9 @@ impl Definition {
 
     /// What a named expression is.
     fn let_sort(&self, i: u8) -> Option<Sort>
-        ensures { result ≡ let_sort (slice_get self.now.lets.items i) }
+        ensures { result ≡ let_sort (slice_get self.now.lets i) }
     {
-        match self.lets.get(usize::from(i)) {
+        match self.lets.as_slice().get(usize::from(i)) {
             Some(named) => Some(named.sort),
             None => None,
         }
@@ -97,9 +98,9 @@ impl Definition {
 
     /// What a named guard is.
     fn fact_sort(&self, i: u8) -> Option<Sort>
-        ensures { result ≡ fact_sort (slice_get self.now.facts.items i) }
+        ensures { result ≡ fact_sort (slice_get self.now.facts i) }
     {
-        match self.facts.get(usize::from(i)) {
+        match self.facts.as_slice().get(usize::from(i)) {
             Some(_) => Some(Sort::Truth),
             None => None,
         }
@@ -117,10 +118,10 @@ impl Definition {
 
     /// What a field of a note is.
     fn field_sort(&self, form: u8, i: u8) -> Option<Sort>
-        ensures { result ≡ field_sort (slice_get self.now.notes.items form) i }
+        ensures { result ≡ field_sort (slice_get self.now.notes form) i }
     {
-        match self.notes.get(usize::from(form)) {
-            Some(form) => match form.fields.get(usize::from(i)) {
+        match self.notes.as_slice().get(usize::from(form)) {
+            Some(form) => match form.fields.as_slice().get(usize::from(i)) {
                 Some(kind) => Some(kind.sort()),
                 None => None,
             },

@@ -1,9 +1,10 @@
 //! Makes definitions of values.
 
+use lf_list::Listed;
 use lf_meaning::{Note, State};
 use lf_ruled::Ruled;
 use lf_rules::{
-    Assignment, Binary, Chain, Constant, Definition, Event, Expr, Given, Guard, Kind, Leaf,
+    Assignment, Binary, Chain, Constant, Definition, Event, Expr, Given, Guard, Kind, Leaf, Name,
     NoteForm, Rule, Rules, Send, Sort, Tree, Unary, Value, Variable,
 };
 use lf_sim::Letter;
@@ -98,7 +99,7 @@ pub(crate) fn send_with(
     to: Made,
 ) -> Result<Send, AllocError> {
     let to = expr(to)?;
-    let fields = fields?;
+    let fields = Listed::from_vec(fields?);
     Ok(Send { form, fields, to })
 }
 
@@ -108,8 +109,8 @@ pub(crate) fn rule(
     sends: Result<Vec<Send>, AllocError>,
 ) -> Result<Rule, AllocError> {
     let guard = expr(guard)?;
-    let sets = sets?;
-    let sends = sends?;
+    let sets = Listed::from_vec(sets?);
+    let sends = Listed::from_vec(sends?);
     Ok(Rule { guard, sets, sends })
 }
 
@@ -119,16 +120,16 @@ pub(crate) fn chain(
     rules: Result<Vec<Rule>, AllocError>,
 ) -> Result<Chain, AllocError> {
     let who = expr(who)?;
-    let rules = rules?;
+    let rules = Listed::from_vec(rules?);
     Ok(Chain { who, on, rules })
 }
 
 /// A variable without words of its own.
 pub(crate) fn plain(alloc: Global, kind: Kind) -> Result<Variable, AllocError> {
     Ok(Variable {
-        name: String::new(alloc),
+        name: Name::new(String::new(alloc)),
         kind,
-        words: Vec::new(alloc),
+        words: Listed::from_vec(Vec::new(alloc)),
     })
 }
 
@@ -136,12 +137,12 @@ pub(crate) fn plain(alloc: Global, kind: Kind) -> Result<Variable, AllocError> {
 pub(crate) fn worded(alloc: Global, of: u8, words: u8) -> Result<Variable, AllocError> {
     let mut names = Vec::new(alloc);
     for _ in 0..words {
-        names.push(String::new(alloc))?;
+        names.push(Name::new(String::new(alloc)))?;
     }
     Ok(Variable {
-        name: String::new(alloc),
+        name: Name::new(String::new(alloc)),
         kind: Kind::Word { of, words },
-        words: names,
+        words: Listed::from_vec(names),
     })
 }
 
@@ -150,9 +151,9 @@ pub(crate) fn form(
     alloc: Global,
     fields: Result<Vec<Kind>, AllocError>,
 ) -> Result<NoteForm, AllocError> {
-    let fields = fields?;
+    let fields = Listed::from_vec(fields?);
     Ok(NoteForm {
-        name: String::new(alloc),
+        name: Name::new(String::new(alloc)),
         fields,
     })
 }
@@ -164,7 +165,7 @@ pub(crate) fn constant(
 ) -> Result<Constant, AllocError> {
     let value = Given::One(value?);
     Ok(Constant {
-        name: String::new(alloc),
+        name: Name::new(String::new(alloc)),
         sort,
         value,
     })
@@ -178,7 +179,7 @@ pub(crate) fn nodes(tree: Made) -> Result<Value, AllocError> {
 pub(crate) fn guard(alloc: Global, value: Made) -> Result<Guard, AllocError> {
     let value = expr(value)?;
     Ok(Guard {
-        name: String::new(alloc),
+        name: Name::new(String::new(alloc)),
         value,
     })
 }
@@ -190,16 +191,16 @@ pub(crate) fn definition(
     notes: Result<Vec<NoteForm>, AllocError>,
     chains: Result<Vec<Chain>, AllocError>,
 ) -> Result<Definition, AllocError> {
-    let variables = variables?;
-    let notes = notes?;
-    let chains = chains?;
-    let trace = Vec::from_array(alloc, [0])?;
+    let variables = Listed::from_vec(variables?);
+    let notes = Listed::from_vec(notes?);
+    let chains = Listed::from_vec(chains?);
+    let trace = Listed::from_vec(Vec::from_array(alloc, [0])?);
     Ok(Definition {
         variables,
         notes,
-        given: Vec::new(alloc),
-        lets: Vec::new(alloc),
-        facts: Vec::new(alloc),
+        given: Listed::from_vec(Vec::new(alloc)),
+        lets: Listed::from_vec(Vec::new(alloc)),
+        facts: Listed::from_vec(Vec::new(alloc)),
         chains,
         trace,
     })

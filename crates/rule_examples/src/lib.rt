@@ -10,4 +10,6 @@ mod forms;
 #[cfg(test)]
 mod machines;
 #[cfg(test)]
+mod sameness;
+#[cfg(test)]
 mod two_phase;

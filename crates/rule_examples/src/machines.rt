@@ -4,6 +4,7 @@ use crate::build::{
     chain, constant, definition, form, leaf, letter, machine, more, note, number, one, only, plain,
     rule, set, state, yes,
 };
+use lf_list::Listed;
 use lf_meaning::State;
 use lf_ruled::{Fact, Ruled, Told};
 use lf_rules::{Chain, Constant, Definition, Event, Given, Kind, Leaf, Sort, Value};
@@ -22,7 +23,7 @@ fn with_constants(
     constants: Result<Vec<Constant>, AllocError>,
 ) -> Result<Definition, AllocError> {
     let mut definition = definition?;
-    let constants = constants?;
+    let constants = Listed::from_vec(constants?);
     definition.given = constants;
     Ok(definition)
 }
@@ -45,7 +46,7 @@ fn listed(alloc: Global) -> Result<Given, AllocError> {
     for number in 5..8 {
         values.push(Value::Number(number))?;
     }
-    Ok(Given::Each(values))
+    Ok(Given::Each(Listed::from_vec(values)))
 }
 
 /// Whether there is a machine among so many nodes with this value of its constant.
@@ -120,6 +121,7 @@ fn starts(machine: &Ruled) -> bool {
 
 /// Whether letters are heard in order, and one whose form there isn't changes nothing.
 fn hears(machine: &Ruled) -> bool {
+    let _nodes = machine.nodes();
     let inbox = [letter(2, 0, 0), letter(0, 0, 0), letter(2, 200, 0)];
     let step = machine.step(1, 1, state([4, 0, 0, 0]), &inbox);
     let other = machine.step(1, 1, state([4, 0, 0, 0]), &[letter(2, 200, 0)]);

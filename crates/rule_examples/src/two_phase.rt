@@ -4,6 +4,7 @@ use crate::build::{
     Made, and, binary, chain, constant, equal, form, guard, leaf, letter, machine, more, nodes,
     note, number, one, only, plain, rule, send, set, state, unary, variable, word, worded,
 };
+use lf_list::Listed;
 use lf_meaning::State;
 use lf_ruled::{Fact, Ruled, Told};
 use lf_rules::{
@@ -191,17 +192,17 @@ fn facts(alloc: Global) -> Result<Vec<Guard>, AllocError> {
 }
 
 fn definition(alloc: Global) -> Result<Definition, AllocError> {
-    let variables = variables(alloc)?;
-    let notes = notes(alloc)?;
-    let given = given(alloc)?;
-    let facts = facts(alloc)?;
-    let chains = chains(alloc)?;
-    let trace = Vec::from_array(alloc, [PHASE])?;
+    let variables = Listed::from_vec(variables(alloc)?);
+    let notes = Listed::from_vec(notes(alloc)?);
+    let given = Listed::from_vec(given(alloc)?);
+    let facts = Listed::from_vec(facts(alloc)?);
+    let chains = Listed::from_vec(chains(alloc)?);
+    let trace = Listed::from_vec(Vec::from_array(alloc, [PHASE])?);
     Ok(Definition {
         variables,
         notes,
         given,
-        lets: Vec::new(alloc),
+        lets: Listed::from_vec(Vec::new(alloc)),
         facts,
         chains,
         trace,
@@ -223,7 +224,7 @@ fn given_one(value: Result<Value, AllocError>) -> Result<Given, AllocError> {
 }
 
 fn given_each(values: Result<Vec<Value>, AllocError>) -> Result<Given, AllocError> {
-    Ok(Given::Each(values?))
+    Ok(Given::Each(Listed::from_vec(values?)))
 }
 
 /// Two-phase commit among three nodes.
@@ -241,6 +242,7 @@ fn at(phase: u8, since: u8, agreed: u8) -> State {
 
 /// Whether node 0 asks both others at step 1.
 fn asks(machine: &Ruled) -> bool {
+    let _nodes = machine.nodes();
     let step = machine.step(0, 1, machine.start(0), &[]);
     step.state == at(VOTING, 1, 0)
         && step.out.to(0).is_none()
@@ -250,6 +252,7 @@ fn asks(machine: &Ruled) -> bool {
 
 /// Whether a participant that is asked at step 2 agrees.
 fn agrees(machine: &Ruled) -> bool {
+    let _nodes = machine.nodes();
     let step = machine.step(1, 2, machine.start(1), &[letter(0, ASK, 0)]);
     step.state == at(PREPARED, 2, 0)
         && step.out.to(0) == Some(note(AGREE, 0))
@@ -258,6 +261,7 @@ fn agrees(machine: &Ruled) -> bool {
 
 /// Whether node 0 commits at step 3 once both agreed.
 fn commits(machine: &Ruled) -> bool {
+    let _nodes = machine.nodes();
     let inbox = [letter(1, AGREE, 0), letter(2, AGREE, 0)];
     let step = machine.step(0, 3, at(VOTING, 1, 0), &inbox);
     step.state == at(COMMITTED, 1, 6)
@@ -267,6 +271,7 @@ fn commits(machine: &Ruled) -> bool {
 
 /// Whether it waits at step 3 for the second vote, and gives up at step 4.
 fn waits(machine: &Ruled) -> bool {
+    let _nodes = machine.nodes();
     let step = machine.step(0, 3, at(VOTING, 1, 0), &[letter(1, AGREE, 0)]);
     let later = machine.step(0, 4, step.state, &[]);
     step.state == at(VOTING, 1, 2)
@@ -277,6 +282,7 @@ fn waits(machine: &Ruled) -> bool {
 
 /// Whether a prepared participant is blocked, and counts anew where it wakes.
 fn blocks(machine: &Ruled) -> bool {
+    let _nodes = machine.nodes();
     let blocked = Fact {
         told: Told::Named(0),
         denied: false,

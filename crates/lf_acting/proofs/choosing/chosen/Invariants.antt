@@ -6,5 +6,5 @@ use Rattle.lf_acting.proofs.choosing.chosen.Given as goal
 -- the chains that are left to be seen give the numbers that follow
 abbrev pub invariant-loop-i : goal.invariant-loop-i
 invariant-loop-i l =
-    l.numbers.items ++ numbers_of (is_passed l.nodes l.me l.given l.event) l.i (drop l.i l.definition.chains.items)
+    l.numbers.items ++ numbers_of (is_passed l.nodes l.me l.given l.event) l.i (drop l.i l.definition.chains)
     ≡ chosen l.definition l.nodes l.me l.given l.event

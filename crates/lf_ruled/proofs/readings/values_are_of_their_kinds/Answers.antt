@@ -1,12 +1,11 @@
-use Rattle.std.specs.Arc.{arc_value}
 use Rattle.lf_ruled.proofs.RangesLemmas.{start-ranged, step-ranged, wake-ranged}
 use Rattle.lf_ruled.proofs.readings.values_are_of_their_kinds.Goals as goal
 
 pub returns-clause-start : goal.returns-clause-start
-returns-clause-start c = λ m node. start-ranged (arc_value m.rules).definition m.nodes m.given node
+returns-clause-start c = λ m node. start-ranged m.definition m.nodes m.given node
 
 pub returns-clause-step : goal.returns-clause-step
-returns-clause-step c = λ m node t state inbox ranged. step-ranged (arc_value m.rules).definition m.nodes m.given node t state inbox ranged
+returns-clause-step c = λ m node t state inbox ranged. step-ranged m.definition m.nodes m.given node t state inbox ranged
 
 pub returns-clause-wake : goal.returns-clause-wake
-returns-clause-wake c = λ m node t state ranged. wake-ranged (arc_value m.rules).definition m.nodes m.given node t state ranged
+returns-clause-wake c = λ m node t state ranged. wake-ranged m.definition m.nodes m.given node t state ranged

@@ -2,11 +2,11 @@ use Rattle.std.proofs.Common.{ap, ◌∙◌, arith}
 use Rattle.lf_ruled.specs.Indexes.{rows_of}
 use Rattle.lf_ruled.proofs.machine.Ruled.new.Goals as goal
 
-pub invariant_of-result : goal.invariant_of-result
-invariant_of-result c = record {
+pub invariant_of-indexed : goal.invariant_of-indexed
+invariant_of-indexed c = record {
   indexed =
       c.in_ok-rows.ensures
-      ∙ ap (λ d. rows_of d c.args.nodes c.given_table-given.result) (c.definition-2.ensures.value ∙ ap (λ rules. rules.definition) c.deref-2.ensures);
+      ∙ ap (λ d. rows_of d c.args.nodes c.given_table-given.result) (c.definition-2.ensures.value ∙ c.deref-2.ensures);
   many = omega arith;
   few = omega arith;
 }

@@ -5,4 +5,4 @@ use Rattle.lf_rules.proofs.definition.Definition.are_constants.Given as goal
 
 -- those so far pass
 abbrev pub invariant-loop-constant : goal.invariant-loop-constant
-invariant-loop-constant l = list_all (is_constant l.self) (take l.constant-index l.self.given.items) ≡ true
+invariant-loop-constant l = list_all (is_constant l.self) (take l.constant-index l.self.given) ≡ true

@@ -5,4 +5,4 @@ use Rattle.lf_rules.proofs.definition.Definition.are_lets.Given as goal
 
 -- those so far pass
 abbrev pub invariant-loop-named : goal.invariant-loop-named
-invariant-loop-named l = list_all (is_let l.self) (take l.named-index l.self.lets.items) ≡ true
+invariant-loop-named l = list_all (is_let l.self) (take l.named-index l.self.lets) ≡ true

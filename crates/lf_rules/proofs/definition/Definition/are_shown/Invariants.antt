@@ -5,4 +5,4 @@ use Rattle.lf_rules.proofs.definition.Definition.are_shown.Given as goal
 
 -- those so far pass
 abbrev pub invariant-loop-variable : goal.invariant-loop-variable
-invariant-loop-variable l = list_all (is_shown l.self) (take l.variable-index l.self.trace.items) ≡ true
+invariant-loop-variable l = list_all (is_shown l.self) (take l.variable-index l.self.trace) ≡ true

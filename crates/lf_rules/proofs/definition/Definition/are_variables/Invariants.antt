@@ -4,4 +4,4 @@ use Rattle.lf_rules.proofs.definition.Definition.are_variables.Given as goal
 
 -- what is left to be seen of the variables
 abbrev pub invariant-loop-i : goal.invariant-loop-i
-invariant-loop-i l = are_variables l.self l.i (drop l.i l.self.variables.items) ≡ are_variables l.self 0 l.self.variables.items
+invariant-loop-i l = are_variables l.self l.i (drop l.i l.self.variables) ≡ are_variables l.self 0 l.self.variables

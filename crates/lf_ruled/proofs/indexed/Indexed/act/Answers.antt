@@ -6,14 +6,14 @@ use Rattle.lf_acting.specs.Choices.{take_at, chosen}
 use Rattle.lf_acting.proofs.Laws.{chosen-acts}
 use Rattle.lf_ruled.specs.Indexes.{row_for}
 use Rattle.lf_ruled.proofs.IndexesLemmas.{row_for-chosen}
-use Rattle.lf_ruled.proofs.machine.Ruled.act.Goals as goal
+use Rattle.lf_ruled.proofs.indexed.Indexed.act.Goals as goal
 
 pub returns : goal.returns
 returns c =
     let self = c.args.self.now in
     let at = c.args.at.now in
-    let d = (arc_value self.rules).definition in
-    let is : c.definition.result.now ≡ d = c.definition.ensures.value ∙ ap (λ rules. rules.definition) c.deref.ensures in
+    let d = arc_value self.rules in
+    let is : c.definition.result.now ≡ d = c.definition.ensures.value ∙ c.deref.ensures in
     let formed : is_well_formed d ≡ true = ap is_well_formed (sym is) ∙ c.definition.ensures.well_formed in
     let row : c.row_for-numbers.result.now ≡ chosen d at.nodes at.me at.given c.args.event =
     c.row_for-numbers.ensures

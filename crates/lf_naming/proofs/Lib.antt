@@ -1,0 +1,3 @@
+mod FirstsLemmas
+mod PiecesLemmas
+mod SmallLemmas

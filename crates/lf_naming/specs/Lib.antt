@@ -1,0 +1,4 @@
+pub mod Names
+pub mod Texts
+pub mod Facts
+pub mod Pieces

@@ -1,0 +1,86 @@
+-- How the values, states and notes of a protocol of rules are told in a trace.
+use Rattle.std.specs.Prelude.{ℕ, Bool, true, false, ◌==◌, List, [], ◌∷◌, ◌++◌, codes, map, filter, Option, None, Some, slice_get}
+use Rattle.std.specs.Char.{to_ascii_lowercase}
+use Rattle.std.specs.Fmt.{decimal}
+use Rattle.std.specs.List.{enumerate_from, join_with_byte, range_with_len}
+use Rattle.lf_rules.specs.declared.kind.Kind.{Kind}
+use Rattle.lf_rules.specs.declared.kind.Kind.TheVariants as kinds
+use Rattle.lf_rules.specs.declared.definition.NoteForm.{NoteForm}
+use Rattle.lf_rules.specs.declared.definition.Variable.{Variable}
+use Rattle.lf_rules.specs.declared.definition.Definition.{Definition}
+use Rattle.lf_meaning.specs.declared.state.State.{State}
+use Rattle.lf_meaning.specs.declared.state.Note.{Note}
+use Rattle.lf_meaning.specs.Sets.{has, is_true}
+use Rattle.lf_meaning.specs.Values.{zero_or}
+use Rattle.lf_naming.specs.Names.{not_if, or_nothing, word_name}
+
+-- a truth value
+abbrev pub truth_text : Bool → List ℕ
+truth_text true = codes "true"
+truth_text false = codes "false"
+
+-- the nodes of a set, ascending; their numbers with a comma (44) between any two; and these in braces
+abbrev pub members : ℕ → List ℕ
+members set = filter (has set) (range_with_len 0 8)
+
+abbrev pub members_text : ℕ → List ℕ
+members_text set = join_with_byte 44 (map decimal (members set))
+
+abbrev pub set_text : ℕ → List ℕ
+set_text set = codes "{" ++ (members_text set ++ codes "}")
+
+-- a value of a kind
+abbrev pub value_text : Definition → Kind → ℕ → List ℕ
+value_text d kinds.Flag v = truth_text (is_true v)
+value_text d kinds.Nodes v = set_text v
+value_text d (kinds.UpTo most) v = decimal v
+value_text d (kinds.Word of words) v = word_name (slice_get d.variables of) v
+
+-- a variable without words of its own: a flag is its name, or `not_` and its name, and one of another kind is `NAME=VALUE`
+abbrev pub plain_text : Definition → List ℕ → Kind → ℕ → List ℕ
+plain_text d name kinds.Flag v = not_if (v == 0) name
+plain_text d name kind v = name ++ (codes "=" ++ value_text d kind v)
+
+-- a variable with these words of its own, where there are any, is its word
+abbrev pub worded_text : Definition → Variable → List (List ℕ) → ℕ → List ℕ
+worded_text d x [] v = plain_text d x.name x.kind v
+worded_text d x (word ∷ words) v = or_nothing (slice_get (word ∷ words) v)
+
+abbrev pub variable_text : Definition → Variable → ℕ → List ℕ
+variable_text d x v = worded_text d x x.words v
+
+-- the variable with a number, in a state; nothing where there is none
+abbrev pub found_text : Definition → Option Variable → ℕ → List ℕ
+found_text d None v = []
+found_text d (Some x) v = variable_text d x v
+
+abbrev pub shown_text : Definition → State → ℕ → List ℕ
+shown_text d s i = found_text d (slice_get d.variables i) (zero_or (slice_get s.values i))
+
+-- a state: the variables that a trace shows, in order, with a blank (32) between any two
+abbrev pub state_text : Definition → State → List ℕ
+state_text d s = join_with_byte 32 (map (shown_text d s) d.trace)
+
+-- the value of a note's field with a number and a kind, and the values of fields of these kinds, with a comma between any two
+abbrev pub field_text : Definition → Note → ℕ × Kind → List ℕ
+field_text d note field = value_text d field.1 (zero_or (slice_get note.fields field.0))
+
+abbrev pub fields_text : Definition → List Kind → Note → List ℕ
+fields_text d fields note = join_with_byte 44 (map (field_text d note) (enumerate_from 0 fields))
+
+-- the values of fields in parentheses, where there are any
+abbrev pub if_fields : Definition → List Kind → Note → List ℕ
+if_fields d [] note = []
+if_fields d (field ∷ fields) note = codes "(" ++ (fields_text d (field ∷ fields) note ++ codes ")")
+
+-- a note of a form: the form's name in small letters, and then its fields
+abbrev pub form_text : Definition → NoteForm → Note → List ℕ
+form_text d form note = map to_ascii_lowercase form.name ++ if_fields d form.fields note
+
+-- a note of the form with its number; nothing where there is none
+abbrev pub formed_text : Definition → Option NoteForm → Note → List ℕ
+formed_text d None note = []
+formed_text d (Some form) note = form_text d form note
+
+abbrev pub note_text : Definition → Note → List ℕ
+note_text d note = formed_text d (slice_get d.notes note.form) note

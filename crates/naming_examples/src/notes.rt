@@ -1,0 +1,46 @@
+//! The texts of notes.
+
+use crate::build::{agrees, columns, definition, fill, number, words};
+use lf_meaning::Note;
+use lf_naming::push_note;
+use std::alloc::{AllocError, Global};
+
+/// For each line a note's form and its fields, and the text. What isn't there has no text.
+const NOTES: &str = concat!(
+    "0 0 0 0 0|beat\n",
+    "0 1 2 3 4|beat\n",
+    "1 3 0 0 0|promise_2(3,idle,false,{})\n",
+    "1 9 2 1 6|promise_2(9,done,true,{1,2})\n",
+    "1 0 5 3 255|promise_2(0,,true,{0,1,2,3,4,5,6,7})\n",
+    "2 200 1 1 1|ask(200)\n",
+    "3 1 1 1 1|\n",
+);
+
+/// The text of the row's note, after what stood there before.
+fn text(alloc: Global, row: &str) -> Result<String, AllocError> {
+    let (numbers, _) = columns(row);
+    let (form, fields) = words(numbers);
+    let mut note = Note {
+        form: number(form),
+        fields: [0; 6],
+    };
+    fill(&mut note.fields, fields);
+    let mut text = String::from_str(alloc, "0>1 ")?;
+    push_note(&definition(alloc, "stuck", "0")?, &note, &mut text)?;
+    Ok(text)
+}
+
+fn is_told(alloc: Global, row: &str) -> bool {
+    let (_, wanted) = columns(row);
+    match text(alloc, row) {
+        Ok(text) => text.as_str().strip_prefix("0>1 ") == Some(wanted),
+        Err(_) => false,
+    }
+}
+
+#[test]
+fn notes_are_told(rt: HostRuntime) {
+    for row in NOTES.lines() {
+        agrees(&rt, is_told(rt.alloc(), row), row);
+    }
+}
