@@ -160,7 +160,7 @@ run_without_set words text reply status s chosen reads choice none is ends =
     )
 
 pub run_of_set : (words text reply : List ℕ) (status : ℕ) (s : Scenario) (set : List Parts) → IsText s text → Names words set × IsAllowed s.setting.spec set
-    → reply ≡ trace (world_of s.setting) set s.formula → status ≡ run_status (reaches_in s set) → IsRunReply words text reply status
+    → reply ≡ trace s.setting.machine (world_of s.setting) set s.formula → status ≡ run_status (reaches_in s set) → IsRunReply words text reply status
 run_of_set words text reply status s set reads chosen is ends = inr (s, reads, inr (set, chosen.0, chosen.1, is, ends))
 
 -- the reply of a check, by the verdict

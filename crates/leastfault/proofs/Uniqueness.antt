@@ -205,8 +205,9 @@ module _ (words : List ℕ) (named_one : (one other : List Parts) → Names word
       let worlds = worlds_are_one s t same in
       let reached : reaches_in s a.0 ≡ reaches_in t b.0 =
       ap (λ w. reaches w a.0 s.formula) worlds ∙ ap (reaches (world_of t.setting) a.0) same.formula ∙ ap (reaches_in t) sets in (
-        a.3 ∙ ap (λ w. trace w a.0 s.formula) worlds ∙ ap (trace (world_of t.setting) a.0) same.formula
-            ∙ ap (λ set. trace (world_of t.setting) set t.formula) sets ∙ sym b.3,
+        a.3 ∙ ap (λ k. trace k (world_of s.setting) a.0 s.formula) same.protocol ∙ ap (λ w. trace t.setting.machine w a.0 s.formula) worlds
+            ∙ ap (trace t.setting.machine (world_of t.setting) a.0) same.formula
+            ∙ ap (λ set. trace t.setting.machine (world_of t.setting) set t.formula) sets ∙ sym b.3,
         a.4 ∙ ap run_status reached ∙ sym b.4,
       )
 

@@ -131,7 +131,7 @@ RepliesNoSet words s reply status =
 abbrev pub RepliesTrace : List ℕ → Scenario → List ℕ → ℕ → Type 0
 RepliesTrace words s reply status =
     (set : List Parts) × Names words set × IsAllowed s.setting.spec set
-    × (reply ≡ trace (world_of s.setting) set s.formula) × (status ≡ run_status (reaches_in s set))
+    × (reply ≡ trace s.setting.machine (world_of s.setting) set s.formula) × (status ≡ run_status (reaches_in s set))
 
 -- the reply of a run of the set that the words name: the scenario's refusal comes before the words
 abbrev pub IsRunReply : List ℕ → List ℕ → List ℕ → ℕ → Type 0

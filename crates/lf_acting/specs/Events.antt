@@ -102,7 +102,7 @@ module _ (d : Definition) (at : Moment) where
 
   -- a send works out its fields, then its set of nodes, and then puts the note
   abbrev pub drafted : State → Send → Draft
-  drafted s x = fill (kinds_of (slice_get d.notes x.form)) (record { state = s; fields = replicate 6 0 }) 0 x.fields
+  drafted s x = fill (kinds_of (slice_get d.notes x.form)) (record { state = s; fields = replicate 7 0 }) 0 x.fields
 
   abbrev pub put_draft : Stepped State Note → Send → Draft → Stepped State Note
   put_draft turn x draft =

@@ -13,7 +13,7 @@ use lf_sim::Stepped;
 #[derive(Clone, Copy)]
 pub(crate) struct Draft {
     state: State,
-    fields: [u8; 6],
+    fields: [u8; 7],
 }
 
 /// Sends a rule's notes, from the left.
@@ -50,7 +50,7 @@ fn drafted(definition: &Definition, at: &Moment, state: State, message: &Send) -
 {
     let draft = Draft {
         state,
-        fields: [0; 6],
+        fields: [0; 7],
     };
     let kinds = kinds_of(definition, message.form);
     fill(definition, at, kinds, draft, message.fields.as_slice())

@@ -1,5 +1,6 @@
 mod AllLemmas
 mod BranchLemmas
+mod Crossing
 mod ExcludedLemmas
 mod FirstsLemmas
 mod FoundLemmas

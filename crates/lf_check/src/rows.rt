@@ -185,20 +185,36 @@ fn found_by_part<W: Watch>(
     let failing = FirstFailing::new();
     let tally = &tally;
     let failing = &failing;
-    (0..more)
+    in_each(
+        rt,
+        alloc,
+        more,
+        |i: usize| -> Result<Option<Found>, AllocError>
+            requires { ArePlaces places.now × ((i + 1) * 256 ≤ vec_len places.now.rows) }
+            ensures { IfOk result (λ found. IfSome found (IsFoundInPart (world_of judged.entry.now.setting.now)
+                judged.entry.now.setting.now.spec judged.entry.now.formula.now judged.entry.now.last
+                places.entry.now.tree.now places.entry.now.sets.items (i + 1))) }
+        {
+            let found = found_unless(alloc, judged, places, i + 1, failing);
+            tally.add(PART);
+            found
+        },
+    )
+}
+
+/// What threads find in so many parts, in order.
+fn in_each<T: Drop + Send, F: Fn(usize) -> T + Copy + Send + Sync>(
+    rt: &(impl Threads + Sync),
+    alloc: Global,
+    parts: usize,
+    find: F,
+) -> Result<Vec<T>, AllocError>
+    requires { (i : ℕ) → i < parts → F.pre find i }
+    ensures { IfOk result (λ found. AllZip (λ i one. F.post find i one) (range_with_len 0 parts) found.items) }
+{
+    (0..parts)
         .into_par_iter()
         .with_min_len(1)
-        .map(
-            |i: usize| -> Result<Option<Found>, AllocError>
-                requires { ArePlaces places.now × ((i + 1) * 256 ≤ vec_len places.now.rows) }
-                ensures { IfOk result (λ found. IfSome found (IsFoundInPart (world_of judged.entry.now.setting.now)
-                    judged.entry.now.setting.now.spec judged.entry.now.formula.now judged.entry.now.last
-                    places.entry.now.tree.now places.entry.now.sets.items (i + 1))) }
-            {
-                let found = found_unless(alloc, judged, places, i + 1, failing);
-                tally.add(PART);
-                found
-            },
-        )
+        .map(find)
         .collect(rt, alloc)
 }

@@ -71,7 +71,7 @@ value_of d at s e = value at.nodes (in_rule d at s) e
 
 -- a moment of no step: of it are known how many nodes there are, and the constants
 abbrev pub outside : ℕ → List ℕ → Moment
-outside nodes given = record { nodes = nodes; me = 0; given = given; step = 0; sender = 0; fields = replicate 6 0 }
+outside nodes given = record { nodes = nodes; me = 0; given = given; step = 0; sender = 0; fields = replicate 7 0 }
 
 -- the value of an expression that names constants, nodes and all alone
 abbrev pub fixed_value : ℕ → List ℕ → Term → ℕ

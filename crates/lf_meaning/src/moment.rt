@@ -14,5 +14,5 @@ pub struct Moment {
     /// The node that sent the letter that is heard; 0 where none is.
     pub sender: u32,
     /// The fields of the note that is heard; 0 where none is.
-    pub fields: [u8; 6],
+    pub fields: [u8; 7],
 }

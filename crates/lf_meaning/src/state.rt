@@ -15,10 +15,12 @@ pub struct State {
 }
 
 /// What a node sends: the number of the note's form, and the values of its fields, with 0 from the last field on.
+///
+/// A form has six fields at most. With room for a seventh, which stays 0, a note is eight bytes, and these are copied as one.
 #[derive(Clone, Copy, Debug, PartialEq, Eq, PartialOrd, Ord)]
 pub struct Note {
     pub form: u8,
-    pub fields: [u8; 6],
+    pub fields: [u8; 7],
 }
 
 impl State {

@@ -34,7 +34,7 @@ fn outside(nodes: u32, given: &[u8; 16]) -> Moment
         given: *given,
         step: 0,
         sender: 0,
-        fields: [0; 6],
+        fields: [0; 7],
     }
 }
 

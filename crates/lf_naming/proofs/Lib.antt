@@ -1,3 +1,4 @@
+pub mod Laws
 mod FirstsLemmas
 mod PiecesLemmas
 mod SmallLemmas

@@ -20,6 +20,7 @@ outcomes_of (kinds.Redundant nodes tries) = Delivered ∷ []
 outcomes_of (kinds.TwoPhase nodes patience votes) = Agreement ∷ Unblocked ∷ []
 outcomes_of (kinds.ThreePhase nodes patience votes) = Agreement ∷ Unblocked ∷ []
 outcomes_of (kinds.PrimaryBackup nodes patience) = OnePrimary ∷ Durable ∷ []
+outcomes_of (kinds.Ruled m) = []
 
 -- the one of them that has the word
 abbrev pub outcome_named : Kind → List ℕ → Option Outcome

@@ -32,8 +32,8 @@ pub fn outcome_named(protocol: &Protocol, word: &str) -> Option<Outcome>
 }
 
 /// The outcomes of a protocol.
-fn outcomes(kind: Kind) -> &'static [Outcome]
-    ensures { result.now ≡ outcomes_of kind }
+fn outcomes(kind: &Kind) -> &'static [Outcome]
+    ensures { result.now ≡ outcomes_of kind.now }
 {
     match kind {
         Kind::Retry { .. } | Kind::Redundant { .. } => &[Outcome::Delivered],
@@ -42,6 +42,7 @@ fn outcomes(kind: Kind) -> &'static [Outcome]
             Outcome::Unblocked,
         ],
         Kind::PrimaryBackup { .. } => &[Outcome::OnePrimary, Outcome::Durable],
+        Kind::Ruled(_) => &[],
     }
 }
 

@@ -1,6 +1,6 @@
 -- A step is its parts, one after another.
 use Rattle.std.proofs.Common.{◌≡◌, ℕ, zero, suc, Bool, true, false, cond, nat_eq, List, [], ◌∷◌, refl, ap, sym, ◌∙◌}
-use Rattle.std.specs.Prelude.{fold, nat_le, slice_index_or}
+use Rattle.std.specs.Prelude.{fold, nat_le, slice_index_or, Option, None, Some, map}
 use Rattle.lf_sim.specs.declared.letter.Letter.{Letter}
 use Rattle.lf_sim.specs.declared.out.Out.{Out}
 use Rattle.lf_sim.specs.declared.out.Stepped.{Stepped}
@@ -20,6 +20,12 @@ use Rattle.lf_protocols.specs.CommitTable.{commit_open, commit_poll, commit_part
 use Rattle.lf_protocols.specs.TwoPhaseTable.{two_phase_end, two_phase_step}
 use Rattle.lf_protocols.specs.ThreePhaseTable.{three_phase_hear, three_phase_end, three_phase_join, three_phase_wait, three_phase_step}
 use Rattle.lf_protocols.specs.PrimaryBackupTable.{primary_hear, primary_end, backup_hear, backup_end, client_open, client_hear, primary_backup_step}
+use Rattle.lf_meaning.specs.declared.state.State.{State as Values}
+use Rattle.lf_meaning.specs.declared.state.Note.{Note as Message}
+use Rattle.lf_ruled.specs.Instances.{Instance}
+use Rattle.lf_ruled.specs.Machines as rules
+use Rattle.lf_ruled.specs.Ruleds.{rules_of}
+use Rattle.lf_protocols.specs.RuledTurns.{as_any, as_ruled, any_letter, any_out, ruled_out, any_turn, ruled_turn, begin_by_rules, hear_by_rules, end_by_rules}
 use Rattle.lf_protocols.specs.Protocols.{wrapped, ignored, step_of}
 use Rattle.lf_protocols.specs.Folds.{commit_begin, two_phase_hear_one, two_phase_finish, three_phase_hear_one, three_phase_finish}
 use Rattle.lf_protocols.specs.Folds.{primary_backup_begin, primary_backup_hear_one, primary_backup_finish}
@@ -134,6 +140,51 @@ module _ (nodes patience node t : ℕ) (own : Replica) (xs : List (Letter Note))
       ∙ ap (end_of kind node t) (fold-still (hear_of kind node t) (begin (states.PrimaryBackup own)) (λ x. ap (heard (begin own) x) e) xs)
       ∙ ap (closed (begin own)) e)
 
+-- a protocol of rules: a turn that has been made one of all, and back, is as it was
+back : (x : Option Message) → as_ruled (as_any x) ≡ x
+back None = refl
+back (Some note) = refl
+
+out-back : (o : Out Message) → ruled_out (any_out o) ≡ o
+out-back o = λ i. record {
+  to0 = back o.to0 i;
+  to1 = back o.to1 i;
+  to2 = back o.to2 i;
+  to3 = back o.to3 i;
+  to4 = back o.to4 i;
+  to5 = back o.to5 i;
+  to6 = back o.to6 i;
+  to7 = back o.to7 i;
+}
+
+turn-back : (turn : Stepped Values Message) → ruled_turn turn.state (any_out turn.out) ≡ turn
+turn-back turn = ap (λ o. record { state = turn.state; out = o }) (out-back turn.out)
+
+module _ (m : Instance) (node t : ℕ) where
+  fold-ruled : (turn : Stepped Values Message) (xs : List (Letter Note))
+      → fold (hear_of (kinds.Ruled m) node t) (any_turn turn) xs ≡ any_turn (fold (hear_by_rules m node t) turn xs)
+  fold-ruled turn [] = refl
+  fold-ruled turn (x ∷ xs) =
+      ap (λ own. fold (hear_of (kinds.Ruled m) node t) (any_turn (hear_by_rules m node t own x)) xs) (turn-back turn)
+      ∙ fold-ruled (hear_by_rules m node t turn x) xs
+
+  ruled-folds : (own : Values) (xs : List (Letter Note))
+      → step_of (kinds.Ruled m) node t (states.Ruled own) xs ≡ folded_step (kinds.Ruled m) node t (states.Ruled own) xs
+  ruled-folds own xs =
+      let turned : Stepped Values Message = fold (hear_by_rules m node t) (begin_by_rules m node t own) xs in
+      sym (ap (end_of (kinds.Ruled m) node t) (fold-ruled (begin_by_rules m node t own) xs)
+      ∙ ap (λ turn. any_turn (end_by_rules m node t turn)) (turn-back turned))
+
+  -- letters of rules alone
+  pub fold-own : (turn : Stepped Values Message) (xs : List (Letter Message))
+      → fold (hear_by_rules m node t) turn (map any_letter xs) ≡ fold (rules.hear_of m.definition m.nodes m.given node t) turn xs
+  fold-own turn [] = refl
+  fold-own turn (x ∷ xs) = fold-own (rules.hear_of m.definition m.nodes m.given node t turn x) xs
+
+  pub own-step : (own : Values) (xs : List (Letter Message))
+      → step_of (kinds.Ruled m) node t (states.Ruled own) (map any_letter xs) ≡ any_turn ((rules_of m).step node t own xs)
+  own-step own xs = ap (λ turn. any_turn (end_by_rules m node t turn)) (fold-own (begin_by_rules m node t own) xs)
+
 -- a state that the protocol's table doesn't name stays as it is: its letters change nothing
 still : (k : Kind) (node t : ℕ) (own : State) → ((x : Letter Note) → hear_of k node t (begin own) x ≡ begin own) → (xs : List (Letter Note))
     → end_of k node t (begin own) ≡ end_of k node t (fold (hear_of k node t) (begin own) xs)
@@ -186,3 +237,14 @@ folds (kinds.PrimaryBackup nodes patience) node t (states.ThreePhase own) xs =
     still (kinds.PrimaryBackup nodes patience) node t (states.ThreePhase own) (λ x. refl) xs
 folds (kinds.PrimaryBackup nodes patience) node t (states.PrimaryBackup own) xs =
     backup-folds nodes patience node t own xs (nat_le 3 nodes) refl
+folds (kinds.Retry nodes tries) node t (states.Ruled own) xs = still (kinds.Retry nodes tries) node t (states.Ruled own) (λ x. refl) xs
+folds (kinds.Redundant nodes tries) node t (states.Ruled own) xs = still (kinds.Redundant nodes tries) node t (states.Ruled own) (λ x. refl) xs
+folds (kinds.TwoPhase nodes patience votes) node t (states.Ruled own) xs = still (kinds.TwoPhase nodes patience votes) node t (states.Ruled own) (λ x. refl) xs
+folds (kinds.ThreePhase nodes patience votes) node t (states.Ruled own) xs = still (kinds.ThreePhase nodes patience votes) node t (states.Ruled own) (λ x. refl) xs
+folds (kinds.PrimaryBackup nodes patience) node t (states.Ruled own) xs = still (kinds.PrimaryBackup nodes patience) node t (states.Ruled own) (λ x. refl) xs
+folds (kinds.Ruled m) node t (states.Retry own) xs = still (kinds.Ruled m) node t (states.Retry own) (λ x. refl) xs
+folds (kinds.Ruled m) node t (states.Redundant own) xs = still (kinds.Ruled m) node t (states.Redundant own) (λ x. refl) xs
+folds (kinds.Ruled m) node t (states.TwoPhase own) xs = still (kinds.Ruled m) node t (states.TwoPhase own) (λ x. refl) xs
+folds (kinds.Ruled m) node t (states.ThreePhase own) xs = still (kinds.Ruled m) node t (states.ThreePhase own) (λ x. refl) xs
+folds (kinds.Ruled m) node t (states.PrimaryBackup own) xs = still (kinds.Ruled m) node t (states.PrimaryBackup own) (λ x. refl) xs
+folds (kinds.Ruled m) node t (states.Ruled own) xs = ruled-folds m node t own xs

@@ -2,7 +2,7 @@
 use Rattle.std.specs.Prelude.{Bool, true, false}
 use Rattle.lf_protocols.specs.declared.fact.Fact.{Fact}
 use Rattle.lf_protocols.specs.declared.fact.Fact.TheVariants.{Has, Lacks, Committed, NotCommitted, Aborted, NotAborted, Blocked, Free}
-use Rattle.lf_protocols.specs.declared.fact.Fact.TheVariants.{Holds, Empty, Done, NotDone, Primary, Backup, Claimed, Unclaimed}
+use Rattle.lf_protocols.specs.declared.fact.Fact.TheVariants.{Holds, Empty, Done, NotDone, Primary, Backup, Claimed, Unclaimed, Ruled}
 
 -- the one of its pair that says that something is not so. A state that knows nothing of a pair shows this one
 abbrev pub is_denial : Fact → Bool
@@ -22,3 +22,4 @@ is_denial Primary = false
 is_denial Backup = true
 is_denial Claimed = false
 is_denial Unclaimed = true
+is_denial (Ruled fact) = fact.denied

@@ -17,6 +17,7 @@ use Rattle.lf_protocols.specs.CommitTable.{commit_open, commit_poll, commit_part
 use Rattle.lf_protocols.specs.TwoPhaseTable.{two_phase_end}
 use Rattle.lf_protocols.specs.ThreePhaseTable.{three_phase_hear, three_phase_end, three_phase_join, three_phase_wait}
 use Rattle.lf_protocols.specs.PrimaryBackupTable.{primary_hear, primary_end, backup_hear, backup_end, client_open, client_hear}
+use Rattle.lf_protocols.specs.RuledTurns.{any_turn, ruled_turn, begin_by_rules, hear_by_rules, end_by_rules}
 use Rattle.lf_protocols.specs.Protocols.{wrapped}
 
 -- a commit, before the inbox
@@ -64,6 +65,7 @@ begin_of (kinds.TwoPhase nodes patience votes) node t (states.TwoPhase own) = wr
 begin_of (kinds.ThreePhase nodes patience votes) node t (states.ThreePhase own) = wrapped states.ThreePhase (commit_begin nodes node t own)
 begin_of (kinds.PrimaryBackup nodes patience) node t (states.PrimaryBackup own) =
     if nat_le 3 nodes then wrapped states.PrimaryBackup (primary_backup_begin node t own) else begin (states.PrimaryBackup own)
+begin_of (kinds.Ruled m) node t (states.Ruled own) = any_turn (begin_by_rules m node t own)
 begin_of k node t own = begin own
 
 -- with a letter, from the state and the notes that it has come to
@@ -79,6 +81,7 @@ heard_of (kinds.PrimaryBackup nodes patience) node t (states.PrimaryBackup own) 
     if nat_le 3 nodes
     then wrapped states.PrimaryBackup (primary_backup_hear_one node t (record { state = own; out = out }) letter)
     else record { state = states.PrimaryBackup own; out = out }
+heard_of (kinds.Ruled m) node t (states.Ruled own) out letter = any_turn (hear_by_rules m node t (ruled_turn own out) letter)
 heard_of k node t own out letter = record { state = own; out = out }
 
 abbrev pub hear_of : Kind → ℕ → ℕ → Stepped State Note → Letter Note → Stepped State Note
@@ -96,6 +99,7 @@ ended_of (kinds.PrimaryBackup nodes patience) node t (states.PrimaryBackup own) 
     if nat_le 3 nodes
     then wrapped states.PrimaryBackup (primary_backup_finish nodes patience node t (record { state = own; out = out }))
     else record { state = states.PrimaryBackup own; out = out }
+ended_of (kinds.Ruled m) node t (states.Ruled own) out = any_turn (end_by_rules m node t (ruled_turn own out))
 ended_of k node t own out = record { state = own; out = out }
 
 abbrev pub end_of : Kind → ℕ → ℕ → Stepped State Note → Stepped State Note

@@ -11,6 +11,7 @@ pub mod ThreePhaseTable
 pub mod PrimaryBackupTable
 pub mod Letters
 pub mod Deliveries
+pub mod RuledTurns
 pub mod Protocols
 pub mod ProtocolsLemmas
 pub mod Folds

@@ -1,7 +1,7 @@
 -- The limits of the protocols' settings.
 use Rattle.std.specs.Prelude.{ℕ, ◌≤◌, Bool, true, IsTrue, List, All, drop, slice_index_or}
 use Rattle.lf_protocols.specs.declared.protocol.Kind.{Kind}
-use Rattle.lf_protocols.specs.declared.protocol.Kind.TheVariants.{Retry, Redundant, TwoPhase, ThreePhase, PrimaryBackup}
+use Rattle.lf_protocols.specs.declared.protocol.Kind.TheVariants.{Retry, Redundant, TwoPhase, ThreePhase, PrimaryBackup, Ruled}
 
 -- 2 to 8 nodes, and 1 to 48 tries
 abbrev pub IsDelivery : ℕ → ℕ → Type 0
@@ -25,3 +25,4 @@ IsWithinLimits (Redundant nodes tries) = IsDelivery nodes tries
 IsWithinLimits (TwoPhase nodes patience votes) = IsCommit nodes patience votes
 IsWithinLimits (ThreePhase nodes patience votes) = IsCommit nodes patience votes
 IsWithinLimits (PrimaryBackup nodes patience) = IsBackup nodes patience
+IsWithinLimits (Ruled m) = (2 ≤ m.nodes) × (m.nodes ≤ 8)

@@ -10,6 +10,10 @@ use Rattle.lf_protocols.specs.declared.state.State.{State}
 use Rattle.lf_protocols.specs.declared.state.State.TheVariants as states
 use Rattle.lf_protocols.specs.declared.note.Note.{Note}
 use Rattle.lf_protocols.specs.declared.fact.Fact.{Fact}
+use Rattle.lf_ruled.specs.Machines as rules
+use Rattle.lf_protocols.specs.declared.fact.Fact.TheVariants as facts
+use Rattle.lf_protocols.specs.Facts.{is_denial}
+use Rattle.lf_protocols.specs.RuledTurns.{any_turn, step_by_rules}
 use Rattle.lf_protocols.specs.RetryTable.{retry_start, retry_step, retry_shows}
 use Rattle.lf_protocols.specs.RedundantTable.{redundant_start, redundant_step, redundant_shows}
 use Rattle.lf_protocols.specs.CommitTable.{commit_start, commit_wake, commit_shows}
@@ -23,6 +27,7 @@ nodes_of (kinds.Redundant nodes tries) = nodes
 nodes_of (kinds.TwoPhase nodes patience votes) = nodes
 nodes_of (kinds.ThreePhase nodes patience votes) = nodes
 nodes_of (kinds.PrimaryBackup nodes patience) = nodes
+nodes_of (kinds.Ruled m) = m.nodes
 
 abbrev pub start_of : Kind → ℕ → State
 start_of (kinds.Retry nodes tries) node = states.Retry (retry_start node)
@@ -30,6 +35,7 @@ start_of (kinds.Redundant nodes tries) node = states.Redundant (redundant_start 
 start_of (kinds.TwoPhase nodes patience votes) node = states.TwoPhase commit_start
 start_of (kinds.ThreePhase nodes patience votes) node = states.ThreePhase commit_start
 start_of (kinds.PrimaryBackup nodes patience) node = states.PrimaryBackup (primary_backup_start node)
+start_of (kinds.Ruled m) node = states.Ruled (rules.start_of m.definition m.nodes m.given node)
 
 -- a step of one protocol, its state made one of all protocols
 abbrev pub wrapped : {Own : Type 0} → (Own → State) → Stepped Own Note → Stepped State Note
@@ -52,29 +58,42 @@ step_of (kinds.PrimaryBackup nodes patience) node t (states.PrimaryBackup own) i
     if nat_le 3 nodes
     then wrapped states.PrimaryBackup (primary_backup_step nodes patience node t own inbox)
     else ignored (states.PrimaryBackup own)
+step_of (kinds.Ruled m) node t (states.Ruled own) inbox = any_turn (step_by_rules m node t own inbox)
 step_of k node t other inbox = ignored other
 
--- what a state is after a pause, where its node goes on at step t
+-- what a state of a shipped protocol is after a pause, where its node goes on at step t
 abbrev pub state_wake : ℕ → State → State
 state_wake t (states.Retry own) = states.Retry own
 state_wake t (states.Redundant own) = states.Redundant own
 state_wake t (states.TwoPhase own) = states.TwoPhase (commit_wake t own)
 state_wake t (states.ThreePhase own) = states.ThreePhase (commit_wake t own)
 state_wake t (states.PrimaryBackup own) = states.PrimaryBackup (primary_backup_wake t own)
+state_wake t (states.Ruled own) = states.Ruled own
 
--- whether a state shows a fact
+-- of rules by the protocol, which says what a node keeps
+abbrev pub wake_of : Kind → ℕ → ℕ → State → State
+wake_of (kinds.Ruled m) node t (states.Ruled own) = states.Ruled (rules.wake_of m.definition m.nodes m.given node t own)
+wake_of k node t last = state_wake t last
+
+-- whether a state of a shipped protocol shows a fact
 abbrev pub state_shows : State → Fact → Bool
 state_shows (states.Retry own) fact = retry_shows own fact
 state_shows (states.Redundant own) fact = redundant_shows own fact
 state_shows (states.TwoPhase own) fact = commit_shows own.phase fact
 state_shows (states.ThreePhase own) fact = commit_shows own.phase fact
 state_shows (states.PrimaryBackup own) fact = primary_backup_shows own fact
+state_shows (states.Ruled own) fact = is_denial fact
+
+-- of rules by the protocol, which says what its facts are
+abbrev pub shows_of : Kind → ℕ → State → Fact → Bool
+shows_of (kinds.Ruled m) node (states.Ruled own) (facts.Ruled fact) = rules.shows_of m.definition m.nodes m.given node own fact
+shows_of k node last fact = state_shows last fact
 
 abbrev pub rules_of : Kind → Rules State Note Fact
 rules_of k = record {
   nodes = nodes_of k;
   start = start_of k;
   step = step_of k;
-  wake = λ node t last. state_wake t last;
-  shows = λ node last fact. state_shows last fact;
+  wake = wake_of k;
+  shows = shows_of k;
 }

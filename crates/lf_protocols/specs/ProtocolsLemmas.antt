@@ -1,6 +1,6 @@
 -- No node of a protocol sends to itself, or past the nodes. The machine cites this where it shows its law `silent`, and may
 -- cite nothing of `proofs`, so it stands here.
-use Rattle.std.proofs.Common.{◌≡◌, ℕ, ◌+◌, ◌<◌, ◌≤◌, Bool, true, false, not, ◌||◌, cond, nat_eq, List, sym, ◌∙◌, subst, arith, inl, inr}
+use Rattle.std.proofs.Common.{◌≡◌, ℕ, ◌+◌, ◌<◌, ◌≤◌, Bool, true, false, not, ◌||◌, cond, nat_eq, List, refl, ap, sym, ◌∙◌, subst, arith, inl, inr}
 use Rattle.std.specs.Prelude.{◌⊎◌, ◌≢◌, ◌&&◌, nat_le, nat_lt, Option, None, fold, slice_index_or}
 use Rattle.std.proofs.lemmas.Bool.{cases_lt, cond_both, eqb-false, eqb-true, leb-true}
 use Rattle.std.proofs.lemmas.List.Folds.{fold_along}
@@ -31,6 +31,11 @@ use Rattle.lf_protocols.specs.TwoPhaseTable.{two_phase_end}
 use Rattle.lf_protocols.specs.ThreePhaseTable.{three_phase_hear, three_phase_end, three_phase_join, three_phase_wait}
 use Rattle.lf_protocols.specs.PrimaryBackupTable.{primary_hear, is_repl, backup_hear, claim, client_open, client_hear}
 use Rattle.lf_protocols.specs.PrimaryBackupTable.{primary_step, backup_step, client_step, primary_backup_step}
+use Rattle.lf_meaning.specs.declared.state.State.{State as Values}
+use Rattle.lf_meaning.specs.declared.state.Note.{Note as Message}
+use Rattle.lf_ruled.specs.Instances.{Instance}
+use Rattle.lf_ruled.specs.RuledLemmas.{fold-keeps, IsCalm, begun-calm, heard-calm, ended-calm}
+use Rattle.lf_protocols.specs.RuledTurns.{as_any, any_out, begin_by_rules, hear_note, hear_by_rules, step_by_rules}
 use Rattle.lf_protocols.specs.Protocols.{nodes_of, wrapped, ignored, step_of}
 
 -- the node itself and the numbers past the nodes are none of the other nodes
@@ -226,6 +231,30 @@ module _ (nodes patience node t to : ℕ) (enough : 3 ≤ nodes) (below : node <
       (λ later. cond_both (nat_eq node 1) backup client (IsQuiet to)
       (λ second. backup-quiet (eqb-true node 1 second)) (λ past. client-quiet (eqb-false node 0 later)))
 
+-- a protocol of rules: a note for nobody is none as one of all
+any-chosen : (b : Bool) (x y : Option Message) (z : Option Note) → as_any y ≡ z → as_any (cond b x y) ≡ cond b (as_any x) z
+any-chosen true x y z e = refl
+any-chosen false x y z e = e
+
+any-to : (o : Out Message) (m : ℕ) → as_any (note_to o m) ≡ note_to (any_out o) m
+any-to o m =
+    any-chosen (nat_eq m 0) o.to0 _ _ (any-chosen (nat_eq m 1) o.to1 _ _ (any-chosen (nat_eq m 2) o.to2 _ _ (any-chosen (nat_eq m 3) o.to3 _ _
+    (any-chosen (nat_eq m 4) o.to4 _ _ (any-chosen (nat_eq m 5) o.to5 _ _ (any-chosen (nat_eq m 6) o.to6 _ _ (any-chosen (nat_eq m 7) o.to7 _ _ refl)))))))
+
+module _ (m : Instance) (n t : ℕ) where
+  abbrev IsStill : Stepped Values Message → Type 0
+  IsStill = IsCalm m.definition m.nodes m.given n t
+
+  note-calm : (turn : Stepped Values Message) (from sent : ℕ) (note : Note) → IsStill turn → IsStill (hear_note m n t turn from sent note)
+  note-calm turn from sent (notes.Ruled note) calm = heard-calm m.definition m.nodes m.given n t turn (record { from = from; sent = sent; note = note }) calm
+  note-calm turn from sent other calm = calm
+
+  stepped-calm : (own : Values) (inbox : List (Letter Note)) → IsStill (step_by_rules m n t own inbox)
+  stepped-calm own inbox =
+      ended-calm m.definition m.nodes m.given n t (fold (hear_by_rules m n t) (begin_by_rules m n t own) inbox)
+      (fold-keeps IsStill (hear_by_rules m n t) (λ turn letter calm. note-calm turn letter.from letter.sent letter.note calm)
+      (begin_by_rules m n t own) inbox (begun-calm m.definition m.nodes m.given n t own))
+
 pub rules_of-silent : (k : Kind) (n t to : ℕ) (own : State) (inbox : List (Letter Note)) → n < nodes_of k →
     (to ≡ n) ⊎ (nodes_of k ≤ to) → note_to (step_of k n t own inbox).out to ≡ None
 rules_of-silent (kinds.Retry nodes tries) n t to (states.Retry own) inbox below nobody =
@@ -253,4 +282,6 @@ rules_of-silent (kinds.PrimaryBackup nodes patience) n t to (states.PrimaryBacku
     (wrapped states.PrimaryBackup (primary_backup_step nodes patience n t own inbox)) (ignored (states.PrimaryBackup own)) (IsQuiet to)
     (λ enough. primary_backup-quiet nodes patience n t to (leb-true 3 nodes enough) below nobody own inbox)
     (λ few. note_to-nothing to)
+rules_of-silent (kinds.Ruled m) n t to (states.Ruled own) inbox below nobody =
+    sym (any-to (step_by_rules m n t own inbox).out to) ∙ ap as_any ((stepped-calm m n t own inbox).none to nobody)
 rules_of-silent k n t to other inbox below nobody = note_to-nothing to

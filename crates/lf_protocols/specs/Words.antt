@@ -1,5 +1,5 @@
--- The words of notes, facts and states, and which facts each protocol has.
-use Rattle.std.specs.Prelude.{ℕ, if◌then◌else◌, List, [], ◌∷◌, ◌++◌, Option, codes, find}
+-- The words of notes, facts and states, and which facts each protocol has. What a protocol of rules shows has its words by that protocol.
+use Rattle.std.specs.Prelude.{ℕ, if◌then◌else◌, List, [], ◌∷◌, ◌++◌, Option, codes, find, map}
 use Rattle.std.specs.Str.{bytes_eq}
 use Rattle.lf_protocols.specs.declared.note.Note.{Note}
 use Rattle.lf_protocols.specs.declared.note.Note.TheVariants as notes
@@ -14,6 +14,9 @@ use Rattle.lf_protocols.specs.declared.state.Phase.TheVariants as phases
 use Rattle.lf_protocols.specs.declared.state.Replica.{Replica}
 use Rattle.lf_protocols.specs.declared.protocol.Kind.{Kind}
 use Rattle.lf_protocols.specs.declared.protocol.Kind.TheVariants as kinds
+use Rattle.lf_naming.specs.Names as names
+use Rattle.lf_naming.specs.Texts as texts
+use Rattle.lf_naming.specs.Facts as named
 
 abbrev pub note_word : Note → List ℕ
 note_word notes.Payload = codes "data"
@@ -29,6 +32,7 @@ note_word notes.Repl = codes "repl"
 note_word notes.Done = codes "done"
 note_word notes.Beat = codes "beat"
 note_word notes.Claim = codes "claim"
+note_word (notes.Ruled note) = []
 
 abbrev pub fact_word : Fact → List ℕ
 fact_word facts.Has = codes "has"
@@ -47,6 +51,7 @@ fact_word facts.Primary = codes "primary"
 fact_word facts.Backup = codes "backup"
 fact_word facts.Claimed = codes "claimed"
 fact_word facts.Unclaimed = codes "unclaimed"
+fact_word (facts.Ruled fact) = []
 
 abbrev pub phase_word : Phase → List ℕ
 phase_word phases.Idle = codes "idle"
@@ -73,6 +78,7 @@ state_text (states.Redundant relays.Lacks) = codes "lacks"
 state_text (states.TwoPhase own) = phase_word own.phase
 state_text (states.ThreePhase own) = phase_word own.phase
 state_text (states.PrimaryBackup own) = replica_text own
+state_text (states.Ruled own) = []
 
 -- the facts of a delivery, of a commit and of a replica
 abbrev pub delivery_facts : List Fact
@@ -94,7 +100,22 @@ facts_of (kinds.Redundant nodes tries) = delivery_facts
 facts_of (kinds.TwoPhase nodes patience votes) = commit_facts
 facts_of (kinds.ThreePhase nodes patience votes) = commit_facts
 facts_of (kinds.PrimaryBackup nodes patience) = replica_facts
+facts_of (kinds.Ruled m) = map facts.Ruled (named.facts_of m.definition)
 
--- the one of them that has the word
+-- the text of a note, and of a state, in a trace of the protocol
+abbrev pub note_text : Kind → Note → List ℕ
+note_text (kinds.Ruled m) (notes.Ruled note) = texts.note_text m.definition note
+note_text k note = note_word note
+
+abbrev pub standing_text : Kind → State → List ℕ
+standing_text (kinds.Ruled m) (states.Ruled own) = texts.state_text m.definition own
+standing_text k own = state_text own
+
+-- the name of a fact of the protocol
+abbrev pub fact_name : Kind → Fact → List ℕ
+fact_name (kinds.Ruled m) (facts.Ruled fact) = names.fact_name m.definition fact
+fact_name k fact = fact_word fact
+
+-- the one of its facts that has the name
 abbrev pub fact_named : Kind → List ℕ → Option Fact
-fact_named k word = find (λ f. bytes_eq word (fact_word f)) (facts_of k)
+fact_named k word = find (λ f. bytes_eq word (fact_name k f)) (facts_of k)

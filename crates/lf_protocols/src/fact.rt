@@ -39,6 +39,8 @@ pub enum Fact {
     Claimed,
     /// The opposite of `Claimed`.
     Unclaimed,
+    /// A fact of a protocol of rules.
+    Ruled(lf_ruled::Fact),
 }
 
 impl Fact {
@@ -63,6 +65,7 @@ impl Fact {
             Fact::Backup => "backup",
             Fact::Claimed => "claimed",
             Fact::Unclaimed => "unclaimed",
+            Fact::Ruled(_) => "",
         }
     }
 
@@ -75,6 +78,7 @@ impl Fact {
             Fact::Holds | Fact::Done | Fact::Primary | Fact::Claimed => false,
             Fact::Lacks | Fact::NotCommitted | Fact::NotAborted | Fact::Free => true,
             Fact::Empty | Fact::NotDone | Fact::Backup | Fact::Unclaimed => true,
+            Fact::Ruled(fact) => fact.denied,
         }
     }
 }

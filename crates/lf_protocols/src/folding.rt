@@ -1,16 +1,23 @@
 //! A step of a node in its parts: before its inbox, with each letter, and after its inbox.
 
-ghost use Rattle.std.specs.Prelude.{◌≡◌, ℕ, ◌<◌, List};
+ghost use Rattle.std.specs.Prelude.{◌≡◌, ℕ, ◌<◌, List, map};
 ghost use Rattle.lf_sim.specs.declared.letter.Letter.{Letter};
 ghost use Rattle.lf_protocols.specs.declared.note.Note.{Note};
 ghost use Rattle.lf_protocols.specs.declared.protocol.Kind.{Kind};
 ghost use Rattle.lf_protocols.specs.declared.state.State.{State};
 ghost use Rattle.lf_protocols.specs.Folds.{begin_of, hear_of, end_of, folded_step};
-ghost use Rattle.lf_protocols.specs.Protocols.{step_of};
+ghost use Rattle.lf_meaning.specs.declared.state.State.{State as Values};
+ghost use Rattle.lf_meaning.specs.declared.state.Note.{Note as Message};
+ghost use Rattle.lf_ruled.specs.declared.fact.Fact.{Fact as Told};
+ghost use Rattle.lf_ruled.specs.Instances.{Instance};
+ghost use Rattle.lf_ruled.specs.Ruleds.{rules_of};
+ghost use Rattle.lf_protocols.specs.declared.fact.Fact.{Fact};
+ghost use Rattle.lf_protocols.specs.RuledTurns.{any_letter, any_turn};
+ghost use Rattle.lf_protocols.specs.Protocols.{nodes_of, start_of, step_of, wake_of, shows_of};
 
 use crate::{
-    Kind, Note, Protocol, State, commit, primary_backup, redundant, retry, three_phase, turns,
-    two_phase,
+    Kind, Note, Protocol, State, commit, primary_backup, redundant, retry, ruled, three_phase,
+    turns, two_phase,
 };
 use lf_sim::{Letter, Stepped};
 
@@ -21,14 +28,14 @@ impl Protocol {
     {
         match (self.kind(), state) {
             (Kind::TwoPhase { nodes, .. }, State::TwoPhase(own)) => {
-                let turn = commit::begin(nodes, node, t, own);
+                let turn = commit::begin(*nodes, node, t, own);
                 Stepped {
                     state: State::TwoPhase(turn.state),
                     out: turn.out,
                 }
             }
             (Kind::ThreePhase { nodes, .. }, State::ThreePhase(own)) => {
-                let turn = commit::begin(nodes, node, t, own);
+                let turn = commit::begin(*nodes, node, t, own);
                 Stepped {
                     state: State::ThreePhase(turn.state),
                     out: turn.out,
@@ -41,6 +48,7 @@ impl Protocol {
                     out: turn.out,
                 }
             }
+            (Kind::Ruled(rules), State::Ruled(own)) => ruled::begin(rules, node, t, own),
             (_, other) => turns::begin(other),
         }
     }
@@ -67,7 +75,7 @@ impl Protocol {
                 out,
             },
             (Kind::TwoPhase { votes, .. }, State::TwoPhase(own)) => {
-                let heard = two_phase::hear(votes, node, t, Stepped { state: own, out }, letter);
+                let heard = two_phase::hear(*votes, node, t, Stepped { state: own, out }, letter);
                 Stepped {
                     state: State::TwoPhase(heard.state),
                     out: heard.out,
@@ -75,7 +83,7 @@ impl Protocol {
             }
             (Kind::ThreePhase { votes, .. }, State::ThreePhase(own)) => {
                 let own = Stepped { state: own, out };
-                let heard = three_phase::hear_one(votes, node, t, own, letter);
+                let heard = three_phase::hear_one(*votes, node, t, own, letter);
                 Stepped {
                     state: State::ThreePhase(heard.state),
                     out: heard.out,
@@ -87,6 +95,9 @@ impl Protocol {
                     state: State::PrimaryBackup(heard.state),
                     out: heard.out,
                 }
+            }
+            (Kind::Ruled(rules), State::Ruled(own)) => {
+                ruled::hear(rules, node, t, own, out, letter)
             }
             (_, other) => Stepped { state: other, out },
         }
@@ -100,10 +111,10 @@ impl Protocol {
         match (self.kind(), state) {
             (Kind::Retry { nodes, tries }, State::Retry(own)) => Stepped {
                 state: State::Retry(own),
-                out: retry::send(nodes, tries, node, t),
+                out: retry::send(*nodes, *tries, node, t),
             },
             (Kind::Redundant { nodes, tries }, State::Redundant(own)) => {
-                let sent = redundant::send(nodes, tries, node, own);
+                let sent = redundant::send(*nodes, *tries, node, own);
                 Stepped {
                     state: State::Redundant(sent.state),
                     out: sent.out,
@@ -118,7 +129,7 @@ impl Protocol {
                 State::TwoPhase(own),
             ) => {
                 let own = Stepped { state: own, out };
-                let done = two_phase::finish(nodes, patience, node, t, own);
+                let done = two_phase::finish(*nodes, *patience, node, t, own);
                 Stepped {
                     state: State::TwoPhase(done.state),
                     out: done.out,
@@ -133,7 +144,7 @@ impl Protocol {
                 State::ThreePhase(own),
             ) => {
                 let own = Stepped { state: own, out };
-                let done = three_phase::finish(nodes, patience, node, t, own);
+                let done = three_phase::finish(*nodes, *patience, node, t, own);
                 Stepped {
                     state: State::ThreePhase(done.state),
                     out: done.out,
@@ -141,16 +152,29 @@ impl Protocol {
             }
             (Kind::PrimaryBackup { nodes, patience }, State::PrimaryBackup(own)) => {
                 let own = Stepped { state: own, out };
-                let done = primary_backup::finish(nodes, patience, node, t, own);
+                let done = primary_backup::finish(*nodes, *patience, node, t, own);
                 Stepped {
                     state: State::PrimaryBackup(done.state),
                     out: done.out,
                 }
             }
+            (Kind::Ruled(rules), State::Ruled(own)) => ruled::end(rules, node, t, own, out),
             (_, other) => Stepped { state: other, out },
         }
     }
 }
+
+/// A protocol of rules among the others does what its machine does alone.
+pub fn rules_do_as_their_machine()
+    ensures nodes { (m : Instance) → nodes_of (Kind.Ruled m) ≡ (rules_of m).nodes }
+    ensures start { (m : Instance) (node : ℕ) → start_of (Kind.Ruled m) node ≡ State.Ruled ((rules_of m).start node) }
+    ensures step { (m : Instance) (node t : ℕ) (own : Values) (inbox : List (Letter Message)) →
+        step_of (Kind.Ruled m) node t (State.Ruled own) (map any_letter inbox) ≡ any_turn ((rules_of m).step node t own inbox) }
+    ensures wake { (m : Instance) (node t : ℕ) (own : Values) →
+        wake_of (Kind.Ruled m) node t (State.Ruled own) ≡ State.Ruled ((rules_of m).wake node t own) }
+    ensures shows { (m : Instance) (node : ℕ) (own : Values) (fact : Told) →
+        shows_of (Kind.Ruled m) node (State.Ruled own) (Fact.Ruled fact) ≡ (rules_of m).shows node own fact }
+{}
 
 /// A step is what a node does before its inbox, with each letter in inbox order, and after its inbox.
 pub fn steps_are_folds()

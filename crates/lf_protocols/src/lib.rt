@@ -16,13 +16,15 @@ mod primary_backup;
 mod protocol;
 mod redundant;
 mod retry;
+mod ruled;
 mod state;
 mod three_phase;
 mod turns;
 mod two_phase;
+mod words;
 
 pub use fact::Fact;
-pub use folding::steps_are_folds;
+pub use folding::{rules_do_as_their_machine, steps_are_folds};
 pub use laws::{
     claims_are_heard, facts_are_opposites, prepared_gives_up, prepared_waits, redundant_delivers,
     retry_delivers,

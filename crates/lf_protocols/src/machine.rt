@@ -1,10 +1,11 @@
 //! The protocols as machines.
 
-ghost use Rattle.std.specs.Prelude.{◌≡◌};
+ghost use Rattle.std.specs.Prelude.{◌≡◌, ◌<◌};
+ghost use Rattle.lf_protocols.specs.Protocols.{nodes_of, shows_of};
 
 use crate::{
-    Fact, Kind, Note, Protocol, State, commit, primary_backup, redundant, retry, three_phase,
-    two_phase,
+    Fact, Kind, Note, Protocol, State, commit, primary_backup, redundant, retry, ruled,
+    three_phase, two_phase,
 };
 use lf_sim::{Letter, Machine, Out, Stepped};
 
@@ -22,9 +23,10 @@ impl Machine for Protocol {
 
     fn nodes(&self) -> u32 {
         match self.kind() {
-            Kind::Retry { nodes, .. } | Kind::Redundant { nodes, .. } => nodes,
-            Kind::TwoPhase { nodes, .. } | Kind::ThreePhase { nodes, .. } => nodes,
-            Kind::PrimaryBackup { nodes, .. } => nodes,
+            Kind::Retry { nodes, .. } | Kind::Redundant { nodes, .. } => *nodes,
+            Kind::TwoPhase { nodes, .. } | Kind::ThreePhase { nodes, .. } => *nodes,
+            Kind::PrimaryBackup { nodes, .. } => *nodes,
+            Kind::Ruled(ruled) => ruled.nodes(),
         }
     }
 
@@ -35,6 +37,7 @@ impl Machine for Protocol {
             Kind::TwoPhase { .. } => State::TwoPhase(commit::start()),
             Kind::ThreePhase { .. } => State::ThreePhase(commit::start()),
             Kind::PrimaryBackup { .. } => State::PrimaryBackup(primary_backup::start(node)),
+            Kind::Ruled(ruled) => State::Ruled(ruled.start(node)),
         }
     }
 
@@ -49,13 +52,13 @@ impl Machine for Protocol {
             (Kind::Retry { nodes, tries }, State::Retry(holding)) => {
                 wrapped(
                     State::Retry,
-                    retry::step(nodes, tries, node, t, holding, inbox),
+                    retry::step(*nodes, *tries, node, t, holding, inbox),
                 )
             }
             (Kind::Redundant { nodes, tries }, State::Redundant(relay)) => {
                 wrapped(
                     State::Redundant,
-                    redundant::step(nodes, tries, node, relay, inbox),
+                    redundant::step(*nodes, *tries, node, relay, inbox),
                 )
             }
             (
@@ -67,7 +70,7 @@ impl Machine for Protocol {
                 State::TwoPhase(progress),
             ) => wrapped(
                 State::TwoPhase,
-                two_phase::step(nodes, patience, votes, node, t, progress, inbox),
+                two_phase::step(*nodes, *patience, *votes, node, t, progress, inbox),
             ),
             (
                 Kind::ThreePhase {
@@ -78,14 +81,15 @@ impl Machine for Protocol {
                 State::ThreePhase(progress),
             ) => wrapped(
                 State::ThreePhase,
-                three_phase::step(nodes, patience, votes, node, t, progress, inbox),
+                three_phase::step(*nodes, *patience, *votes, node, t, progress, inbox),
             ),
             (Kind::PrimaryBackup { nodes, patience }, State::PrimaryBackup(replica)) => {
                 wrapped(
                     State::PrimaryBackup,
-                    primary_backup::step(nodes, patience, node, t, replica, inbox),
+                    primary_backup::step(*nodes, *patience, node, t, replica, inbox),
                 )
             }
+            (Kind::Ruled(rules), State::Ruled(own)) => ruled::step(rules, node, t, own, inbox),
             (_, other) => Stepped {
                 state: other,
                 out: Out::none(),
@@ -93,8 +97,65 @@ impl Machine for Protocol {
         }
     }
 
-    fn wake(&self, _node: u32, t: u32, state: State) -> State {
+    fn put_step(
+        &self,
+        node: u32,
+        t: u32,
+        state: State,
+        inbox: &[Letter<Note>],
+        turns: &mut Vec<Stepped<State, Note>>,
+    ) {
+        match (self.kind(), state) {
+            (Kind::Retry { nodes, tries }, State::Retry(holding)) => {
+                let turn = retry::step(*nodes, *tries, node, t, holding, inbox);
+                turns.push_reserved(wrapped(State::Retry, turn));
+            }
+            (Kind::Redundant { nodes, tries }, State::Redundant(relay)) => {
+                let turn = redundant::step(*nodes, *tries, node, relay, inbox);
+                turns.push_reserved(wrapped(State::Redundant, turn));
+            }
+            (
+                Kind::TwoPhase {
+                    nodes,
+                    patience,
+                    votes,
+                },
+                State::TwoPhase(progress),
+            ) => {
+                let turn = two_phase::step(*nodes, *patience, *votes, node, t, progress, inbox);
+                turns.push_reserved(wrapped(State::TwoPhase, turn));
+            }
+            (
+                Kind::ThreePhase {
+                    nodes,
+                    patience,
+                    votes,
+                },
+                State::ThreePhase(progress),
+            ) => {
+                let turn = three_phase::step(*nodes, *patience, *votes, node, t, progress, inbox);
+                turns.push_reserved(wrapped(State::ThreePhase, turn));
+            }
+            (Kind::PrimaryBackup { nodes, patience }, State::PrimaryBackup(replica)) => {
+                let turn = primary_backup::step(*nodes, *patience, node, t, replica, inbox);
+                turns.push_reserved(wrapped(State::PrimaryBackup, turn));
+            }
+            (Kind::Ruled(rules), State::Ruled(own)) => {
+                turns.push_reserved(ruled::step(rules, node, t, own, inbox));
+            }
+            (_, other) => turns.push_reserved(Stepped {
+                state: other,
+                out: Out::none(),
+            }),
+        }
+    }
+
+    fn wake(&self, node: u32, t: u32, state: State) -> State {
         match state {
+            State::Ruled(own) => match self.kind() {
+                Kind::Ruled(ruled) => State::Ruled(ruled.wake(node, t, own)),
+                _ => state,
+            },
             State::Retry(_) | State::Redundant(_) => state,
             State::TwoPhase(progress) => State::TwoPhase(commit::wake(t, progress)),
             State::ThreePhase(progress) => State::ThreePhase(commit::wake(t, progress)),
@@ -102,8 +163,9 @@ impl Machine for Protocol {
         }
     }
 
-    fn shows(&self, _node: u32, state: State, fact: Fact) -> bool {
+    fn shows(&self, node: u32, state: State, fact: Fact) -> bool {
         match state {
+            State::Ruled(own) => self.shows_by_rules(node, own, fact),
             State::Retry(holding) => retry::shows(holding, fact),
             State::Redundant(relay) => redundant::shows(relay, fact),
             State::TwoPhase(progress) | State::ThreePhase(progress) => commit::shows(
@@ -114,6 +176,19 @@ impl Machine for Protocol {
     }
 
     ghost silent = { λ kind n t to state inbox node first last nobody. rules_of-silent kind n t to state inbox node nobody };
+}
+
+impl Protocol {
+    /// Whether a state of rules shows a fact. It knows only facts of rules, and of others says what a state says that knows nothing of them.
+    fn shows_by_rules(&self, node: u32, state: lf_meaning::State, fact: Fact) -> bool
+        requires { node < nodes_of self.now }
+        ensures { result ≡ shows_of self.now node (State.Ruled state) fact }
+    {
+        match (self.kind(), fact) {
+            (Kind::Ruled(ruled), Fact::Ruled(fact)) => ruled.shows(node, state, fact),
+            (_, other) => other.is_denial(),
+        }
+    }
 }
 
 /// A turn of one protocol, as one of any: `wrap` makes that protocol's state one of any.

@@ -32,6 +32,8 @@ pub enum Note {
     Beat,
     /// Of a replica: the sender is the primary from now on.
     Claim,
+    /// A note of a protocol of rules.
+    Ruled(lf_meaning::Note),
 }
 
 impl Note {
@@ -53,6 +55,7 @@ impl Note {
             Note::Done => "done",
             Note::Beat => "beat",
             Note::Claim => "claim",
+            Note::Ruled(_) => "",
         }
     }
 }

@@ -1,15 +1,14 @@
 //! Which protocol it is, with its settings.
 
-ghost use Rattle.std.specs.Prelude.{◌≡◌, ◌≢◌, ◌↔◌, IsTrue, IsSome, IfSome, IfNone, All, Contains, find};
-ghost use Rattle.std.specs.Str.{bytes_eq};
+ghost use Rattle.std.specs.Prelude.{◌≡◌, ◌↔◌, IsTrue, IsSome, IfSome};
 ghost use Rattle.lf_protocols.specs.Limits.{IsDelivery, IsCommit, IsBackup, IsWithinLimits};
-ghost use Rattle.lf_protocols.specs.Words.{fact_word, facts_of, fact_named};
 
-use crate::Fact;
+use lf_ruled::Ruled;
+use lf_sim::Machine;
 use std::marker::Model;
 
 /// A protocol and its settings: `nodes`, how many nodes there are, 2..=8, and those of its own.
-#[derive(Clone, Copy, Debug, PartialEq, Eq)]
+#[derive(Debug, Drop)]
 pub enum Kind {
     /// Node 0 sends the data to all at the steps 1..=`tries`. `tries` is in 1..=48.
     Retry {
@@ -41,26 +40,29 @@ pub enum Kind {
         nodes: u32,
         patience: u32,
     },
+    /// A protocol that a designer has written as rules.
+    Ruled(Ruled),
 }
 
 /// A protocol whose settings are within their limits.
-#[derive(Clone, Copy, Debug, PartialEq, Eq)]
+#[derive(Debug, Drop)]
 pub struct Protocol {
     kind: Kind,
 }
 
 impl Model for Protocol {
     ghost use Rattle.lf_protocols.specs.declared.protocol.Kind.{Kind};
+    ghost use Rattle.lf_protocols.specs.contracts.protocol.Kind.{the_row};
 
     ghost Value = { Kind };
+
+    ghost coded = { the_row.coded };
 
     ghost use Rattle.lf_protocols.specs.Limits.{IsWithinLimits};
 
     ghost view = { λ p. p.kind };
 
     ghost invariant = { λ p. IsWithinLimits p.kind };
-
-    ghost inverse = { λ kind. record { kind = kind } };
 }
 
 impl Protocol {
@@ -114,6 +116,16 @@ impl Protocol {
         Protocol::of(Kind::PrimaryBackup { nodes, patience })
     }
 
+    /// A protocol of rules.
+    pub fn ruled(ruled: Ruled) -> Protocol
+        ensures { result ≡ Kind.Ruled ruled }
+    {
+        let _nodes = ruled.nodes();
+        Protocol {
+            kind: Kind::Ruled(ruled),
+        }
+    }
+
     /// The protocol of a kind. None where its settings are outside their limits.
     fn of(kind: Kind) -> Option<Protocol>
         ensures some { IsSome result ↔ IsWithinLimits kind }
@@ -127,33 +139,24 @@ impl Protocol {
     }
 
     /// Which protocol it is, and its settings.
-    pub fn kind(&self) -> Kind
-        ensures value { result ≡ self.now }
+    pub fn kind(&self) -> &Kind
+        ensures value { result.now ≡ self.now }
         ensures within { IsWithinLimits self.now }
     {
-        self.kind
+        &self.kind
     }
 
     /// Whether two protocols are the same, with the same settings.
     pub fn same(&self, other: &Protocol) -> bool
         ensures { IsTrue result ↔ (self.now ≡ other.now) }
     {
-        same_kind(self.kind, other.kind)
-    }
-
-    /// The fact of this protocol that has the word. None where it has none.
-    pub fn fact(&self, word: &str) -> Option<Fact>
-        ensures value { result ≡ fact_named self.now word.now }
-        ensures some { IfSome result (λ fact. Contains (facts_of self.now) fact × (fact_word fact ≡ word.now)) }
-        ensures none { IfNone result (All (λ fact. fact_word fact ≢ word.now) (facts_of self.now)) }
-    {
-        named(facts_of(self.kind), word)
+        same_kind(&self.kind, &other.kind)
     }
 }
 
 /// Whether two protocols and their settings are the same.
-fn same_kind(one: Kind, other: Kind) -> bool
-    ensures { IsTrue result ↔ (one ≡ other) }
+fn same_kind(one: &Kind, other: &Kind) -> bool
+    ensures { IsTrue result ↔ (one.now ≡ other.now) }
 {
     match (one, other) {
         (Kind::Retry { nodes, tries }, Kind::Retry { nodes: n, tries: t }) => nodes == n
@@ -171,7 +174,7 @@ fn same_kind(one: Kind, other: Kind) -> bool
                 patience: p,
                 votes: v,
             },
-        ) => { nodes == n && patience == p && same_votes(&votes, &v) }
+        ) => { nodes == n && patience == p && same_votes(votes, v) }
         (
             Kind::ThreePhase {
                 nodes,
@@ -183,7 +186,7 @@ fn same_kind(one: Kind, other: Kind) -> bool
                 patience: p,
                 votes: v,
             },
-        ) => { nodes == n && patience == p && same_votes(&votes, &v) }
+        ) => { nodes == n && patience == p && same_votes(votes, v) }
         (
             Kind::PrimaryBackup { nodes, patience },
             Kind::PrimaryBackup {
@@ -191,6 +194,7 @@ fn same_kind(one: Kind, other: Kind) -> bool
                 patience: p,
             },
         ) => { nodes == n && patience == p }
+        (Kind::Ruled(one), Kind::Ruled(other)) => one.same(other),
         _ => false,
     }
 }
@@ -202,47 +206,13 @@ fn same_votes(one: &[bool; 8], other: &[bool; 8]) -> bool
     one == other
 }
 
-/// The facts of a protocol.
-fn facts_of(kind: Kind) -> &'static [Fact]
-    ensures { result.now ≡ facts_of kind }
-{
-    match kind {
-        Kind::Retry { .. } | Kind::Redundant { .. } => &[Fact::Has, Fact::Lacks],
-        Kind::TwoPhase { .. } | Kind::ThreePhase { .. } => &[
-            Fact::Committed,
-            Fact::NotCommitted,
-            Fact::Aborted,
-            Fact::NotAborted,
-            Fact::Blocked,
-            Fact::Free,
-        ],
-        Kind::PrimaryBackup { .. } => &[
-            Fact::Holds,
-            Fact::Empty,
-            Fact::Done,
-            Fact::NotDone,
-            Fact::Primary,
-            Fact::Backup,
-            Fact::Claimed,
-            Fact::Unclaimed,
-        ],
-    }
-}
-
-/// The first of the facts that has the word.
-fn named(facts: &[Fact], word: &str) -> Option<Fact>
-    ensures { result ≡ find (λ fact. bytes_eq word.now (fact_word fact)) facts.now }
-{
-    facts.iter().copied().find(|fact| word == fact.word())
-}
-
 /// Whether a protocol's settings are within their limits.
 fn is_within_limits(kind: &Kind) -> bool
     ensures { IsTrue result ↔ IsWithinLimits kind.now }
 {
-    match *kind {
+    match kind {
         Kind::Retry { nodes, tries } | Kind::Redundant { nodes, tries } => is_delivery(
-            nodes, tries,
+            *nodes, *tries,
         ),
         Kind::TwoPhase {
             nodes,
@@ -253,8 +223,12 @@ fn is_within_limits(kind: &Kind) -> bool
             nodes,
             patience,
             votes,
-        } => is_commit(nodes, patience, &votes),
-        Kind::PrimaryBackup { nodes, patience } => is_backup(nodes, patience),
+        } => is_commit(*nodes, *patience, votes),
+        Kind::PrimaryBackup { nodes, patience } => is_backup(*nodes, *patience),
+        Kind::Ruled(ruled) => {
+            let nodes = ruled.nodes();
+            2 <= nodes && nodes <= 8
+        }
     }
 }
 

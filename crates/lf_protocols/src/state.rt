@@ -20,6 +20,8 @@ pub enum State {
     ThreePhase(Progress),
     /// A state of primary_backup.
     PrimaryBackup(Replica),
+    /// A state of a protocol of rules.
+    Ruled(lf_meaning::State),
 }
 
 /// Whether a node of retry has the data.
@@ -88,6 +90,7 @@ impl State {
             State::Retry(Holding::Lacks) | State::Redundant(Relay::Lacks) => "lacks",
             State::TwoPhase(progress) | State::ThreePhase(progress) => phase_word(progress.phase),
             State::PrimaryBackup(replica) => replica_text(replica),
+            State::Ruled(_) => "",
         }
     }
 }

@@ -27,7 +27,7 @@ abbrev pub is_machine : Definition → ℕ → List Given → Bool
 is_machine d nodes given = is_from 2 8 nodes && are_given d nodes d.given given
 
 abbrev pub no_fields : List ℕ
-no_fields = replicate 6 0
+no_fields = replicate 7 0
 
 -- a state, and no note yet
 abbrev pub opened : State → Stepped State Note

@@ -59,7 +59,7 @@ impl Indexed {
     pub fn act_alone(&self, node: u32, t: u32, event: Event, turn: &mut Stepped<State, Note>)
         ensures { turn.new ≡ act_alone (arc_value self.now.rules) self.now.nodes self.now.given node t event turn.old }
     {
-        let at = self.moment(node, t, 0, [0; 6]);
+        let at = self.moment(node, t, 0, [0; 7]);
         self.act(&at, event, turn);
     }
 
@@ -74,7 +74,7 @@ impl Indexed {
     }
 
     /// A moment of a node's step.
-    fn moment(&self, node: u32, t: u32, sender: u32, fields: [u8; 6]) -> Moment
+    fn moment(&self, node: u32, t: u32, sender: u32, fields: [u8; 7]) -> Moment
         ensures { result ≡ moment self.now.nodes self.now.given node t sender fields }
     {
         Moment {
@@ -101,7 +101,7 @@ impl Indexed {
     {
         match told {
             Told::Named(i) => {
-                let at = self.moment(node, 0, 0, [0; 6]);
+                let at = self.moment(node, 0, 0, [0; 7]);
                 fact_value(self.rules.definition(), &at, state, i) != 0
             }
             Told::Word { variable, word } => item(&state.values, variable) == word,

@@ -96,28 +96,18 @@ impl Ruled {
         turn
     }
 
-    /// What it comes to with a letter.
-    pub fn hear(
-        &self,
-        node: u32,
-        t: u32,
-        turn: Stepped<State, Note>,
-        letter: Letter<Note>,
-    ) -> Stepped<State, Note>
-        ensures { result ≡ hear_of self.now.definition self.now.nodes self.now.given node t turn letter }
+    /// Takes in a letter: what it comes to with it.
+    pub fn hear(&self, node: u32, t: u32, turn: &mut Stepped<State, Note>, letter: &Letter<Note>)
+        ensures { turn.new ≡ hear_of self.now.definition self.now.nodes self.now.given node t turn.old letter.now }
     {
-        let mut turn = turn;
-        self.indexed.take_in(node, t, &mut turn, &letter);
-        turn
+        self.indexed.take_in(node, t, turn, letter);
     }
 
     /// What it comes to after its inbox: what the step gives.
-    pub fn end(&self, node: u32, t: u32, turn: Stepped<State, Note>) -> Stepped<State, Note>
-        ensures { result ≡ end_of self.now.definition self.now.nodes self.now.given node t turn }
+    pub fn end(&self, node: u32, t: u32, turn: &mut Stepped<State, Note>)
+        ensures { turn.new ≡ end_of self.now.definition self.now.nodes self.now.given node t turn.old }
     {
-        let mut turn = turn;
-        self.indexed.act_alone(node, t, Event::End, &mut turn);
-        turn
+        self.indexed.act_alone(node, t, Event::End, turn);
     }
 }
 

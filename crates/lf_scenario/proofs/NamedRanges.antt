@@ -229,6 +229,7 @@ outcomes_fit (kinds.ThreePhase nodes patience votes) b limits within same = (
     tt,
   ),
 )
+outcomes_fit (kinds.Ruled m) b limits within same = tt
 outcomes_fit (kinds.PrimaryBackup nodes patience) b limits within same = (
   one_primary_fits (kinds.PrimaryBackup nodes patience) b limits refl,
   (

@@ -1,6 +1,6 @@
 -- The formula that is read is one of the scenario's.
 use Rattle.std.proofs.Common.{◌≡◌, ℕ, ◌-◌, ◌≤◌, Bool, true, false, ◌&&◌, cond, List, [], ◌∷◌}
-use Rattle.std.proofs.Common.{Option, Some, None, Ok, Err, IfOk, refl, sym, ◌∙◌, subst, inl, inr, arith}
+use Rattle.std.proofs.Common.{Option, Some, None, Ok, Err, IfOk, refl, sym, ap, ◌∙◌, subst, inl, inr, arith}
 use Rattle.std.specs.Prelude.{nat_le, nat_lt, find, codes, pos, negsuc}
 use Rattle.std.specs.List.{AllByRecursion, list_all}
 use Rattle.std.specs.Str.{bytes_eq}
@@ -10,10 +10,12 @@ use Rattle.lf_faults.specs.Allowed.{IsInLimits}
 use Rattle.lf_faults.specs.declared.spec.Bounds.{Bounds}
 use Rattle.lf_protocols.specs.declared.fact.Fact.{Fact}
 use Rattle.lf_protocols.specs.declared.protocol.Kind.{Kind}
-use Rattle.lf_protocols.specs.declared.protocol.Kind.TheVariants as kinds
+use Rattle.std.proofs.lemmas.List.Folds.{list_any_at}
+use Rattle.std.proofs.lemmas.Slice.Eq.{bytes_eq-Decides}
+use Rattle.lf_list.proofs.Laws.{each-from}
 use Rattle.lf_protocols.specs.Limits.{IsWithinLimits}
 use Rattle.lf_protocols.specs.Protocols.{nodes_of}
-use Rattle.lf_protocols.specs.Words.{fact_named, fact_word, facts_of}
+use Rattle.lf_protocols.specs.Words.{fact_named, fact_name, facts_of}
 use Rattle.lf_outcome.specs.declared.formula.Formula.{Formula}
 use Rattle.lf_outcome.specs.declared.formula.Formula.TheVariants as kind
 use Rattle.lf_outcome.specs.declared.outcome.Outcome.{Outcome}
@@ -79,15 +81,14 @@ fact-found P (Some x) h = given P x (h x refl)
 fact-found P None h = refused P refusals.Formula
 
 own_facts : (k : Kind) → AllByRecursion (λ f. is_fact_of k f ≡ true) (facts_of k)
-own_facts (kinds.Retry nodes tries) = (refl, (refl, tt))
-own_facts (kinds.Redundant nodes tries) = (refl, (refl, tt))
-own_facts (kinds.TwoPhase nodes patience votes) = (refl, (refl, (refl, (refl, (refl, (refl, tt))))))
-own_facts (kinds.ThreePhase nodes patience votes) = (refl, (refl, (refl, (refl, (refl, (refl, tt))))))
-own_facts (kinds.PrimaryBackup nodes patience) = (refl, (refl, (refl, (refl, (refl, (refl, (refl, (refl, tt))))))))
+own_facts k =
+    each-from (λ f. is_fact_of k f ≡ true) (facts_of k) (λ f h.
+    let same : Fact → Bool = λ g. bytes_eq (fact_name k f) (fact_name k g) in
+    list_any_at same (facts_of k) h.0 f h.1 (ap same h.2 ∙ (bytes_eq-Decides (fact_name k f) (fact_name k f)).1 refl))
 
 own_fact : (k : Kind) (d : Data) → Gives (λ f. is_fact_of k f ≡ true) (fact_in k d)
 own_fact k (string word) = fact-found (λ f. is_fact_of k f ≡ true) (fact_named k word) (found (λ f. is_fact_of k f ≡ true) (λ f. bytes_eq word
-    (fact_word f)) (facts_of k) (own_facts k))
+    (fact_name k f)) (facts_of k) (own_facts k))
 own_fact k _ = refused (λ f. is_fact_of k f ≡ true) refusals.Formula
 
 module _ (k : Kind) (b : Bounds) (limits : IsInLimits b) where

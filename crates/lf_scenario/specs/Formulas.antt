@@ -5,7 +5,7 @@ use Rattle.std.specs.Str.{bytes_eq}
 use Rattle.lf_faults.specs.declared.spec.Bounds.{Bounds}
 use Rattle.lf_protocols.specs.declared.fact.Fact.{Fact}
 use Rattle.lf_protocols.specs.declared.protocol.Kind.{Kind}
-use Rattle.lf_protocols.specs.Words.{fact_word, facts_of}
+use Rattle.lf_protocols.specs.Words.{fact_name, facts_of}
 use Rattle.lf_outcome.specs.declared.formula.Formula.{Formula, fold-Formula}
 use Rattle.lf_outcome.specs.declared.formula.Formula.TheOpen.{Formula-F}
 use Rattle.lf_outcome.specs.Measures.{depth_of, atoms_of}
@@ -17,7 +17,7 @@ is_point nodes horizon n t = nat_lt n nodes && (nat_le 1 t && nat_le t horizon)
 
 -- a fact that the protocol's states show: each fact has a word of its own
 abbrev pub is_fact_of : Kind → Fact → Bool
-is_fact_of k fact = list_any (λ f. bytes_eq (fact_word fact) (fact_word f)) (facts_of k)
+is_fact_of k fact = list_any (λ f. bytes_eq (fact_name k fact) (fact_name k f)) (facts_of k)
 
 module _ (k : Kind) (nodes horizon : ℕ) where
   -- one level, with whether each part is in range in its place

@@ -28,7 +28,7 @@ pub struct Delays {
 }
 
 /// All that a scenario says but its outcome and its links.
-#[derive(Clone, Copy, Debug, PartialEq, Eq)]
+#[derive(Debug, Drop)]
 pub struct Described {
     pub bounds: FaultSpec,
     pub max_sets: u32,

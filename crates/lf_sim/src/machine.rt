@@ -1,6 +1,6 @@
 //! What every node does.
 
-ghost use Rattle.std.specs.Prelude.{◌≡◌, ℕ, ◌<◌, ◌≤◌, ◌⊎◌, List, None};
+ghost use Rattle.std.specs.Prelude.{◌≡◌, ℕ, ◌+◌, ◌<◌, ◌≤◌, ◌⊎◌, List, [], ◌∷◌, ◌++◌, None, vec_len, vec_capacity};
 ghost use Rattle.lf_sim.specs.declared.letter.Letter.{Letter};
 ghost use Rattle.lf_sim.specs.Outs.{note_to};
 ghost use Rattle.lf_sim.specs.Machines.{Rules};
@@ -42,6 +42,28 @@ pub trait Machine {
         requires node { node < (rules self.now).nodes }
         requires t { (1 ≤ t) × (t ≤ 48) }
         ensures { result ≡ (rules self.now).step node t state inbox.now };
+
+    /// Puts what a node does at step `t` behind what others did, where there is memory for it.
+    ///
+    /// It is `step`, and a machine need not write it. One of several kinds may: then each kind puts its own, which costs
+    /// less than to hand it on.
+    fn put_step(
+        &self,
+        node: u32,
+        t: u32,
+        state: Self::State,
+        inbox: &[Letter<Self::Note>],
+        turns: &mut Vec<Stepped<Self::State, Self::Note>>,
+    )
+        requires node { node < (rules self.now).nodes }
+        requires t { (1 ≤ t) × (t ≤ 48) }
+        requires room { vec_len turns.old < vec_capacity turns.old }
+        ensures items { turns.new.items ≡ turns.old.items ++ (rules self.now).step node t state inbox.now ∷ [] }
+        ensures len { vec_len turns.new ≡ vec_len turns.old + 1 }
+        ensures capacity { vec_capacity turns.new ≡ vec_capacity turns.old }
+    {
+        turns.push_reserved(self.step(node, t, state, inbox));
+    }
 
     /// What is left of a node's state where it restarts at step `t`, the first after a pause. The step then goes on
     /// from it.

@@ -1,4 +1,4 @@
-//! A run before a step, and what each node does at it.
+//! A run before a step, and what it gives each node to go on from.
 
 ghost use Rattle.std.specs.Prelude.{◌≡◌, ◌≢◌, ◌+◌, ◌*◌, ◌<◌, ◌≤◌, length, slice_get, Some, vec_capacity};
 ghost use Rattle.lf_latency.specs.Arrivals.{arrival_of};
@@ -9,7 +9,7 @@ ghost use Rattle.lf_sim.specs.Tables.{HasPast};
 
 use crate::effects::Effects;
 use crate::grid::{LETTERS, cell_at};
-use crate::{Letter, Machine, Out, Setting, Slot, Stepped};
+use crate::{Letter, Machine, Setting, Slot, Stepped};
 
 /// What was done up to a step `t`, and under what.
 #[derive(Drop)]
@@ -28,32 +28,8 @@ pub(crate) struct Past<'a, M: Machine> {
 }
 
 impl<M: Machine> Past<'_, M> {
-    /// What a node does at the step after `t`, with memory for its inbox.
-    pub(crate) fn turn(
-        &self,
-        inbox: &mut Vec<Letter<M::Note>>,
-        node: u32,
-    ) -> Stepped<M::State, M::Note>
-        requires node { node < self.now.nodes }
-        requires letters { LETTERS ≤ vec_capacity inbox.old }
-        ensures value { result ≡ did (world_of self.now.setting.now) self.now.effects.now.set node (self.now.t + 1) }
-        ensures letters { vec_capacity inbox.new ≡ vec_capacity inbox.old }
-    {
-        let last = self.cell(node, self.t).state;
-        let length = self.setting.spec.pause_length();
-        if !self.effects.leaves_up(node, self.t + 1, length) {
-            return Stepped {
-                state: last,
-                out: Out::none(),
-            };
-        }
-        let state = self.before_step(length, node, last);
-        self.put_letters(inbox, node);
-        self.setting.machine.step(node, self.t + 1, state, inbox)
-    }
-
     /// The state from which a node's step starts.
-    fn before_step(&self, length: u32, node: u32, last: M::State) -> M::State
+    pub(crate) fn before_step(&self, length: u32, node: u32, last: M::State) -> M::State
         requires node { node < self.now.nodes }
         requires length { length ≡ self.now.setting.now.spec.pause_length }
         requires brief { length ≤ 8 }
@@ -69,7 +45,7 @@ impl<M: Machine> Past<'_, M> {
     }
 
     /// Makes the inbox what reaches a node at the step after `t`.
-    fn put_letters(&self, inbox: &mut Vec<Letter<M::Note>>, to: u32)
+    pub(crate) fn put_letters(&self, inbox: &mut Vec<Letter<M::Note>>, to: u32)
         requires to { to < self.now.nodes }
         requires letters { LETTERS ≤ vec_capacity inbox.old }
         ensures items { let w = world_of self.now.setting.now in let faults = self.now.effects.now.set in
@@ -93,17 +69,18 @@ impl<M: Machine> Past<'_, M> {
     {
         let from = u32::from(slot.from);
         let sent = u32::from(slot.sent);
-        if self.effects.omits(from, to, sent) {
+        let Some(note) = self.cell(from, sent).out.to(to) else {
             return None;
-        }
-        match self.cell(from, sent).out.to(to) {
-            Some(note) => Some(Letter { from, sent, note }),
-            None => None,
+        };
+        if self.effects.omits(from, to, sent) {
+            None
+        } else {
+            Some(Letter { from, sent, note })
         }
     }
 
     /// What a node did at a step up to `t`.
-    fn cell(&self, node: u32, step: u32) -> &Stepped<M::State, M::Note>
+    pub(crate) fn cell(&self, node: u32, step: u32) -> &Stepped<M::State, M::Note>
         requires node { node < self.now.nodes }
         requires step { step ≤ self.now.t }
         ensures { result.now ≡ did (world_of self.now.setting.now) self.now.effects.now.set node step }

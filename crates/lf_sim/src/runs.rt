@@ -1,6 +1,6 @@
 //! A run, round by round.
 
-ghost use Rattle.std.specs.Prelude.{◌≡◌, ℕ, ◌+◌, ◌*◌, ◌<◌, ◌≤◌, [], length, IfOk, slice_get, Some, vec_len, vec_capacity};
+ghost use Rattle.std.specs.Prelude.{◌≡◌, ℕ, ◌+◌, ◌*◌, ◌<◌, ◌≤◌, [], ◌∷◌, ◌++◌, length, IfOk, slice_get, Some, vec_len, vec_capacity};
 ghost use Rattle.lf_sim.specs.Runs.{did};
 ghost use Rattle.lf_sim.specs.Tables.{row_of, table};
 ghost use Rattle.lf_sim.specs.Settings.{world_of, set_of, nodes_of, horizon_of, up_of, state_of, sent_of, IsRun};
@@ -140,14 +140,51 @@ fn put_turns<M: Machine>(
     ensures letters { vec_capacity inbox.new ≡ vec_capacity inbox.old }
 {
     for node in 0..nodes {
-        let past = Past {
-            setting,
-            effects,
-            nodes,
-            t,
-            cells,
-        };
-        let cell = past.turn(inbox, node);
-        cells.push_reserved(cell);
+        put_turn(setting, effects, nodes, cells, inbox, t, node);
+    }
+}
+
+/// Puts what a node does at the step after `t`, with memory for its inbox.
+fn put_turn<M: Machine>(
+    setting: &Setting<M>,
+    effects: &Effects,
+    nodes: u32,
+    cells: &mut Vec<Stepped<M::State, M::Note>>,
+    inbox: &mut Vec<Letter<M::Note>>,
+    t: u32,
+    node: u32,
+)
+    requires nodes { nodes ≡ (M.rules setting.now.machine).nodes }
+    requires few { nodes ≤ 8 }
+    requires node { node < nodes }
+    requires step { t < setting.now.spec.horizon }
+    requires short { t < 48 }
+    requires before { let w = world_of setting.now in let faults = effects.now.set in
+        cells.old.items ≡ table w faults (t + 1) ++ row_of w faults (t + 1) node }
+    requires room { vec_len cells.old < vec_capacity cells.old }
+    requires letters { LETTERS ≤ vec_capacity inbox.old }
+    ensures cells { cells.new.items ≡ cells.old.items ++ did (world_of setting.now) effects.now.set node (t + 1) ∷ [] }
+    ensures len { vec_len cells.new ≡ vec_len cells.old + 1 }
+    ensures capacity { vec_capacity cells.new ≡ vec_capacity cells.old }
+    ensures letters { vec_capacity inbox.new ≡ vec_capacity inbox.old }
+{
+    let past = Past {
+        setting,
+        effects,
+        nodes,
+        t,
+        cells,
+    };
+    let last = past.cell(node, t).state;
+    let length = setting.spec.pause_length();
+    if effects.leaves_up(node, t + 1, length) {
+        let state = past.before_step(length, node, last);
+        past.put_letters(inbox, node);
+        setting.machine.put_step(node, t + 1, state, inbox, cells);
+    } else {
+        cells.push_reserved(Stepped {
+            state: last,
+            out: Out::none(),
+        });
     }
 }

@@ -22,14 +22,15 @@ pub step_told : (old first second new head nodes notes : List ℕ) → first ≡
 step_told old first second new head nodes notes a b c =
     c ∙ ap (λ t. t ++ notes) (b ∙ ap (λ t. t ++ nodes) a ∙ append_assoc old head nodes) ∙ append_assoc old (head ++ nodes) notes
 
--- a note's line, in two pieces
-pub note_told : (n m : ℕ) (old text new word said tail : List ℕ)
-    → text ≡ old ++ (decimal n ++ (codes ">" ++ (decimal m ++ (codes " " ++ (word ++ codes " "))))) → word ≡ said → new ≡ text ++ tail
-    → new ≡ old ++ (decimal n ++ (codes ">" ++ (decimal m ++ (codes " " ++ (said ++ (codes " " ++ tail))))))
-note_told n m old text new word said tail first is second =
-    second ∙ ap (λ bs. bs ++ tail) first
-    ∙ append_assoc old (decimal n ++ (codes ">" ++ (decimal m ++ (codes " " ++ (word ++ codes " "))))) tail
-    ∙ ap (λ bs. old ++ bs) (append_assoc (decimal n) (codes ">" ++ (decimal m ++ (codes " " ++ (word ++ codes " ")))) tail
-    ∙ ap (λ bs. decimal n ++ (codes ">" ++ bs)) (append_assoc (decimal m) (codes " " ++ (word ++ codes " ")) tail
-    ∙ ap (λ bs. decimal m ++ (codes " " ++ bs)) (append_assoc word (codes " ") tail)))
-    ∙ ap (λ bs. old ++ (decimal n ++ (codes ">" ++ (decimal m ++ (codes " " ++ (bs ++ (codes " " ++ tail))))))) is
+-- a note's line, in four pieces
+pub note_told : (n m : ℕ) (old first second third new word tail : List ℕ)
+    → first ≡ old ++ (decimal n ++ (codes ">" ++ (decimal m ++ codes " "))) → second ≡ first ++ word → third ≡ second ++ codes " " → new ≡ third ++ tail
+    → new ≡ old ++ (decimal n ++ (codes ">" ++ (decimal m ++ (codes " " ++ (word ++ (codes " " ++ tail))))))
+note_told n m old first second third new word tail a b c d =
+    let rest : List ℕ = word ++ (codes " " ++ tail) in
+    d ∙ ap (λ bs. bs ++ tail) c ∙ append_assoc second (codes " ") tail
+    ∙ ap (λ bs. bs ++ (codes " " ++ tail)) b ∙ append_assoc first word (codes " " ++ tail)
+    ∙ ap (λ bs. bs ++ rest) a
+    ∙ append_assoc old (decimal n ++ (codes ">" ++ (decimal m ++ codes " "))) rest
+    ∙ ap (λ bs. old ++ bs) (append_assoc (decimal n) (codes ">" ++ (decimal m ++ codes " ")) rest
+    ∙ ap (λ bs. decimal n ++ (codes ">" ++ bs)) (append_assoc (decimal m) (codes " ") rest))

@@ -35,7 +35,7 @@ pub fn trace(
 ) -> Result<String, AllocError>
     requires { IsRun (world_of setting.now) run.now }
     ensures { IfOk result (λ text.
-        string_bytes text ≡ trace (world_of setting.now) (set_of run.now) formula.now) }
+        string_bytes text ≡ trace setting.now.machine (world_of setting.now) (set_of run.now) formula.now) }
 {
     let mut text = String::new(alloc);
     'steps: for past in 0..run.horizon() {
@@ -71,7 +71,7 @@ impl Step<'_> {
     fn push(&self, text: &mut String) -> Result<(), AllocError>
         requires run { IsRun (world_of self.now.setting.now) self.now.run.now }
         ensures { IfOk result (λ _. string_bytes text.new ≡ string_bytes text.old
-            ++ step_lines (world_of self.now.setting.now) (set_of self.now.run.now) self.now.number) }
+            ++ step_lines self.now.setting.now.machine (world_of self.now.setting.now) (set_of self.now.run.now) self.now.number) }
     {
         writeln!(text, "step {}", self.number)?;
         'nodes: for node in 0..self.run.nodes() {
@@ -85,22 +85,25 @@ impl Step<'_> {
         requires run { IsRun (world_of self.now.setting.now) self.now.run.now }
         requires node { node < (world_of self.now.setting.now).rules.nodes }
         ensures { IfOk result (λ _. string_bytes text.new ≡ string_bytes text.old
-            ++ node_line (world_of self.now.setting.now) (set_of self.now.run.now) self.now.number node) }
+            ++ node_line self.now.setting.now.machine (world_of self.now.setting.now) (set_of self.now.run.now) self.now.number node) }
     {
-        writeln!(text, "{node} {}", self.standing(node))
+        write!(text, "{node} ")?;
+        self.push_standing(node, text)?;
+        text.push('\n')
     }
 
-    /// A node's words: its state after the step, or that it is down.
-    fn standing(&self, node: u32) -> &'static str
+    /// Adds a node's words: its state after the step, or that it is down.
+    fn push_standing(&self, node: u32, text: &mut String) -> Result<(), AllocError>
         requires run { IsRun (world_of self.now.setting.now) self.now.run.now }
         requires node { node < (world_of self.now.setting.now).rules.nodes }
-        ensures { result.now
-            ≡ standing (world_of self.now.setting.now) (set_of self.now.run.now) self.now.number node }
+        ensures { IfOk result (λ _. string_bytes text.new ≡ string_bytes text.old
+            ++ standing self.now.setting.now.machine (world_of self.now.setting.now) (set_of self.now.run.now) self.now.number node) }
     {
         if self.run.up(node, self.number) {
-            self.run.state(node, self.number).text()
+            let state = self.run.state(node, self.number);
+            self.setting.machine.push_state(&state, text)
         } else {
-            "down"
+            text.push_str("down")
         }
     }
 
@@ -108,7 +111,7 @@ impl Step<'_> {
     fn push_notes(&self, text: &mut String) -> Result<(), AllocError>
         requires run { IsRun (world_of self.now.setting.now) self.now.run.now }
         ensures { IfOk result (λ _. string_bytes text.new ≡ string_bytes text.old
-            ++ note_lines (world_of self.now.setting.now) (set_of self.now.run.now) self.now.number) }
+            ++ note_lines self.now.setting.now.machine (world_of self.now.setting.now) (set_of self.now.run.now) self.now.number) }
     {
         'senders: for from in 0..self.run.nodes() {
             self.push_notes_of(from, text)?;
@@ -121,7 +124,7 @@ impl Step<'_> {
         requires run { IsRun (world_of self.now.setting.now) self.now.run.now }
         requires from { from < (world_of self.now.setting.now).rules.nodes }
         ensures { IfOk result (λ _. string_bytes text.new ≡ string_bytes text.old
-            ++ sender_lines (world_of self.now.setting.now) (set_of self.now.run.now) self.now.number from) }
+            ++ sender_lines self.now.setting.now.machine (world_of self.now.setting.now) (set_of self.now.run.now) self.now.number from) }
     {
         'receivers: for to in 0..self.run.nodes() {
             self.push_slot(from, to, text)?;
@@ -135,7 +138,7 @@ impl Step<'_> {
         requires from { from < (world_of self.now.setting.now).rules.nodes }
         requires to { to < (world_of self.now.setting.now).rules.nodes }
         ensures { IfOk result (λ _. string_bytes text.new ≡ string_bytes text.old
-            ++ slot_line (world_of self.now.setting.now) (set_of self.now.run.now) self.now.number from to) }
+            ++ slot_line self.now.setting.now.machine (world_of self.now.setting.now) (set_of self.now.run.now) self.now.number from to) }
     {
         if from == to {
             return Ok(());
@@ -153,9 +156,11 @@ impl Step<'_> {
         requires to { to < (world_of self.now.setting.now).rules.nodes }
         requires apart { from ≢ to }
         ensures { IfOk result (λ _. string_bytes text.new ≡ string_bytes text.old
-            ++ note_line (world_of self.now.setting.now) (set_of self.now.run.now) self.now.number from to note) }
+            ++ note_line self.now.setting.now.machine (world_of self.now.setting.now) (set_of self.now.run.now) self.now.number from to note) }
     {
-        write!(text, "{from}>{to} {} ", note.word())?;
+        write!(text, "{from}>{to} ")?;
+        self.setting.machine.push_note(&note, text)?;
+        text.push_str(" ")?;
         self.push_fate(from, to, text)
     }
 

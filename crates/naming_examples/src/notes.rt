@@ -22,7 +22,7 @@ fn text(alloc: Global, row: &str) -> Result<String, AllocError> {
     let (form, fields) = words(numbers);
     let mut note = Note {
         form: number(form),
-        fields: [0; 6],
+        fields: [0; 7],
     };
     fill(&mut note.fields, fields);
     let mut text = String::from_str(alloc, "0>1 ")?;

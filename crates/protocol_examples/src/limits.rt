@@ -2,7 +2,33 @@
 
 use crate::states::first_of;
 use crate::texts::{agrees, columns, kind, protocol_of};
+use lf_protocols::Kind;
 use std::process::Abort;
+
+/// What a kind of protocol has: a number for which it is, how many nodes, its tries or its patience, and its votes.
+fn settings_of(kind: &Kind) -> (u32, u32, u32, [bool; 8]) {
+    match kind {
+        Kind::Retry { nodes, tries } => (0, *nodes, *tries, [true; 8]),
+        Kind::Redundant { nodes, tries } => (1, *nodes, *tries, [true; 8]),
+        Kind::TwoPhase {
+            nodes,
+            patience,
+            votes,
+        } => (2, *nodes, *patience, *votes),
+        Kind::ThreePhase {
+            nodes,
+            patience,
+            votes,
+        } => (3, *nodes, *patience, *votes),
+        Kind::PrimaryBackup { nodes, patience } => (4, *nodes, *patience, [true; 8]),
+        Kind::Ruled(_) => (5, 0, 0, [true; 8]),
+    }
+}
+
+/// Whether two kinds of shipped protocols are the same, with the same settings.
+fn is_same(one: &Kind, other: &Kind) -> bool {
+    settings_of(one) == settings_of(other)
+}
 
 /// Whether there is a protocol of this name with the settings of the row, and it is of their kind, or none, as the row says.
 fn is_limit(name: &str, row: &str) -> bool {
@@ -10,8 +36,8 @@ fn is_limit(name: &str, row: &str) -> bool {
     let Some(kind) = kind(name, settings) else {
         return false;
     };
-    match (protocol_of(kind), first_of(is, "yes", "no")) {
-        (Some(protocol), Some(true)) => protocol.kind() == kind,
+    match (protocol_of(&kind), first_of(is, "yes", "no")) {
+        (Some(protocol), Some(true)) => is_same(protocol.kind(), &kind),
         (None, Some(false)) => true,
         _ => false,
     }

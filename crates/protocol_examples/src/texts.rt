@@ -63,29 +63,31 @@ pub(crate) fn kind(name: &str, settings: &str) -> Option<Kind> {
     }
 }
 
-/// The protocol of a kind, by that kind's constructor.
-pub(crate) fn protocol_of(kind: Kind) -> Option<Protocol> {
+/// The protocol of a kind, by that kind's constructor. None of one of rules.
+pub(crate) fn protocol_of(kind: &Kind) -> Option<Protocol> {
     match kind {
-        Kind::Retry { nodes, tries } => Protocol::retry(nodes, tries),
-        Kind::Redundant { nodes, tries } => Protocol::redundant(nodes, tries),
+        Kind::Retry { nodes, tries } => Protocol::retry(*nodes, *tries),
+        Kind::Redundant { nodes, tries } => Protocol::redundant(*nodes, *tries),
         Kind::TwoPhase {
             nodes,
             patience,
             votes,
-        } => Protocol::two_phase(nodes, patience, votes),
+        } => Protocol::two_phase(*nodes, *patience, *votes),
         Kind::ThreePhase {
             nodes,
             patience,
             votes,
-        } => Protocol::three_phase(nodes, patience, votes),
-        Kind::PrimaryBackup { nodes, patience } => Protocol::primary_backup(nodes, patience),
+        } => Protocol::three_phase(*nodes, *patience, *votes),
+        Kind::PrimaryBackup { nodes, patience } => Protocol::primary_backup(*nodes, *patience),
+        Kind::Ruled(_) => None,
     }
 }
 
 /// The protocol of a name and settings.
 pub(crate) fn protocol(text: &str) -> Option<Protocol> {
     let (name, settings) = words(text);
-    protocol_of(kind(name, settings)?)
+    let kind = kind(name, settings)?;
+    protocol_of(&kind)
 }
 
 /// The note of a word.

@@ -236,7 +236,7 @@ pub(crate) fn letter(from: u32, form: u8, field: u8) -> Letter<Note> {
 pub(crate) fn note(form: u8, field: u8) -> Note {
     Note {
         form,
-        fields: [field, 0, 0, 0, 0, 0],
+        fields: [field, 0, 0, 0, 0, 0, 0],
     }
 }
 

@@ -10,8 +10,6 @@ mod commit;
 #[cfg(test)]
 mod made;
 #[cfg(test)]
-mod names;
-#[cfg(test)]
 mod primary_backup;
 #[cfg(test)]
 mod redundant;

@@ -16,7 +16,7 @@ returns-in-Some c =
     let s = c.in-Ok.scenario in
     let set = c.in-Some.set in
     IfOk-weaker c.traced.result
-    (λ reply. (string_bytes reply.text ≡ trace (world_of s.setting) set s.formula) × (reply.value ≡ run_status (reaches_in s set)))
+    (λ reply. (string_bytes reply.text ≡ trace s.setting.machine (world_of s.setting) set s.formula) × (reply.value ≡ run_status (reaches_in s set)))
     (λ reply. IsRunReply words text (string_bytes reply.text) reply.value)
     (λ reply told. run_of_set words text (string_bytes reply.text) reply.value s set c.in-Ok.ensures.reading
     ((c.allowed_set.ensures set).0 c.in-Some.is) told.0 told.1)

@@ -11,8 +11,9 @@ returns c =
     let set = c.args.set.now in
     let setting = c.setting-setting.result.now in
     let formula = c.formula-formula.result.now in (
-      c.in_ok-trace.ensures ∙ ap (λ x. trace (world_of setting) x formula) c.in_ok-played.ensures.set
-          ∙ ap (λ x. trace (world_of setting) set x) c.formula-formula.ensures.value ∙ ap (λ x. trace (world_of x) set s.formula) c.setting-setting.ensures,
+      c.in_ok-trace.ensures ∙ ap (λ x. trace setting.machine (world_of setting) x formula) c.in_ok-played.ensures.set
+          ∙ ap (λ x. trace setting.machine (world_of setting) set x) c.formula-formula.ensures.value
+          ∙ ap (λ x. trace x.machine (world_of x) set s.formula) c.setting-setting.ensures,
       c.run_status.ensures ∙ ap run_status (c.holds.ensures ∙ ap (λ x. reaches (world_of setting) x formula) c.in_ok-played.ensures.set
           ∙ ap (λ x. reaches (world_of setting) set x) c.formula-formula.ensures.value
           ∙ ap (λ x. reaches (world_of x) set s.formula) c.setting-setting.ensures),

@@ -3,7 +3,7 @@ use Rattle.std.specs.Prelude.{◌≡◌, ◌≢◌, Option, All, Contains, IfNon
 use Rattle.lf_ruled.specs.declared.fact.Fact.{Fact}
 use Rattle.lf_naming.specs.Names.{fact_name}
 use Rattle.lf_naming.specs.Facts.{facts_of}
-use Rattle.lf_naming.proofs.FirstsLemmas.{found_named, none_named}
+use Rattle.lf_naming.proofs.Laws.{found_named, none_named}
 use Rattle.lf_naming.proofs.finding.fact_named.Goals as goal
 
 pub returns-clause-some : goal.returns-clause-some

@@ -7,4 +7,4 @@ use Rattle.lf_trace.proofs.telling.trace.Given as goal
 -- the lines of the steps so far
 abbrev pub invariant-steps : goal.invariant-steps
 invariant-steps l =
-    string_bytes l.text ≡ each_below (λ past. step_lines (world_of l.setting) (set_of l.run) (suc past)) l.past
+    string_bytes l.text ≡ each_below (λ past. step_lines l.setting.machine (world_of l.setting) (set_of l.run) (suc past)) l.past

@@ -1,8 +1,17 @@
-use Rattle.std.proofs.Common.{Some, None, ◌+◌, sym, ◌∙◌}
+use Rattle.std.proofs.Common.{Some, ◌+◌, sym, ◌∙◌}
 use Rattle.lf_sim.specs.Runs.{did}
 use Rattle.lf_sim.specs.Settings.{world_of}
-use Rattle.lf_sim.proofs.RunsLemmas.{letter-omitted, letter_is}
+use Rattle.lf_sim.proofs.RunsLemmas.{letter-omitted, letter-silent, letter_is}
 use Rattle.lf_sim.proofs.past.Past.letter.Goals as goal
+
+pub returns-in_default : goal.returns-in_default
+returns-in_default g c =
+    let p = c.args.self.now in
+    let w = world_of p.setting.now in
+    let F = p.effects.now.set in
+    let here = rw (c.from-from.ensures, c.from-sent.ensures) at c.cell.ensures in
+    let none = sym c.to.ensures ∙ c.in_default.is in
+    sym (letter-silent w F (did w F) c.args.to (p.t + 1) c.args.slot.from c.args.slot.sent (rw here at none))
 
 pub returns-then-omits : goal.returns-then-omits
 returns-then-omits g c =
@@ -12,8 +21,8 @@ returns-then-omits g c =
     let lost = rw (c.from-from.ensures, c.from-sent.ensures) at (sym c.omits.ensures ∙ c.if-omits.true) in
     sym (letter-omitted w F (did w F) c.args.to (p.t + 1) c.args.slot.from c.args.slot.sent lost)
 
-pub returns-in-Some : goal.returns-in-Some
-returns-in-Some g c =
+pub returns-else-omits : goal.returns-else-omits
+returns-else-omits g c =
     let p = c.args.self.now in
     let w = world_of p.setting.now in
     let F = p.effects.now.set in
@@ -23,14 +32,3 @@ returns-in-Some g c =
     rw (c.from-from.ensures, c.from-sent.ensures)
     (letter_is w F c.args.to (p.t + 1) c.args.slot.from c.args.slot.sent c.cell.result.now (Some c.in-Some.note) slot.apart slot.arrives kept here
     (sym c.in-Some.is ∙ c.to.ensures))
-
-pub returns-in-None : goal.returns-in-None
-returns-in-None g c =
-    let p = c.args.self.now in
-    let w = world_of p.setting.now in
-    let F = p.effects.now.set in
-    let slot = c.requires.slot in
-    let kept = rw (c.from-from.ensures, c.from-sent.ensures) at (sym c.omits.ensures ∙ c.if-omits.false) in
-    let here = rw (c.from-from.ensures, c.from-sent.ensures) at c.cell.ensures in
-    letter_is w F c.args.to (p.t + 1) c.args.slot.from c.args.slot.sent c.cell.result.now None slot.apart slot.arrives kept here
-    (sym c.in-None.is ∙ c.to.ensures)

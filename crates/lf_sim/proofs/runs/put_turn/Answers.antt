@@ -1,0 +1,41 @@
+use Rattle.std.proofs.Common.{◌≡◌, ◌+◌, ◌<◌, ◌++◌, ◌∷◌, [], true, false, refl, ap, ◌∙◌, arith}
+use Rattle.lf_sim.specs.Runs.{is_up}
+use Rattle.lf_sim.specs.Settings.{world_of}
+use Rattle.lf_sim.specs.Tables.{row_of}
+use Rattle.lf_sim.proofs.InboxLemmas.{past_of}
+use Rattle.lf_sim.proofs.RunsLemmas.{is_up_from, step_is, rest_is}
+use Rattle.lf_sim.proofs.runs.put_turn.Goals as goal
+
+pub invariant_of-past : goal.invariant_of-past
+invariant_of-past g c =
+    let w = world_of c.args.setting.now in
+    let F = c.args.effects.now.set in
+    let done = past_of w F c.deref.result.now (c.args.t + 1) (row_of w F (c.args.t + 1) c.args.node)
+    (c.deref.ensures.value ∙ c.requires.before) in
+    record { nodes_agree = c.requires.nodes; few = c.requires.few; early = c.requires.step; short = c.requires.short; done = done }
+
+pub returns-then-leaves_up-clause-cells : goal.returns-then-leaves_up-clause-cells
+returns-then-leaves_up-clause-cells g c =
+    let w = world_of c.args.setting.now in
+    let F = c.args.effects.now.set in
+    let node : c.args.node < w.rules.nodes = omega (arith, c.requires.node, c.requires.nodes) in
+    let up : is_up w F c.args.node (c.args.t + 1) ≡ true =
+    is_up_from w F c.pause_length-length.result c.args.node (c.args.t + 1) c.leaves_up.result node (omega arith)
+    (omega (arith, c.requires.step)) c.pause_length-length.ensures.value c.leaves_up.ensures ∙ c.if-leaves_up.true in
+    c.put_step.ensures.items
+    ∙ ap (λ turn. c.args.cells.now.items ++ turn ∷ [])
+    (step_is w F c.args.node c.args.t c.cell.result.now c.before_step-state.result c.deref-then-leaves_up.result.now
+    (w.rules.step c.args.node (c.args.t + 1) c.before_step-state.result c.deref-then-leaves_up.result.now) c.cell.ensures c.before_step-state.ensures
+    (c.deref-then-leaves_up.ensures.value ∙ c.put_letters.ensures.items) up refl)
+
+pub returns-else-leaves_up-clause-cells : goal.returns-else-leaves_up-clause-cells
+returns-else-leaves_up-clause-cells g c =
+    let w = world_of c.args.setting.now in
+    let F = c.args.effects.now.set in
+    let node : c.args.node < w.rules.nodes = omega (arith, c.requires.node, c.requires.nodes) in
+    let down : is_up w F c.args.node (c.args.t + 1) ≡ false =
+    is_up_from w F c.pause_length-length.result c.args.node (c.args.t + 1) c.leaves_up.result node (omega arith)
+    (omega (arith, c.requires.step)) c.pause_length-length.ensures.value c.leaves_up.ensures ∙ c.if-leaves_up.false in
+    c.push_reserved.ensures.items
+    ∙ ap (λ turn. c.args.cells.now.items ++ turn ∷ [])
+    (rest_is w F c.args.node c.args.t c.cell.result.now c.none.result c.cell.ensures down c.none.ensures)
