@@ -21,4 +21,4 @@ pub use kind::Kind;
 pub use name::Name;
 pub use rule::{Assignment, Chain, Event, Rule, Send};
 pub use rules::Rules;
-pub use sort::{Scope, Sort};
+pub use sort::{Scope, Sort, binary_sort, unary_sort};

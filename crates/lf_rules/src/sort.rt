@@ -36,7 +36,7 @@ pub enum Scope {
 
 impl Sort {
     /// Whether it is the other one.
-    pub(crate) fn same(self, other: Sort) -> bool
+    pub fn same(self, other: Sort) -> bool
         ensures { result ≡ same_sort self other }
     {
         match (self, other) {
@@ -80,7 +80,7 @@ impl Scope {
 }
 
 /// Whether what was found is this sort.
-pub(crate) fn is_of(found: Option<Sort>, sort: Sort) -> bool
+pub fn is_of(found: Option<Sort>, sort: Sort) -> bool
     ensures { result ≡ is_of found sort }
 {
     match found {
@@ -97,14 +97,14 @@ pub(crate) fn where_so(so: bool, found: Option<Sort>) -> Option<Sort>
 }
 
 /// What comes of an operator on one value.
-pub(crate) fn unary_sort(operator: Unary, one: Option<Sort>) -> Option<Sort>
+pub fn unary_sort(operator: Unary, one: Option<Sort>) -> Option<Sort>
     ensures { result ≡ unary_sort operator one }
 {
     where_so(is_of(one, taken(operator)), Some(gives(operator)))
 }
 
 /// What comes of an operator on two values.
-pub(crate) fn binary_sort(operator: Binary, one: Option<Sort>, other: Option<Sort>) -> Option<Sort>
+pub fn binary_sort(operator: Binary, one: Option<Sort>, other: Option<Sort>) -> Option<Sort>
     ensures { result ≡ binary_sort operator one other }
 {
     where_so(takes(operator, one, other), Some(made(operator)))

@@ -31,7 +31,7 @@ impl Definition {
     }
 
     /// What an expression begins with.
-    fn leaf_sort(&self, scope: Scope, leaf: Leaf) -> Option<Sort>
+    pub fn leaf_sort(&self, scope: Scope, leaf: Leaf) -> Option<Sort>
         ensures { result ≡ leaf_sort self.now scope leaf }
     {
         match leaf {

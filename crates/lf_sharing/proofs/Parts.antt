@@ -1,7 +1,7 @@
 -- Rules say the same to every thread: what a protocol of rules is made of, part by part.
 use denote.Param.Send.{IsSend, IsSync, sendable}
 use Rattle.std.proofs.Crossing.{crosses}
-use Rattle.lf_rules.proofs.expr.Tree.TheLaws.TheKnot as tree
+use Rattle.lf_rules.proofs.Laws.{trees_cross}
 use Rattle.lf_rules.specs.contracts.name.Name as name
 use Rattle.lf_rules.specs.contracts.expr.Expr as expr
 use Rattle.lf_rules.specs.contracts.kind.Kind as kind
@@ -29,10 +29,10 @@ pub name_sync : IsSync name.the_row
 name_sync = search (crosses, sendable) depth 60 fits 20000
 
 pub expr_send : IsSend expr.the_row
-expr_send = search (tree.crosses, crosses, sendable) depth 60 fits 20000
+expr_send = search (trees_cross, crosses, sendable) depth 60 fits 20000
 
 pub expr_sync : IsSync expr.the_row
-expr_sync = search (tree.crosses, crosses, sendable) depth 60 fits 20000
+expr_sync = search (trees_cross, crosses, sendable) depth 60 fits 20000
 
 pub kind_send : IsSend kind.the_row
 kind_send = search (crosses, sendable) depth 60 fits 20000
