@@ -1,0 +1,5 @@
+pub mod Expressions
+pub mod Fronts
+pub mod Places
+pub mod Readings
+pub mod Typing

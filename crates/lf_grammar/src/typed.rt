@@ -1,0 +1,178 @@
+//! Expressions with what they are.
+
+ghost use Rattle.std.specs.Prelude.{◌≡◌, MatchResult};
+ghost use Rattle.lf_rules.specs.Terms as terms;
+ghost use Rattle.lf_grammar.specs.Typing.{by_one, by_two, as_set, plus_by, minus_by, compared, joined, by_call, only_by, between, how_many};
+ghost use Rattle.lf_grammar.specs.Readings.{said, said_of, Gives};
+
+use crate::Unread;
+use crate::calls::Call;
+use crate::level::Joint;
+use lf_rules::{Binary, Leaf, Sort, Tree, Unary, binary_sort, unary_sort};
+use lf_tokens::{Sign, Token};
+use std::alloc::Global;
+
+/// An expression, and what it is where it stands.
+#[derive(Debug, Drop)]
+pub struct Typed {
+    pub tree: Tree,
+    pub sort: Sort,
+}
+
+/// What comes of an operator on one value.
+pub(crate) fn unary(alloc: Global, operator: Unary, one: Typed) -> Result<Typed, Unread>
+    ensures { Gives said (by_one operator (said one)) result }
+{
+    let Typed { tree, sort } = one;
+    match unary_sort(operator, Some(sort)) {
+        Some(sort) => {
+            let tree = Tree::Unary(operator, boxed(alloc, tree)?);
+            Ok(Typed { tree, sort })
+        }
+        None => Err(Unread::Wrong),
+    }
+}
+
+/// What comes of an operator on two values.
+pub(crate) fn binary(
+    alloc: Global,
+    operator: Binary,
+    one: Typed,
+    other: Typed,
+) -> Result<Typed, Unread>
+    ensures { Gives said (by_two operator (said one) (said other)) result }
+{
+    match binary_sort(operator, Some(one.sort), Some(other.sort)) {
+        Some(sort) => {
+            let tree = Tree::Binary(operator, boxed(alloc, one.tree)?, boxed(alloc, other.tree)?);
+            Ok(Typed { tree, sort })
+        }
+        None => Err(Unread::Wrong),
+    }
+}
+
+/// A tree in a box.
+fn boxed(alloc: Global, tree: Tree) -> Result<Box<Tree>, Unread>
+    ensures { MatchResult result (λ b. b.value ≡ tree) (λ e. e ≡ Unread.Memory) }
+{
+    match Box::new(alloc, tree) {
+        Ok(tree) => Ok(tree),
+        Err(_) => Err(Unread::Memory),
+    }
+}
+
+/// The set of one node alone, where the value is a number; a set stays.
+pub fn as_set(alloc: Global, value: Typed) -> Result<Typed, Unread>
+    ensures { Gives said (as_set (said value)) result }
+{
+    match value.sort {
+        Sort::Number => unary(alloc, Unary::Only, value),
+        _ => Ok(value),
+    }
+}
+
+/// What `+` gives: a sum of numbers, or a set with a set or a node.
+pub(crate) fn plus(alloc: Global, one: Typed, other: Typed) -> Result<Typed, Unread>
+    ensures { Gives said (plus_by one.sort (said one) (said other)) result }
+{
+    match one.sort {
+        Sort::Nodes => binary(alloc, Binary::Union, one, as_set(alloc, other)?),
+        _ => binary(alloc, Binary::Add, one, other),
+    }
+}
+
+/// What `-` gives: a difference of numbers, or a set without a set or a node.
+pub(crate) fn minus(alloc: Global, one: Typed, other: Typed) -> Result<Typed, Unread>
+    ensures { Gives said (minus_by one.sort (said one) (said other)) result }
+{
+    match one.sort {
+        Sort::Nodes => binary(alloc, Binary::Without, one, as_set(alloc, other)?),
+        _ => binary(alloc, Binary::Subtract, one, other),
+    }
+}
+
+/// An expression that only begins.
+pub(crate) fn leaf(leaf: Leaf, sort: Sort) -> Typed
+    ensures { said result ≡ record { term = terms.Leaf leaf; sort = sort } }
+{
+    Typed {
+        tree: Tree::Leaf(leaf),
+        sort,
+    }
+}
+
+/// Two values, compared by a token.
+pub(crate) fn compared(alloc: Global, by: &Token, one: Typed, other: Typed) -> Result<Typed, Unread>
+    ensures { Gives said (compared by.now (said one) (said other)) result }
+{
+    match by {
+        Token::Sign(Sign::Equal) => binary(alloc, Binary::Equal, one, other),
+        Token::Sign(Sign::NotEqual) => {
+            let same = binary(alloc, Binary::Equal, one, other)?;
+            unary(alloc, Unary::Not, same)
+        }
+        Token::Sign(Sign::Less) => binary(alloc, Binary::Less, one, other),
+        Token::Sign(Sign::AtMost) => binary(alloc, Binary::AtMost, one, other),
+        Token::Sign(Sign::More) => binary(alloc, Binary::Less, other, one),
+        Token::Sign(Sign::AtLeast) => binary(alloc, Binary::AtMost, other, one),
+        _ => binary(alloc, Binary::In, one, other),
+    }
+}
+
+/// Two values, joined by what stands between them.
+pub(crate) fn joined(alloc: Global, by: Joint, one: Typed, other: Typed) -> Result<Typed, Unread>
+    ensures { Gives said (joined by (said one) (said other)) result }
+{
+    match by {
+        Joint::Comma => binary(alloc, Binary::Union, one, other),
+        Joint::Or => binary(alloc, Binary::Or, one, other),
+        Joint::And => binary(alloc, Binary::And, one, other),
+        Joint::Plus => plus(alloc, one, other),
+        Joint::Minus => minus(alloc, one, other),
+        Joint::Remainder => binary(alloc, Binary::Remainder, one, other),
+    }
+}
+
+/// What is said of one value, or of two.
+pub(crate) fn by_call(
+    alloc: Global,
+    call: Call,
+    one: Typed,
+    other: Option<Typed>,
+) -> Result<Typed, Unread>
+    ensures { Gives said (by_call call (said one) (said_of other)) result }
+{
+    match (call, other) {
+        (Call::Of(operator), None) => unary(alloc, operator, one),
+        (Call::OfTwo(operator), Some(other)) => binary(alloc, operator, one, other),
+        (Call::Majority, Some(group)) => binary(alloc, Binary::Majority, one, group),
+        (Call::Majority, None) => {
+            binary(alloc, Binary::Majority, one, leaf(Leaf::All, Sort::Nodes))
+        }
+        (Call::Of(_), Some(_)) | (Call::OfTwo(_), None) => Err(Unread::Wrong),
+    }
+}
+
+/// The set of one node alone. A set is no node.
+pub(crate) fn only(alloc: Global, one: Typed) -> Result<Typed, Unread>
+    ensures { Gives said (only_by one.sort (said one)) result }
+{
+    match one.sort {
+        Sort::Number => as_set(alloc, one),
+        _ => Err(Unread::Wrong),
+    }
+}
+
+/// The nodes from one to another.
+pub(crate) fn between(alloc: Global, one: Typed, last: Typed) -> Result<Typed, Unread>
+    ensures { Gives said (between (said one) (said last)) result }
+{
+    binary(alloc, Binary::Between, one, last)
+}
+
+/// How many nodes there are, which is one past the last node.
+pub(crate) fn how_many() -> Typed
+    ensures { said result ≡ how_many }
+{
+    leaf(Leaf::Nodes, Sort::Number)
+}
