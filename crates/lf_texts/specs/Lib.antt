@@ -1,0 +1,12 @@
+pub mod Assignments
+pub mod Events
+pub mod Faults
+pub mod Forms
+pub mod Fronts
+pub mod Kinds
+pub mod Lists
+pub mod Names
+pub mod Reading
+pub mod Sends
+pub mod Values
+pub mod Variables
