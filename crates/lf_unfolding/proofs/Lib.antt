@@ -1,0 +1,4 @@
+pub mod KeptLemmas
+pub mod ListLemmas
+pub mod MemberLemmas
+pub mod UnfoldingLemmas

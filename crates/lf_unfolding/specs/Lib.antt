@@ -1,0 +1,4 @@
+pub mod Members
+pub mod Quantities
+pub mod Unfolding
+pub mod Keeping

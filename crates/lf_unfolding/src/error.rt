@@ -1,0 +1,15 @@
+//! Why a promise is no formula.
+
+use crate::unfolding::{DEEPEST, MOST_ATOMS};
+use thiserror::Error;
+
+/// Why a promise is no formula in a scenario.
+#[derive(Clone, Copy, Debug, PartialEq, Eq, Error)]
+pub enum UnfoldError {
+    #[error("the promise names a node that there isn't")]
+    NoNode,
+    #[error("the promise is a formula of more than {} atoms, or deeper than {}", MOST_ATOMS, DEEPEST)]
+    TooLarge,
+    #[error("out of memory")]
+    Memory,
+}
