@@ -116,6 +116,9 @@ fn is_said(alloc: Global, asked: &Asked, expected: &str) -> bool {
                 stillness(*quiet),
             )
         }
+        Asked::Protocol { file } => {
+            is_text(alloc, expected, "protocol", file.as_str(), ("", ""), "")
+        }
     }
 }
 
@@ -230,6 +233,20 @@ fn answers_name_their_file(rt: HostRuntime) {
         ";answer;a;--quiet|;answer;a;quiet\n",
         ";answer;a;--all|wrong\n",
         ";answer;--help|help\n",
+    );
+    check_lines(&rt, rt.alloc(), table);
+}
+
+#[test]
+fn protocols_name_their_file(rt: HostRuntime) {
+    let table = concat!(
+        ";protocol;a.toml|;protocol;a.toml\n",
+        ";protocol;-|;protocol;-\n",
+        ";protocol;--;-x|;protocol;-x\n",
+        ";protocol|wrong\n",
+        ";protocol;a;b|wrong\n",
+        ";protocol;a;--quiet|wrong\n",
+        ";protocol;--help|help\n",
     );
     check_lines(&rt, rt.alloc(), table);
 }

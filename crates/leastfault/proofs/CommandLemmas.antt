@@ -18,6 +18,7 @@ use Rattle.leastfault.specs.Checks.{IsGiven, IsReplyTo}
 use Rattle.leastfault.specs.Commands.{GetsCertified, IsAlone, IsCauseAt, IsCauseFor, IsCertified, IsCertifiedBy, IsDone, IsWritten}
 use Rattle.leastfault.specs.Commands.{certificate_of, wanted_of}
 use Rattle.leastfault.specs.Engines.{IsMadeOfBoth, IsMadeOfOne, NoCause, OfBoth, OfHeld, OfReply, Remakes, TookAtMost}
+use Rattle.leastfault.specs.Protocols.{IsProtocolReply}
 use Rattle.leastfault.specs.Replies.{HandsOut, IsAnswerReply, IsCheckReply, IsPoolCause, IsReplyWith, IsRunReply, IsSearchedWith, IsSharedWith, MayWork}
 use Rattle.leastfault.specs.Replies.{reports_of}
 use Rattle.leastfault.proofs.EngineLemmas.{both_wider, held_beside, held_wider, made_wider, remade, took_none}
@@ -211,6 +212,15 @@ module _ {R S : Type 0} (left : R → Option (List ℕ)) (stuck : R → Bool) (l
         (λ reply status is. is) told alone)
         (λ text number cause. cause)
 
+    pub done_protocol : (file : String Global) (made : Result (Reply ℕ) BytesFault) (result : Result (Reply Certified) BytesFault)
+        → IsMadeOfOne left stuck (OfReply IsProtocolReply) NoCause old new made
+        → Remakes (IsAlone (λ (status : ℕ). status)) made result → Done (asked.Protocol file) result
+    done_protocol file made result is related =
+        alone_done (asked.Protocol file) (OfReply IsProtocolReply) NoCause (IsAlone (λ (status : ℕ). status)) made result is related
+        (λ text certificate r t told alone. told_alone (λ (status : ℕ). status) (IsProtocolReply text) (IsProtocolReply text) r t
+        (λ reply status is. is) told alone)
+        (λ text number cause. cause)
+
   -- and by two: what they give is judged,
   module _ (old_too new_too : S) where
     abbrev TookBoth : Type 0
@@ -240,8 +250,8 @@ module _ {R S : Type 0} (left : R → Option (List ℕ)) (stuck : R → Bool) (l
         (λ (t : Reply Certified). OfBoth (λ text certificate. OfReply (IsDone a text) certificate t) (left old) (left_too old_too))
         (λ number. OfHeld (λ text. NoCause text number) (left old)) (λ number. OfHeld (λ text. IsCauseFor a text number) (left old))
         (stuck new || stuck_too new_too) (stuck new || stuck_too new_too) TookBoth TookBoth (IsAlone (λ (status : ℕ). status)) made result is related
-        (λ r t told alone. both_wider (λ text certificate. OfReply (IsCheckReply text) certificate r) (λ text certificate. OfReply (IsDone a text) certificate t)
-        (left old) (left_too old_too)
+        (λ r t told alone. both_wider (λ text certificate. OfReply (IsCheckReply text) certificate r)
+        (λ text certificate. OfReply (IsDone a text) certificate t) (left old) (left_too old_too)
         (λ text certificate checked. told_alone (λ (status : ℕ). status) (IsCheckReply text certificate) (IsCheckReply text certificate) r t
         (λ reply status is. is) checked alone) told)
         (λ number cause. cause) refl (λ took. took)

@@ -18,7 +18,8 @@ pub held_wider : (Says Means : List ℕ → Type 0) (held : Option (List ℕ)) �
 held_wider Says Means held wider is = (is.0, is.1, wider is.0 is.2)
 
 -- also of two sources,
-pub both_wider : (Says Means : List ℕ → List ℕ → Type 0) (held other : Option (List ℕ)) → ((text certificate : List ℕ) → Says text certificate → Means text certificate)
+pub both_wider : (Says Means : List ℕ → List ℕ → Type 0) (held other : Option (List ℕ))
+    → ((text certificate : List ℕ) → Says text certificate → Means text certificate)
     → OfBoth Says held other → OfBoth Means held other
 both_wider Says Means held other wider is =
     held_wider (λ text. OfHeld (Says text) other) (λ text. OfHeld (Means text) other) held
@@ -74,6 +75,10 @@ fault_one r d e one other = let both : Err d ≡ Err e = sym one ∙ other in cc
 no_memory : {X : Type 0} (r : Result X BytesFault) (number : ℕ) → r ≡ Err faults.Memory → r ≡ Err (faults.Pool number) → ⊥
 no_memory r number one other =
     let never : faults.Memory ≡ faults.Pool number = fault_one r faults.Memory (faults.Pool number) one other in cc
+
+no_pool : {X : Type 0} (r : Result X BytesFault) (number : ℕ) → r ≡ Err faults.Write → r ≡ Err (faults.Pool number) → ⊥
+no_pool r number one other =
+    let never : faults.Write ≡ faults.Pool number = fault_one r faults.Write (faults.Pool number) one other in cc
 
 no_write : {X : Type 0} (r : Result X BytesFault) → tells_write r ≡ false → r ≡ Err faults.Write → ⊥
 no_write r tells is = let never : true ≡ false = sym (ap tells_write is) ∙ tells in cc
@@ -215,7 +220,7 @@ module _ {X W : Type 0} (IsReply : List ℕ → X → Type 0) (IsCause : ℕ →
         unwritten = λ other. absurd (other refl);
         source = is.source;
         sink = part.2;
-        pool = λ number same. absurd (let never : faults.Write ≡ faults.Pool number = fault_one (Err faults.Write) faults.Write (faults.Pool number) refl same in cc);
+        pool = λ number same. absurd (no_pool {X = X} (Err faults.Write) number refl same);
         taken = is.taken;
       })
   sent (Err e) result is none =

@@ -7,6 +7,8 @@ use Rattle.lf_faults.specs.declared.fault.Parts.{Parts}
 use Rattle.lf_faults.specs.Allowed.{IsAllowed}
 use Rattle.lf_faults.specs.declared.spec.Bounds.{Bounds}
 use Rattle.lf_faults.proofs.Laws.{first_is_one}
+use Rattle.lf_document.specs.declared.error.ProtocolError.{ProtocolError}
+use Rattle.lf_protocol_file.specs.Files as files
 use Rattle.lf_scenario.specs.declared.error.ScenarioError.{ScenarioError}
 use Rattle.lf_scenario.specs.Limits.{longest}
 use Rattle.lf_scenario.specs.declared.scenario.Scenario.{Scenario}
@@ -32,6 +34,7 @@ use Rattle.leastfault.specs.declared.answering.Wanted.{Wanted}
 use Rattle.leastfault.specs.declared.answering.Wanted.TheVariants as wanted
 use Rattle.leastfault.specs.Answers.{AreLeastSets, IsAnswer, reaches_in}
 use Rattle.leastfault.specs.Checks.{IsGiven}
+use Rattle.leastfault.specs.Protocols.{IsProtocolReply}
 use Rattle.leastfault.specs.Searches.{IsEndFor, IsEndIn, IsFoundFor}
 use Rattle.leastfault.specs.Reports.{all_report, check_status, full_line, judgement, no_set_line, refusal, report, run_status, search_status}
 use Rattle.leastfault.specs.Replies.{IsAnswerReply, IsCheckReply, IsPoolCause, IsReplyWith, IsRunReply, IsSharedWith, MayWork, RepliesCheck, RepliesRefusal}
@@ -179,6 +182,11 @@ module _ (held : List ℕ) where
   refused e more (inr (inl why)) = absurd (front more why.0)
   refused e more (inr (inr why)) = absurd (front more why.0)
 
+  file_refused : (e : ProtocolError) → longest < length held → files.IsRefused (take (longest + 1) held) e → files.IsRefused held e
+  file_refused e more (inl why) = inl (more, why.1)
+  file_refused e more (inr (inl why)) = absurd (front more why.0)
+  file_refused e more (inr (inr why)) = absurd (front more why.0)
+
   hands_long : (tree : Option Tree) (status : ℕ) → longest < length held → HandsOut (take (longest + 1) held) tree status
       → HandsOut held tree status
   hands_long None status more is = is
@@ -205,6 +213,10 @@ module _ (held : List ℕ) where
     answer_long : longest < length held → IsAnswerReply (take (longest + 1) held) reply status → IsAnswerReply held reply status
     answer_long more (inl refusal) = inl (refused_reply more refusal)
     answer_long more (inr found) = absurd (front more found.1.short)
+
+    protocol_long : longest < length held → IsProtocolReply (take (longest + 1) held) reply status → IsProtocolReply held reply status
+    protocol_long more (inl is) = absurd (front more is.1.short)
+    protocol_long more (inr refusal) = inr (refusal.0, file_refused refusal.0 more refusal.1, refusal.2, refusal.3)
 
     check_long : (certificate : List ℕ) → longest < length held → IsCheckReply (take (longest + 1) held) certificate reply status
         → IsCheckReply held certificate reply status
@@ -256,6 +268,9 @@ run_by_front words reply status held more is = run_long held reply status words 
 
 pub answer_by_front : (reply : List ℕ) (status : ℕ) → GoesByFront longest (λ text. IsAnswerReply text reply status)
 answer_by_front reply status held more is = answer_long held reply status more is
+
+pub protocol_by_front : (reply : List ℕ) (status : ℕ) → GoesByFront longest (λ text. IsProtocolReply text reply status)
+protocol_by_front reply status held more is = protocol_long held reply status more is
 
 pub check_by_front : (certificate reply : List ℕ) (status : ℕ) → GoesByFront longest (λ text. IsCheckReply text certificate reply status)
 check_by_front certificate reply status held more is = check_long held reply status certificate more is

@@ -2,6 +2,7 @@
 use Rattle.std.proofs.Common.{◌≡◌, ℕ, List, not, refl, sym, ap, ◌∙◌, subst, inl, inr, arith}
 use Rattle.std.specs.Prelude.{◌⊎◌, Ok, Option, None, Some, slice_get}
 use Rattle.std.specs.Cmp.{IsTotalOrder}
+use Rattle.lf_document.specs.declared.error.ProtocolError.{ProtocolError}
 use Rattle.lf_faults.specs.declared.fault.Parts.{Parts}
 use Rattle.lf_faults.specs.Allowed.{IsAllowed, IsFirst}
 use Rattle.lf_faults.specs.Faults.{set_cmp}
@@ -15,6 +16,8 @@ use Rattle.lf_alone.specs.Ends.{IsFull, IsNeverFull}
 use Rattle.lf_alone.proofs.Laws.{full_is_one}
 use Rattle.lf_certificate.specs.Grown.{IsTreeOf}
 use Rattle.lf_certificate.proofs.Laws.{accepted_has_none, first_fault_one, tree_one}
+use Rattle.lf_written.specs.declared.declared.Declared.{Declared}
+use Rattle.lf_protocol_file.specs.Files as files
 use Rattle.lf_scenario.specs.declared.scenario.Scenario.{Scenario}
 use Rattle.lf_scenario.specs.Sameness.{AreSame}
 use Rattle.lf_scenario.specs.Scenarios.{IsText}
@@ -29,6 +32,7 @@ use Rattle.lf_tree.specs.Texts.{IsInRange, tree_text}
 use Rattle.lf_tree.specs.Trees.{IsTree}
 use Rattle.lf_tree.specs.Values.{tree_value}
 use Rattle.leastfault.specs.Answers.{AreLeastSets, IsAnswer, reaches_in}
+use Rattle.leastfault.specs.Protocols.{IsProtocolReply, protocol_refusal}
 use Rattle.leastfault.specs.Reports.{all_report, full_line, no_line, refusal, report, run_status, search_status, tree_refusal}
 use Rattle.leastfault.specs.Replies.{HandsOut, HasOneReply, IsAllReply, IsAnswerReply, IsCheckReply, IsReplyWith, IsRunReply, IsSearchReply, IsTreeFor}
 use Rattle.leastfault.specs.Replies.{RepliesAll, RepliesAnswer, RepliesCheck, RepliesNoSet, RepliesReport}
@@ -258,3 +262,14 @@ module _ (json : (t : Tree) → IsTree t → IsInRange t → IsJson (tree_text t
   check_replies_one text certificate one other m n (inr a) (inl b) = absurd (refused_is_no_text text b.0 a.0 b.1 a.1)
   check_replies_one text certificate one other m n (inr a) (inr b) =
       judged_one a.0 b.0 (scenarios_are_one text a.0 b.0 a.1 b.1) certificate one other m n a.2 b.2
+
+-- of protocol files, by the laws of their refusals
+module _ (one_refusal : (text : List ℕ) (e f : ProtocolError) → files.IsRefused text e → files.IsRefused text f → e ≡ f)
+    (no_text : (text : List ℕ) (e : ProtocolError) (file : Declared) → files.IsRefused text e → ¬ (files.IsText file text)) where
+  pub protocol_replies_one : (text : List ℕ) → HasOneReply (IsProtocolReply text)
+  protocol_replies_one text one other m n (inl a) (inl b) = (a.2 ∙ sym b.2, a.3 ∙ sym b.3)
+  protocol_replies_one text one other m n (inl a) (inr b) = absurd (no_text text b.0 a.0 b.1 a.1)
+  protocol_replies_one text one other m n (inr a) (inl b) = absurd (no_text text a.0 b.0 a.1 b.1)
+  protocol_replies_one text one other m n (inr a) (inr b) =
+      let same = one_refusal text a.0 b.0 a.1 b.1 in
+      (a.2 ∙ ap protocol_refusal same ∙ sym b.2, a.3 ∙ sym b.3)

@@ -15,6 +15,7 @@ use Rattle.leastfault.specs.declared.answering.Wanted.TheVariants as wanted
 use Rattle.leastfault.specs.declared.reply.Certified.{Certified}
 use Rattle.leastfault.specs.declared.reply.Reply.{Reply}
 use Rattle.leastfault.specs.declared.reply.Searched.{Searched}
+use Rattle.leastfault.specs.Protocols.{IsProtocolReply}
 use Rattle.leastfault.specs.Replies.{HandsOut, IsAnswerReply, IsCheckReply, IsPoolCause, IsReplyWith, IsRunReply, MayWork, reports_of}
 use Rattle.leastfault.specs.Reports.{tree_refusal}
 
@@ -104,8 +105,9 @@ tree_file (asked.Search file tree all workers quiet) = None
 tree_file (asked.Run file faults) = None
 tree_file (asked.Check file tree quiet) = Some (string_bytes tree)
 tree_file (asked.Answer file quiet) = None
+tree_file (asked.Protocol file) = None
 
--- what is asked for comes to this, by the texts of the scenario and of the certificate that is to be judged
+-- what is asked for comes to this, by the texts of the scenario, or of the protocol, and of the certificate that is to be judged
 abbrev pub IsDone : Asked → List ℕ → List ℕ → List ℕ → Certified → Type 0
 IsDone (asked.Search file tree all workers quiet) text certificate reply ended =
     IsSearchFor (written_to (asked.Search file tree all workers quiet)) (wanted_of all) text reply ended × MayWork workers text
@@ -114,6 +116,7 @@ IsDone (asked.Run file faults) text certificate reply ended =
 IsDone (asked.Check file tree quiet) text certificate reply ended =
     IsCheckReply text certificate reply ended.status × (certificate_of ended ≡ None)
 IsDone (asked.Answer file quiet) text certificate reply ended = IsAnswerReply text reply ended.status × (certificate_of ended ≡ None)
+IsDone (asked.Protocol file) text certificate reply ended = IsProtocolReply text reply ended.status × (certificate_of ended ≡ None)
 
 -- for this cause workers give no answer
 abbrev pub IsCauseFor : Asked → List ℕ → ℕ → Type 0
@@ -121,3 +124,4 @@ IsCauseFor (asked.Search file tree all workers quiet) text number = IsCauseAt wo
 IsCauseFor (asked.Run file faults) text number = ⊥
 IsCauseFor (asked.Check file tree quiet) text number = ⊥
 IsCauseFor (asked.Answer file quiet) text number = ⊥
+IsCauseFor (asked.Protocol file) text number = ⊥

@@ -3,5 +3,6 @@ pub mod Reports
 pub mod Replies
 pub mod Searches
 pub mod Engines
+pub mod Protocols
 pub mod Commands
 pub mod Checks

@@ -10,7 +10,7 @@ use crate::answering::Wanted;
 use crate::certified::{search_by, search_certified};
 use crate::checking::judged_in_rows;
 use crate::fault::BytesFault;
-use crate::made::{answer_made, given_made, run_made};
+use crate::made::{answer_made, given_made, protocol_made, run_made};
 use crate::reply::{Certified, Reply, Searched, without_certificate};
 use lf_streams::Source;
 use lf_watch::Watch;
@@ -29,7 +29,8 @@ pub fn tree_file(asked: &Asked) -> Option<&str>
 {
     match asked {
         Asked::Check { tree, .. } => Some(tree.as_str()),
-        Asked::Search { .. } | Asked::Run { .. } | Asked::Answer { .. } => None,
+        Asked::Search { .. } | Asked::Run { .. } | Asked::Answer { .. } | Asked::Protocol { .. } =>
+            None,
     }
 }
 
@@ -42,14 +43,17 @@ pub fn certificate_file(asked: &Asked) -> Option<&str>
             tree: Some(tree),
             ..
         } => Some(tree.as_str()),
-        Asked::Search { .. } | Asked::Run { .. } | Asked::Check { .. } | Asked::Answer { .. } =>
-            None,
+        Asked::Search { .. }
+        | Asked::Run { .. }
+        | Asked::Check { .. }
+        | Asked::Answer { .. }
+        | Asked::Protocol { .. } => None,
     }
 }
 
 /// Does what is asked, and answers the reply, its status, and the certificate where one is to be written and there is an answer.
 ///
-/// The scenario is read from the one source and the certificate that is to be judged from the other, which is left alone where none is.
+/// The scenario, or the protocol file, is read from the one source and the certificate that is to be judged from the other, which is left alone where none is.
 /// A search by one worker and an answer are made in this thread, and a search by several and a check in several threads. The fault is
 /// never `Write`.
 pub fn execute<T: Threads + Wait + Clock + Sync, R: Source, S: Source, V: Watch>(
@@ -96,6 +100,7 @@ pub fn execute<T: Threads + Wait + Clock + Sync, R: Source, S: Source, V: Watch>
             let given = given_made(alloc, scenario_reader, tree_reader);
             alone(judged_in_rows(rt, alloc, given, watch))
         }
+        Asked::Protocol { .. } => alone(protocol_made(alloc, scenario_reader)),
     }
 }
 

@@ -2,13 +2,14 @@
 
 ghost use Rattle.std.specs.Prelude.{◌≡◌, false};
 ghost use Rattle.leastfault.specs.Engines.{IsEngine, IsEngineOfBoth, NoCause};
+ghost use Rattle.leastfault.specs.Protocols.{IsProtocolReply};
 ghost use Rattle.leastfault.specs.Replies.{IsAnswerReply, IsCheckReply, IsPoolCause, IsRunReply};
 ghost use Rattle.leastfault.specs.Replies.{IsSearched, IsSearchedAll, IsShared, IsSharedAll};
 
 use crate::answering::Wanted;
 use crate::checking::judged_alone;
 use crate::fault::BytesFault;
-use crate::made::{given_made, run_made};
+use crate::made::{given_made, protocol_made, run_made};
 use crate::reply::Searched;
 use crate::sending::send;
 use crate::watched::{answer_watched, check_watched, search_watched, shared_watched};
@@ -79,7 +80,8 @@ pub fn all_shared<T: Threads + Wait + Clock + Sync, R: Source, W: Sink>(
 ) -> Result<Searched, BytesFault>
     requires reader { R.has_failed reader.old ≡ false }
     requires writer { W.has_failed writer.old ≡ false }
-    ensures { IsEngine R.left R.has_failed (IsSharedAll workers) (IsPoolCause workers) reader.old reader.new W.written W.has_failed writer.old writer.new result }
+    ensures { IsEngine R.left R.has_failed (IsSharedAll workers) (IsPoolCause workers) reader.old reader.new
+        W.written W.has_failed writer.old writer.new result }
 {
     shared_watched(
         rt,
@@ -175,4 +177,22 @@ pub fn check_bytes_rows<R: Source, S: Source, W: Sink>(
         scenario_reader.old scenario_reader.new tree_reader.old tree_reader.new W.written W.has_failed writer.old writer.new result }
 {
     check_watched(rt, alloc, scenario_reader, tree_reader, writer, &NoWatch)
+}
+
+/// Reads a protocol file, and writes `ok` where it is one, or else the line of its refusal: `refused protocol NUMBER PLACE`, without
+/// ` PLACE` where the file as a whole is refused. It answers the status: 0 for a protocol file, 2 where it is refused.
+///
+/// It takes and writes as `search_bytes` does: at most `LONGEST + 1` bytes of the source, and nothing before the whole
+/// reply is there.
+pub fn protocol_bytes<R: Source, W: Sink>(
+    alloc: Global,
+    reader: &mut R,
+    writer: &mut W,
+) -> Result<u8, BytesFault>
+    requires reader { R.has_failed reader.old ≡ false }
+    requires writer { W.has_failed writer.old ≡ false }
+    ensures { IsEngine R.left R.has_failed IsProtocolReply NoCause reader.old reader.new W.written W.has_failed writer.old writer.new result }
+{
+    let made = protocol_made(alloc, reader);
+    send(writer, made)
 }

@@ -10,11 +10,13 @@ ghost use Rattle.lf_scenario.specs.Scenarios.{IsText};
 ghost use Rattle.lf_tree.specs.declared.tree.Tree.{Tree};
 ghost use Rattle.leastfault.specs.Answers.{AreLeastSets, IsAnswer, IsLeast};
 ghost use Rattle.leastfault.specs.Commands.{HasOneEnd, IsCertified};
+ghost use Rattle.leastfault.specs.Protocols.{IsProtocolReply};
 ghost use Rattle.leastfault.specs.Replies.{RepliesAll, RepliesReport};
 ghost use Rattle.leastfault.specs.Replies.{HandsOut, HasOneReply, IsAllReply, IsAnswerReply, IsCheckReply, IsRunReply, IsSearchReply, IsTreeText};
 ghost use Rattle.leastfault.specs.Reports.{yes_line};
 
 use lf_faults::{FaultSpec, orders_are_total};
+use lf_protocol_file::refusals_are_one;
 use lf_trace::names_are_one;
 use lf_tree::texts_are_json;
 
@@ -61,6 +63,13 @@ pub fn check_replies_are_one()
     ensures { (text certificate : List ℕ) → HasOneReply (IsCheckReply text certificate) }
 {
     texts_are_json();
+}
+
+/// A text has at most one reply as that of a protocol file, with one status.
+pub fn protocol_replies_are_one()
+    ensures { (text : List ℕ) → HasOneReply (IsProtocolReply text) }
+{
+    refusals_are_one();
 }
 
 /// What `yes` says, whoever made the certificate: the texts are those of a scenario and of a tree, and the tree's answer is

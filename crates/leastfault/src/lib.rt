@@ -15,6 +15,7 @@ mod fault;
 mod laws;
 mod least;
 mod made;
+mod protocol;
 mod reading;
 mod replies;
 mod reply;
@@ -28,21 +29,24 @@ pub use answering::Wanted;
 pub use certified::search_certified;
 pub use commands::{certificate_file, execute, tree_file};
 pub use engine::{
-    all_bytes, all_shared, answer_bytes, check_bytes, check_bytes_rows, run_bytes, search_bytes,
-    search_shared,
+    all_bytes, all_shared, answer_bytes, check_bytes, check_bytes_rows, protocol_bytes, run_bytes,
+    search_bytes, search_shared,
 };
 pub use fault::BytesFault;
 pub use laws::{
-    answers_are_one, check_replies_are_one, least_sets_are_one, replies_are_one, yes_is_the_answer,
+    answers_are_one, check_replies_are_one, least_sets_are_one, protocol_replies_are_one,
+    replies_are_one, yes_is_the_answer,
 };
 pub use least::plain_all;
 pub use lf_check::{Reason, Verdict, check};
 pub use lf_faults::{Fault, FaultSet, Parts};
+pub use lf_protocol_file::{ProtocolError, ProtocolFile, read_protocol};
 pub use lf_scenario::{Key, LONGEST, Scenario, ScenarioError, read};
 pub use lf_streams::{Failed, FromRead, Sink, Source, ToWrite};
 pub use lf_tree::{LONGEST_TREE, Tree, TreeFault, read_tree, to_text};
 pub use lf_watch::{NoWatch, Progress, Watch};
 pub use lf_words::{Asked, Unasked, asked};
+pub use protocol::protocol_refusal;
 pub use replies::{all_report, full_line, judgement, refusal, report, tree_refusal};
 pub use reply::{Certified, Reply, Searched};
 pub use watched::{answer_watched, check_watched, search_watched, shared_watched};

@@ -3,11 +3,13 @@
 ghost use Rattle.std.specs.Prelude.{◌≡◌, false};
 ghost use Rattle.leastfault.specs.Checks.{IsGiven};
 ghost use Rattle.leastfault.specs.Engines.{IsMadeOfBoth, IsMadeOfOne, NoCause, OfReply};
+ghost use Rattle.leastfault.specs.Protocols.{IsProtocolReply};
 ghost use Rattle.leastfault.specs.Replies.{IsAnswerReply, IsPoolCause, IsRunReply, IsSearchedWith, IsSharedWith, reports_of};
 
 use crate::answering::{Wanted, answer_reply, run_reply, search_reply};
 use crate::checking::{Given, texts_given};
 use crate::fault::BytesFault;
+use crate::protocol::protocol_reply;
 use crate::reading::{read_text, read_texts};
 use crate::reply::{Reply, Searched};
 use crate::workers::shared_reply;
@@ -18,6 +20,9 @@ use std::alloc::Global;
 use std::rt::Clock;
 use std::sync::Wait;
 use std::thread::Threads;
+
+// A protocol file may be as long as a scenario.
+const _: () = prove!(LONGEST == lf_protocol_file::LONGEST);
 
 /// The reply of a search to what a source holds.
 pub(crate) fn search_made<R: Source, V: Watch>(
@@ -73,6 +78,18 @@ pub(crate) fn run_made<R: Source>(
 {
     let text = read_text(alloc, reader, LONGEST)?;
     Ok(run_reply(alloc, text.as_slice(), faults)?)
+}
+
+/// The reply to the protocol file that a source holds.
+pub(crate) fn protocol_made<R: Source>(
+    alloc: Global,
+    reader: &mut R,
+) -> Result<Reply<u8>, BytesFault>
+    requires { R.has_failed reader.old ≡ false }
+    ensures { IsMadeOfOne R.left R.has_failed (OfReply IsProtocolReply) NoCause reader.old reader.new result }
+{
+    let text = read_text(alloc, reader, LONGEST)?;
+    Ok(protocol_reply(alloc, text.as_slice())?)
 }
 
 /// What two sources give to be judged, of a scenario and of a tree.

@@ -1,28 +1,33 @@
 //! The program `leastfault`: it reads a scenario and prints the fewest faults that defeat its outcome, or one run, or whether
-//! a certificate of its answer is right.
+//! a certificate of its answer is right; or it reads a protocol file and prints whether it is one.
 //!
 //!     leastfault search FILE [--all] [--tree TREE] [--workers N] [--quiet]
 //!     leastfault answer FILE [--quiet]
 //!     leastfault run FILE FAULTS
 //!     leastfault check FILE TREE [--quiet]
+//!     leastfault protocol FILE
 //!
-//! FILE is a scenario, and `-` is standard input. FAULTS are faults joined by single commas, and the empty word is none. TREE
-//! is a certificate, and `-` is standard input; it can't be that of FILE and of TREE at once. With no words it is `search -`.
-//! With `--all` a search prints all sets with so few faults, and with `--tree` it writes the certificate of its answer into the
+//! FILE is a scenario, or for `protocol` a protocol file, and `-` is standard input. FAULTS are faults joined by single commas, and the
+//! empty word is none. TREE is a certificate, and `-` is standard input; it can't be that of FILE and of TREE at once. With no words it is
+//! `search -`. With `--all` a search prints all sets with so few faults, and with `--tree` it writes the certificate of its answer into the
 //! file TREE, and then the reply. With `--workers` N workers search at once, 1 to 32: the reply and the certificate are the same.
 //!
 //! `answer` prints what `search` does, by another way: it keeps configurations of the cluster and no sets, so no level can be too full, and
 //! it makes no certificate.
 //!
-//! The status is 0 where no allowed set of faults defeats the outcome, where the run reaches it, where the certificate is
-//! right, and after help or the version; 1 where a set defeats it, the run misses it, or the certificate is wrong; 2 where the
-//! scenario, the faults, the certificate's text or the words are refused, or a level of the search is too full; and 3 where
-//! memory ran out, a device failed, or the workers gave no answer: standard error then has the line `memory`, `read` or `write`,
+//! `protocol` prints `ok` where the file is a protocol file, and else `refused protocol NUMBER PLACE`, without the place where the file as
+//! a whole is refused.
+//!
+//! The status is 0 where no allowed set of faults defeats the outcome, where the run reaches it, where the certificate is right, where the
+//! file is a protocol file, and after help or the version; 1 where a set defeats it, the run misses it, or the certificate is wrong; 2 where
+//! the scenario, the faults, the certificate's text, the protocol file or the words are refused, or a level of the search is too full; and 3
+//! where memory ran out, a device failed, or the workers gave no answer: standard error then has the line `memory`, `read` or `write`,
 //! with the device on the next line, or `pool NUMBER`.
 //!
-//! Where the status is 2, standard error says in words what is wrong with what was refused. Where all is well it stays empty. But where it
-//! is a terminal, a search, an answer or a check that takes longer than a second says on one line there how far it has come, and erases
-//! that line before it replies. With `--quiet` it doesn't.
+//! Where the status is 2, standard error says in words what is wrong with what was refused. Where a protocol file is one, it says what the
+//! file has, and what in it looks like a slip. Else it stays empty where all is well. But where it is a terminal, a search, an answer or a
+//! check that takes longer than a second says on one line there how far it has come, and erases that line before it replies. With
+//! `--quiet` it doesn't.
 #![tactic(auto)]
 
 mod devices;
@@ -33,9 +38,10 @@ mod stop;
 use devices::{Text, name_of, opened, print, put};
 use leastfault::{
     Asked, BytesFault, Certified, Reply, TreeFault, Unasked, asked, certificate_file, execute,
-    tree_file,
+    read_protocol, tree_file,
 };
 use lf_hints::{all_hint, check_hint, run_hint, search_hint, see_hint, tree_hint, verdict_hint};
+use lf_protocol_hints::{protocol_hint, protocol_notes};
 use line::Line;
 use std::alloc::{AllocError, Global};
 use std::env;
@@ -123,7 +129,7 @@ fn is_quiet(asked: &Asked) -> bool {
         Asked::Search { quiet, .. } | Asked::Answer { quiet, .. } | Asked::Check { quiet, .. } => {
             *quiet
         }
-        Asked::Run { .. } => true,
+        Asked::Run { .. } | Asked::Protocol { .. } => true,
     }
 }
 
@@ -149,13 +155,14 @@ fn written(rt: &HostRuntime, asked: &Asked, reply: &Reply<Certified>) -> Result<
     print(rt, reply.text.as_str())
 }
 
-/// Says on standard error what is wrong with what was refused, or with a certificate, and on a terminal how to see what a set does that was found:
-/// as far as there is memory for it.
+/// Says on standard error what is wrong with what was refused, or with a certificate, what a protocol file has, and on a terminal how to see
+/// what a set does that was found: as far as there is memory for it.
 fn hint(rt: &HostRuntime, asked: &Asked, reply: &Reply<Certified>, scenario: &Text, tree: &Text) {
     let (Some(text), Some(certificate)) = (scenario.bytes(), tree.bytes()) else {
         return;
     };
     let words = match reply.value.status {
+        0 => read_hint(rt.alloc(), asked, text),
         1 if rt.stderr().is_terminal() => found_hint(
             rt.alloc(),
             asked,
@@ -171,6 +178,22 @@ fn hint(rt: &HostRuntime, asked: &Asked, reply: &Reply<Certified>, scenario: &Te
         if !words.is_empty() {
             let _told = eprintln!(rt; "{words}").is_ok();
         }
+    }
+}
+
+/// What to say of a protocol file that was read, and of nothing else.
+fn read_hint(alloc: Global, asked: &Asked, text: &[u8]) -> Result<String, AllocError> {
+    match asked {
+        Asked::Protocol { .. } => protocol_words(alloc, text),
+        _ => Ok(String::new(alloc)),
+    }
+}
+
+/// What a protocol file has and what in it looks like a slip, or what is wrong with it.
+fn protocol_words(alloc: Global, text: &[u8]) -> Result<String, AllocError> {
+    match read_protocol(alloc, text) {
+        Ok(file) => protocol_notes(alloc, &file),
+        Err(error) => protocol_hint(alloc, text, &error),
     }
 }
 
@@ -220,5 +243,6 @@ fn refused_hint(
         Asked::Search { .. } | Asked::Answer { .. } => search_hint(alloc, text, reply.as_bytes()),
         Asked::Run { faults, .. } => run_hint(alloc, text, faults.as_str()),
         Asked::Check { .. } => check_hint(alloc, text, certificate),
+        Asked::Protocol { .. } => protocol_words(alloc, text),
     }
 }

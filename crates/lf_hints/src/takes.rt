@@ -181,7 +181,7 @@ fn range_of(table: &Table, key: Key) -> Option<(i64, i64, &'static str)> {
         Key::MaxSets => Some((1, i64::from(MOST_SETS), "")),
         Key::Least => Some((LEAST.0, LEAST.1, "")),
         Key::Spread => Some((SPREAD.0, SPREAD.1, "")),
-        Key::Seed | Key::Protocol | Key::Votes | Key::Outcome | Key::Links => None,
+        Key::Seed | Key::Protocol | Key::Votes | Key::Given | Key::Outcome | Key::Links => None,
     }
 }
 
@@ -211,6 +211,9 @@ fn words_of(key: Key) -> &'static str {
     match key {
         Key::Protocol => {
             "\"retry\", \"redundant\", \"two_phase\", \"three_phase\", or with at least three nodes \"primary_backup\""
+        }
+        Key::Given => {
+            "a table of the protocol's constants, each a number from 0 to 255, a truth value, a set of nodes as a text, or a list of one of these for each node"
         }
         _ => "a list of tables, each with from and to",
     }

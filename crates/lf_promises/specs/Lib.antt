@@ -2,3 +2,4 @@ pub mod Fronts
 pub mod Units
 pub mod Promises
 pub mod Readings
+pub mod Facts

@@ -5,10 +5,12 @@
 
 mod error;
 mod fronts;
+mod naming;
 mod promise;
 mod reading;
 mod units;
 
 pub use error::PromiseError;
+pub use naming::names_facts;
 pub use promise::{Many, Promise, Promises};
 pub use reading::read_promise;

@@ -1,7 +1,8 @@
 //! The reader of promises.
 
-ghost use Rattle.std.specs.Prelude.{◌≡◌, ◌≢◌, ◌<◌, ◌≤◌, [], ◌∷◌, ◌++◌, length, IfSome, IfOk, MatchOption, MatchResult, Some, None};
+ghost use Rattle.std.specs.Prelude.{◌≡◌, ◌≢◌, ◌<◌, ◌≤◌, [], ◌∷◌, ◌++◌, length, IfSome, IfOk, MatchOption, MatchResult, Some, None, true};
 ghost use Rattle.lf_grammar.specs.Places.{context_of};
+ghost use Rattle.lf_promises.specs.Facts.{names_facts};
 ghost use Rattle.lf_promises.specs.Promises.{Joined, Part, More, Whole, Round, Timed, behind_joint, of_parts, at_times, promise_of};
 ghost use Rattle.lf_promises.specs.Readings.{Reads};
 
@@ -30,8 +31,9 @@ pub fn read_promise(
     place: &Place<'_>,
     tokens: &[Token],
 ) -> Result<Promise, PromiseError>
-    ensures { MatchResult result (λ promise. promise_of (context_of place.now) tokens.now ≡ Some promise)
+    ensures value { MatchResult result (λ promise. promise_of (context_of place.now) tokens.now ≡ Some promise)
         (λ e. e ≢ PromiseError.Memory → promise_of (context_of place.now) tokens.now ≡ None) }
+    ensures facts { IfOk result (λ promise. names_facts place.now.definition.now promise ≡ true) }
 {
     match read_joined(alloc, place, false, Joint::Or, tokens) {
         Ok((promise, [])) => Ok(promise),

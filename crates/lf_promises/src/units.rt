@@ -1,6 +1,6 @@
 //! What promises are made of.
 
-ghost use Rattle.std.specs.Prelude.{◌≡◌, ◌≤◌, length, IfOk};
+ghost use Rattle.std.specs.Prelude.{◌≤◌, length, IfOk};
 ghost use Rattle.lf_grammar.specs.Places.{context_of};
 ghost use Rattle.lf_grammar.specs.Readings.{said};
 ghost use Rattle.lf_promises.specs.Units.{first_unit, first_nodes, first_group, set_of, first_down, first_at};

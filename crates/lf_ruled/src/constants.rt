@@ -40,8 +40,9 @@ fn is_for(nodes: u32, value: &Given) -> bool
     }
 }
 
-/// The values of the constants at each node.
-pub(crate) fn given_table(nodes: u32, given: &[Given]) -> [[u8; 16]; 8]
+/// The values of the constants, by node and number: what a machine among so many nodes works with. It is 0 where there is no such node in a list, or no such
+/// constant.
+pub fn given_table(nodes: u32, given: &[Given]) -> [[u8; 16]; 8]
     ensures { result ≡ given_table nodes given.now }
 {
     [

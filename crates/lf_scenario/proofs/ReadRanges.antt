@@ -29,7 +29,7 @@ use Rattle.lf_scenario.specs.declared.error.ScenarioError.TheVariants as refusal
 use Rattle.lf_scenario.specs.Values.{Reading, ◌>>=◌, whole}
 use Rattle.lf_scenario.specs.Formulas.{is_point, is_fact_of, is_in_range, IsFormulaOf}
 use Rattle.lf_scenario.specs.Outcomes.{by_word, down_in, fact_in, formula_in, found_fact, in_formula}
-use Rattle.lf_scenario.specs.Outcomes.{limited, named_in, node_in, outcome_in, parts_in, shows_in, step_in}
+use Rattle.lf_scenario.specs.Outcomes.{limited, list_formula, named_in, node_in, outcome_in, parts_in, shows_in, step_in}
 use Rattle.lf_scenario.proofs.NamedRanges.{outcomes_fit, range-All, range-Any, range-Down, range-Shows}
 
 -- what is read, if something is, has a property
@@ -157,6 +157,13 @@ module _ (k : Kind) (b : Bounds) (limits : IsInLimits b) where
   limits_kept : (f : Formula Fact) → fits f → Gives (IsFormulaOf k b) (limited f)
   limits_kept f h = kept f h (nat_le (depth_of f) deepest && nat_le (atoms_of f) most_atoms) refl
 
+  list_fits : (d : Data) → Gives (IsFormulaOf k b) (list_formula k b d)
+  list_fits d = next (IsFormulaOf k b) (formula_in k b d) limited (λ f is. limits_kept f (formula_fits d f is))
+
+  pub limited_fits : (d : Data) (f : Formula Fact) (r : Reading (Formula Fact)) → formula_in k b d ≡ Ok f → r ≡ limited f → IfOk r (IsFormulaOf k b)
+  limited_fits d f (Ok x) read is = limits_kept f (formula_fits d f read) x (sym is)
+  limited_fits d f (Err e) read is = tt
+
   module _ (within_limits : IsWithinLimits k) (same : nodes_of k ≡ b.nodes) where
     by_name : (o : Option Outcome) → ((x : Outcome) → o ≡ Some x → IsFormulaOf k b (formula_of x b.nodes b.horizon)) → Gives (IsFormulaOf k b) (named_in b o)
     by_name (Some x) h = given (IsFormulaOf k b) (formula_of x b.nodes b.horizon) (h x refl)
@@ -167,7 +174,7 @@ module _ (k : Kind) (b : Bounds) (limits : IsInLimits b) where
         by_name (outcome_named k name)
         (found (λ o. IsFormulaOf k b (formula_of o b.nodes b.horizon)) (λ o. bytes_eq name (outcome_word o)) (outcomes_of k)
         (outcomes_fit k b limits within_limits same))
-    outcome_fits key (array ds) = next (IsFormulaOf k b) (formula_in k b (array ds)) limited (λ f is. limits_kept f (formula_fits (array ds) f is))
+    outcome_fits key (array ds) = list_fits (array ds)
     outcome_fits key _ = refused (IsFormulaOf k b) (refusals.WrongKind key)
 
     pub formula_fits-where : (key : Key) (d : Data) (r : Reading (Formula Fact)) → IfOk r (λ f. outcome_in k b key d ≡ Ok f) → IfOk r (IsFormulaOf k b)

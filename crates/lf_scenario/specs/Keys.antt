@@ -4,7 +4,7 @@ use Rattle.std.specs.List.{list_any}
 use Rattle.std.specs.Str.{bytes_eq}
 use Rattle.lf_scenario.specs.declared.key.Key.{Key}
 use Rattle.lf_scenario.specs.declared.key.Key.TheVariants.{Nodes, Horizon, LastOmission, Crashes, Budget, Pauses, PauseLength, MaxSets}
-use Rattle.lf_scenario.specs.declared.key.Key.TheVariants.{Seed, Least, Spread, Protocol, Tries, Patience, Votes, Outcome, Links}
+use Rattle.lf_scenario.specs.declared.key.Key.TheVariants.{Seed, Least, Spread, Protocol, Tries, Patience, Votes, Given, Outcome, Links}
 
 abbrev pub key_name : Key → List ℕ
 key_name Nodes = codes "nodes"
@@ -22,10 +22,11 @@ key_name Protocol = codes "protocol"
 key_name Tries = codes "tries"
 key_name Patience = codes "patience"
 key_name Votes = codes "votes"
+key_name Given = codes "given"
 key_name Outcome = codes "outcome"
 key_name Links = codes "links"
 
--- all of them, in the order in which they are read
+-- those of a scenario of a shipped protocol, in the order in which they are read
 abbrev pub all_keys : List Key
 all_keys =
     Nodes ∷ Horizon ∷ LastOmission ∷ Crashes ∷ Budget ∷ Pauses ∷ PauseLength ∷ MaxSets
@@ -35,6 +36,6 @@ all_keys =
 unfoldable pub is_name_of_one : List Key → List ℕ → Bool
 is_name_of_one some name = list_any (λ key. bytes_eq name (key_name key)) some
 
--- whether a text is one of all the keys
+-- whether a text is one of these
 unfoldable pub is_key_name : List ℕ → Bool
 is_key_name name = is_name_of_one all_keys name

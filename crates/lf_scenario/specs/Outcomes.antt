@@ -96,6 +96,10 @@ abbrev pub limited : Formula Fact → Reading (Formula Fact)
 limited formula =
     if nat_le (depth_of formula) deepest && nat_le (atoms_of formula) most_atoms then Ok formula else Err refusals.Formula
 
+-- the formula of a list, within its limits
+abbrev pub list_formula : Kind → Bounds → Data → Reading (Formula Fact)
+list_formula k b d = formula_in k b d >>= limited
+
 -- the formula of the outcome that a name finds
 abbrev pub named_in : Bounds → Option Named → Reading (Formula Fact)
 named_in b (Some outcome) = Ok (formula_of outcome b.nodes b.horizon)
@@ -104,5 +108,5 @@ named_in b None = Err refusals.Outcome
 -- what the key `outcome` takes: a name, or a list
 abbrev pub outcome_in : Kind → Bounds → Key → Data → Reading (Formula Fact)
 outcome_in k b key (string name) = named_in b (outcome_named k name)
-outcome_in k b key (array ds) = formula_in k b (array ds) >>= limited
+outcome_in k b key (array ds) = list_formula k b (array ds)
 outcome_in k b key _ = Err (refusals.WrongKind key)

@@ -92,6 +92,10 @@ bounds_in ms = do
     pause_length = pause_length;
   })
 
+-- the most sets of faults of one size that the search keeps
+abbrev pub max_sets_in : Members → Reading ℕ
+max_sets_in ms = optional ms MaxSets (whole 1 most_sets) usual_sets
+
 -- what decides when notes arrive, but for the links that have delays of their own
 unfoldable pub delays_in : Members → Reading Delays
 delays_in ms = do
@@ -114,7 +118,7 @@ unfoldable pub described_in : Members → Reading Described
 described_in ms = do
   all ← known ms
   bounds ← bounds_in ms
-  max_sets ← optional ms MaxSets (whole 1 most_sets) usual_sets
+  max_sets ← max_sets_in ms
   delays ← delays_in ms
   kind ← kind_in bounds.nodes ms
   Ok (record { bounds = bounds; max_sets = max_sets; delays = delays; protocol = kind })

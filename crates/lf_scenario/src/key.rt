@@ -36,6 +36,8 @@ pub enum Key {
     Patience,
     /// What each participant of the protocol votes.
     Votes,
+    /// The values of the protocol's constants, where the protocol is one of rules.
+    Given,
     /// What the protocol promises.
     Outcome,
     /// The links that have delays of their own.
@@ -63,6 +65,7 @@ impl Key {
             Key::Tries => "tries",
             Key::Patience => "patience",
             Key::Votes => "votes",
+            Key::Given => "given",
             Key::Outcome => "outcome",
             Key::Links => "links",
         }
@@ -86,6 +89,12 @@ impl Key {
             }
             Key::Tries | Key::Patience => "a whole number from 1 to 48",
             Key::Votes => "a list of truth values, one for each of the nodes from 1 on",
+            Key::Given => {
+                concat!(
+                    "a table of constants that the protocol has, each a number from 0 to 255, a truth value or a text that is a set of nodes, ",
+                    "or a list of one of these for each node, and no 0 by which the protocol divides",
+                )
+            }
             Key::Outcome => {
                 concat!(
                     "a text: \"delivered\" for retry and redundant, \"agreement\" or \"unblocked\" for two_phase and three_phase, ",
@@ -102,9 +111,9 @@ impl Key {
     }
 }
 
-/// Whether a text is one of the seventeen keys.
+/// Whether a text is one of the seventeen keys of a scenario of a shipped protocol.
 #[tactic(auto, unfolding(crate::specs::Keys::is_key_name))]
-pub(crate) fn is_key(name: &str) -> bool
+pub fn is_key(name: &str) -> bool
     ensures { result ≡ is_key_name name.now }
 {
     names_one(

@@ -18,8 +18,12 @@ mod value;
 mod votes;
 
 pub use error::ScenarioError;
-pub use key::Key;
+pub use key::{Key, is_key};
 pub use limits::{DEEPEST, LONGEST, MOST_ATOMS, MOST_SETS};
-pub use reader::read;
+pub use links::{Usual, all_links};
+pub use outcomes::list_formula;
+pub use reader::{assembled, read};
+pub use reading::{Delays, Described, bounds_in, delays_in, max_sets_in};
 pub use scenario::Scenario;
 pub use uniqueness::{refusals_are_one, scenarios_are_one};
+pub use value::{absent, at};

@@ -25,9 +25,12 @@ pub struct Link {
 
 /// How many nodes there are, and the delays of a link that has none of its own.
 #[derive(Clone, Copy)]
-pub(crate) struct Usual {
+pub struct Usual {
+    /// How many nodes there are, 2..=8.
     pub nodes: u32,
+    /// The fewest steps that a note takes, 1..=16.
     pub least: u32,
+    /// How many steps more it may take, 0..=15.
     pub spread: u32,
     ghost some_nodes: { (2 ≤ nodes) × (nodes ≤ 8) },
     ghost some_steps: { (1 ≤ least) × (least ≤ 16) },
@@ -211,9 +214,12 @@ fn has_eight_rows(table: &[[u32; 8]; 8])
     }
 }
 
-/// The delays of all links, by the table and the usual ones.
+/// The delays of all links, by the key `links` of the table and the usual ones.
+///
+/// It is refused where it is no list of tables, and else for the first table with an unknown key, a missing end, an end that is no number, a delay out of
+/// range, or ends that aren't two different nodes or are those of an earlier table; or memory has run out.
 #[tactic(auto, unfolding(crate::specs::LinkTables::all_links))]
-pub(crate) fn all_links(alloc: Global, table: &Table, usual: Usual) -> Result<Links, ScenarioError>
+pub fn all_links(alloc: Global, table: &Table, usual: Usual) -> Result<Links, ScenarioError>
     ensures ok { IfOk result (λ links.
         all_links usual.nodes usual.least usual.spread (table_view table.now) ≡ Ok links) }
     ensures err { IfErr result (λ e. e ≢ ScenarioError.Memory →

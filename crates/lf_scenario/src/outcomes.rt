@@ -7,7 +7,7 @@ ghost use Rattle.lf_scenario.specs.Formulas.{IsFormulaOf};
 ghost use Rattle.lf_scenario.specs.Ranges.{IsInRange};
 ghost use Rattle.lf_scenario.specs.Values.{required};
 ghost use Rattle.lf_scenario.specs.Outcomes.{node_in, step_in, fact_in, down_of, down_in, shows_of, shows_in};
-ghost use Rattle.lf_scenario.specs.Outcomes.{by_word, formula_in, parts_in, limited, named_in, outcome_in};
+ghost use Rattle.lf_scenario.specs.Outcomes.{by_word, formula_in, parts_in, limited, list_formula, named_in, outcome_in};
 
 use crate::limits::{DEEPEST, MOST_ATOMS};
 use crate::reading::Described;
@@ -205,6 +205,21 @@ fn named_in(
     named(alloc, outcome, nodes, horizon).map_err(|_| ScenarioError::Memory)
 }
 
+/// The formula that a value says as a list: at points of the run, by facts of the protocol, at most `DEEPEST` deep, with at most `MOST_ATOMS` atoms.
+pub fn list_formula(
+    alloc: Global,
+    value: &Value,
+    described: &Described,
+) -> Result<Formula<Fact>, ScenarioError>
+    requires { IsInRange described.now }
+    ensures ok { IfOk result (λ f. list_formula described.now.protocol described.now.bounds (view value.now) ≡ Ok f) }
+    ensures err { IfErr result (λ e. e ≢ ScenarioError.Memory →
+        list_formula described.now.protocol described.now.bounds (view value.now) ≡ Err e) }
+    ensures fits { IfOk result (IsFormulaOf described.now.protocol described.now.bounds) }
+{
+    limited(formula_in(alloc, value, described)?)
+}
+
 /// The formula of a value: that of a named outcome, or the one of a list.
 fn outcome_in(
     alloc: Global,
@@ -219,7 +234,7 @@ fn outcome_in(
 {
     match value {
         Value::String(name) => named_in(alloc, name.as_str(), described),
-        Value::Array(_) => limited(formula_in(alloc, value, described)?),
+        Value::Array(_) => list_formula(alloc, value, described),
         _ => Err(ScenarioError::WrongKind(key)),
     }
 }

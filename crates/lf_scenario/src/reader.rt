@@ -65,7 +65,7 @@ fn read_table(alloc: Global, table: &Table) -> Result<Scenario, ScenarioError>
 }
 
 /// The scenario of what was read.
-fn assembled(described: Described, formula: Formula<Fact>, links: Links) -> Scenario
+pub fn assembled(described: Described, formula: Formula<Fact>, links: Links) -> Scenario
     requires ranges { IsInRange described }
     requires formula { IsFormulaOf described.protocol described.bounds formula }
     requires links { IsLinks described.bounds.nodes links }

@@ -5,10 +5,11 @@ ghost use Rattle.lf_faults.specs.Allowed.{without_pauses};
 ghost use Rattle.lf_protocols.specs.Limits.{IsWithinLimits};
 ghost use Rattle.lf_protocols.specs.Protocols.{nodes_of};
 ghost use Rattle.toml.specs.View.{view, table_view};
+ghost use Rattle.lf_scenario.specs.Limits.{most_sets};
 ghost use Rattle.lf_scenario.specs.Ranges.{AreDelays, IsInRange};
 ghost use Rattle.lf_scenario.specs.Values.{required};
 ghost use Rattle.lf_scenario.specs.Reading.{protocol_of, protocol_in, has_tries, has_patience, has_votes};
-ghost use Rattle.lf_scenario.specs.Reading.{kind_of, bounds_in, delays_in, kind_in, described_in};
+ghost use Rattle.lf_scenario.specs.Reading.{kind_of, bounds_in, max_sets_in, delays_in, kind_in, described_in};
 
 use crate::limits::{MOST_SETS, USUAL_SETS};
 use crate::names::ProtocolName;
@@ -22,8 +23,11 @@ use toml::{Table, Value};
 /// What decides when notes arrive, but for the links that have delays of their own.
 #[derive(Clone, Copy, Debug, PartialEq, Eq)]
 pub struct Delays {
+    /// The key of the stream cipher that picks the delays of notes.
     pub seed: [u8; 32],
+    /// The fewest steps that a note takes, 1..=16.
     pub least: u32,
+    /// How many steps more it may take, 0..=15.
     pub spread: u32,
 }
 
@@ -31,14 +35,15 @@ pub struct Delays {
 #[derive(Debug, Drop)]
 pub struct Described {
     pub bounds: FaultSpec,
+    /// The most sets of faults of one size that the search keeps, 1..=`MOST_SETS`.
     pub max_sets: u32,
     pub delays: Delays,
     pub protocol: Protocol,
 }
 
-/// Nodes, steps, and bounds on faults.
+/// Nodes, steps, and bounds on faults, of a table. The first key that is missing, of the wrong kind or out of range is refused, in the order of `Key`.
 #[tactic(auto, unfolding(crate::specs::Reading::bounds_in))]
-fn bounds_in(table: &Table) -> Result<FaultSpec, ScenarioError>
+pub fn bounds_in(table: &Table) -> Result<FaultSpec, ScenarioError>
     ensures { result ≡ bounds_in (table_view table.now) }
 {
     let nodes = required_whole(table, Key::Nodes, 2, 8)?;
@@ -72,7 +77,7 @@ fn without_pauses(
 
 /// What decides when notes arrive, but for the links that have delays of their own.
 #[tactic(auto, unfolding(crate::specs::Reading::delays_in))]
-fn delays_in(table: &Table) -> Result<Delays, ScenarioError>
+pub fn delays_in(table: &Table) -> Result<Delays, ScenarioError>
     ensures value { result ≡ delays_in (table_view table.now) }
     ensures within { IfOk result AreDelays }
 {
@@ -84,6 +89,14 @@ fn delays_in(table: &Table) -> Result<Delays, ScenarioError>
         least,
         spread,
     })
+}
+
+/// The most sets of faults of one size that the search keeps.
+pub fn max_sets_in(table: &Table) -> Result<u32, ScenarioError>
+    ensures value { result ≡ max_sets_in (table_view table.now) }
+    ensures within { IfOk result (λ n. (1 ≤ n) × (n ≤ most_sets)) }
+{
+    optional_whole(table, Key::MaxSets, 1, MOST_SETS, USUAL_SETS)
 }
 
 /// The protocol of this name. One with a backup needs three nodes.
@@ -198,7 +211,7 @@ pub(crate) fn described_in(table: &Table) -> Result<Described, ScenarioError>
 {
     known(table)?;
     let bounds = bounds_in(table)?;
-    let max_sets = optional_whole(table, Key::MaxSets, 1, MOST_SETS, USUAL_SETS)?;
+    let max_sets = max_sets_in(table)?;
     let delays = delays_in(table)?;
     let protocol = kind_in(table, bounds.nodes())?;
     Ok(Described {

@@ -3,15 +3,15 @@
 ghost use Rattle.std.specs.Prelude.{◌≡◌, ◌≤◌, true, option_map, replicate, IfOk};
 ghost use Rattle.toml.specs.Data.{get_member};
 ghost use Rattle.toml.specs.View.{view, table_view};
-ghost use Rattle.lf_scenario.specs.Values.{whole, seed_in, required, optional, owned, known};
+ghost use Rattle.lf_scenario.specs.Values.{whole, seed_in, required, optional, foreign, owned, known};
 
 use crate::key::is_key;
 use crate::{Key, ScenarioError};
 use hex::FromHex;
 use toml::{Table, Value};
 
-/// The value at a key, if there is one.
-pub(crate) fn at<'a>(table: &'a Table, key: &str) -> Option<&'a Value>
+/// The value at a key of a table, if there is one.
+pub fn at<'a>(table: &'a Table, key: &str) -> Option<&'a Value>
     ensures { option_map (λ v. view v.now) result ≡ get_member key.now (table_view table.now) }
 {
     table.get(key)
@@ -91,6 +91,17 @@ pub(crate) fn optional_seed(table: &Table) -> Result<[u8; 32], ScenarioError>
     }
 }
 
+/// Refuses a key that this protocol doesn't have.
+#[tactic(auto, unfolding(crate::specs::Values::foreign))]
+pub fn absent(table: &Table, key: Key) -> Result<(), ScenarioError>
+    ensures { result ≡ foreign (table_view table.now) key tt }
+{
+    match at(table, key.name()) {
+        Some(_) => Err(ScenarioError::OtherProtocol(key)),
+        None => Ok(()),
+    }
+}
+
 /// The whole number of a key of some protocols, and 0 where this protocol doesn't have it.
 #[tactic(auto, unfolding(crate::specs::Values::foreign))]
 pub(crate) fn owned_whole(
@@ -106,10 +117,8 @@ pub(crate) fn owned_whole(
     if has {
         return required_whole(table, key, low, high);
     }
-    match at(table, key.name()) {
-        Some(_) => Err(ScenarioError::OtherProtocol(key)),
-        None => Ok(0),
-    }
+    absent(table, key)?;
+    Ok(0)
 }
 
 /// Refuses a table with a key that scenarios don't have.

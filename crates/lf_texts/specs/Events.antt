@@ -14,14 +14,6 @@ use Rattle.lf_texts.specs.Lists.{bracketed}
 use Rattle.lf_texts.specs.Names.{is_free}
 use Rattle.lf_texts.specs.Reading.{Reading, ◌>>=◌, Read, checked}
 
--- what a rule is on, and the names of the note's fields there
-pub record Hearing : Type 0 where
-  pub on : Event
-  pub fields : List (List ℕ)
-
-abbrev pub heard : Heard → Hearing
-heard h = record { on = h.on; fields = h.fields.items }
-
 -- the events that are no note's
 abbrev pub event_named : List ℕ → Option Event
 event_named word =
@@ -47,18 +39,18 @@ names_in names kinds [] = Ok []
 names_in names kinds (t ∷ ts) = names_inside names kinds (t ∷ ts)
 
 -- a note's name, and behind it the names of its fields
-unfoldable pub heard_in : Context → List ℕ → List Token → Reading Hearing
+unfoldable pub heard_in : Context → List ℕ → List Token → Reading Heard
 heard_in at word ts = do
   form ← form_from 0 word at.definition.notes
   fields ← names_in at.names form.kinds ts
   Ok (record { on = events.Note form.number; fields = fields })
 
-abbrev pub event_by : Context → Read (List ℕ) → Option Event → Reading Hearing
+abbrev pub event_by : Context → Read (List ℕ) → Option Event → Reading Heard
 event_by at x None = heard_in at x.value x.rest
 event_by at x (Some on) = ended x.rest >>= λ end. Ok (record { on = on; fields = [] })
 
 -- what a rule is on
-unfoldable pub event_in : Context → List Token → Reading Hearing
+unfoldable pub event_in : Context → List Token → Reading Heard
 event_in at ts = do
   x ← first_word ts
   event_by at x (event_named x.value)

@@ -1,14 +1,28 @@
 -- The tokens of texts, and what comes first among tokens.
-use Rattle.std.specs.Prelude.{ℕ, List, [], ◌∷◌, Result, Ok, Err}
+use Rattle.std.specs.Prelude.{ℕ, Bool, true, false, ◌&&◌, ◌==◌, List, [], ◌∷◌, Result, Ok, Err}
+use Rattle.std.specs.Str.{bytes_eq}
 use Rattle.lf_tokens.specs.declared.error.TokenError.{TokenError}
 use Rattle.lf_tokens.specs.declared.sign.Sign.{Sign}
 use Rattle.lf_tokens.specs.declared.token.Token.{Token}
 use Rattle.lf_tokens.specs.declared.token.Token.TheVariants as tokens
 use Rattle.lf_tokens.specs.Tokens.{tokens_of}
-use Rattle.lf_grammar.specs.Fronts.{behind_sign, behind_word}
+use Rattle.lf_grammar.specs.Fronts.{behind_sign, behind_word, same_sign}
 use Rattle.lf_texts.specs.declared.error.TextError.TheVariants as faults
 use Rattle.lf_texts.specs.Faults.{of_tokens}
 use Rattle.lf_texts.specs.Reading.{Reading, wanted, Read}
+
+-- two texts have the same tokens
+abbrev pub same_token : Token → Token → Bool
+same_token (tokens.Number a) (tokens.Number b) = a == b
+same_token (tokens.Word a) (tokens.Word b) = bytes_eq a b
+same_token (tokens.Sign a) (tokens.Sign b) = same_sign a b
+same_token one other = false
+
+abbrev pub same_tokens : List Token → List Token → Bool
+same_tokens [] [] = true
+same_tokens [] (u ∷ us) = false
+same_tokens (t ∷ ts) [] = false
+same_tokens (t ∷ ts) (u ∷ us) = same_token t u && same_tokens ts us
 
 -- the tokens of a text
 abbrev pub as_text : Result (List Token) TokenError → Reading (List Token)

@@ -14,17 +14,6 @@ use Rattle.lf_texts.specs.Lists.{listed}
 use Rattle.lf_texts.specs.Names.{is_free, is_name}
 use Rattle.lf_texts.specs.Reading.{Reading, ◌>>=◌, Read, checked}
 
--- what a variable's values are: of a kind, of the kind of the variable with a name, or these words
-pub data Holding : Type 0 where
-  OfKind : Kind → Holding
-  Like : List ℕ → Holding
-  OneOf : List (List ℕ) → Holding
-
-abbrev pub holding : VariableText → Holding
-holding (texts.Kind kind) = OfKind kind
-holding (texts.Like name) = Like name
-holding (texts.Words words) = OneOf words.items
-
 -- a word behind others: one that is free
 unfoldable pub first_free : List Meaning → List (List ℕ) → List Token → Reading (Read (List ℕ))
 first_free names before ts = do
@@ -33,33 +22,32 @@ first_free names before ts = do
   Ok x
 
 -- words of its own: one, and at most 15 more
-unfoldable pub words_in : List Meaning → List Token → Reading Holding
+unfoldable pub words_in : List Meaning → List Token → Reading VariableText
 words_in names ts = do
   first ← first_free names [] ts
   next ← past signs.Bar first.rest
   x ← listed (first_free names) signs.Bar 15 (first.value ∷ []) next
   end ← ended x.rest
-  Ok (OneOf x.value)
+  Ok (texts.Words x.value)
 
 -- tokens that begin with a word that is no kind: alone it is another variable's name, and else the first of words of its own
-abbrev pub own_in : Context → List Token → List ℕ → List Token → Reading Holding
-own_in at ts word [] = checked (is_name word) >>= λ fit. Ok (Like word)
+abbrev pub own_in : Context → List Token → List ℕ → List Token → Reading VariableText
+own_in at ts word [] = checked (is_name word) >>= λ fit. Ok (texts.Like word)
 own_in at ts word (t ∷ more) = words_in at.names ts
 
-abbrev pub kind_alone : Read Kind → Reading Holding
-kind_alone x = ended x.rest >>= λ end. Ok (OfKind x.value)
+abbrev pub kind_alone : Read Kind → Reading VariableText
+kind_alone x = ended x.rest >>= λ end. Ok (texts.Kind x.value)
 
-abbrev pub held_by : Context → List Token → List ℕ → List Token → Option Kind → Reading Holding
+abbrev pub held_by : Context → List Token → List ℕ → List Token → Option Kind → Reading VariableText
 held_by at ts word rest None = own_in at ts word rest
 held_by at ts word rest (Some kind) = kind_alone (record { value = kind; rest = rest })
 
 -- what a variable holds
-unfoldable pub variable_in : Context → List Token → Reading Holding
+unfoldable pub variable_in : Context → List Token → Reading VariableText
 variable_in at (tokens.Word word ∷ rest) = held_by at (tokens.Word word ∷ rest) word rest (kind_named word)
 variable_in at other = first_range other >>= λ x. kind_alone x
 
 -- words of its own are 2 at least and 16 at most
-abbrev pub IsHolding : Holding → Type 0
-IsHolding (OfKind kind) = Unit {0}
-IsHolding (Like name) = Unit {0}
-IsHolding (OneOf words) = (2 ≤ length words) × (length words ≤ 16)
+abbrev pub HasWords : VariableText → Type 0
+HasWords (texts.Words words) = (2 ≤ length words) × (length words ≤ 16)
+HasWords other = Unit {0}

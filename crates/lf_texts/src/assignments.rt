@@ -4,7 +4,7 @@ ghost use Rattle.std.specs.Prelude.{◌≡◌, ◌≤◌, [], length, IfOk, Ok, 
 ghost use Rattle.lf_grammar.specs.Places.{context_of};
 ghost use Rattle.lf_texts.specs.Assignments.{variable_named, is_set, first_set, sets_in};
 ghost use Rattle.lf_texts.specs.Lists.{listed};
-ghost use Rattle.lf_texts.specs.Reading.{Says, Gives, read_by};
+ghost use Rattle.lf_texts.specs.Reading.{Gives, read_by};
 
 use crate::TextError;
 use crate::fronts::{ended, first_word, past};

@@ -2,7 +2,7 @@
 
 ghost use Rattle.std.specs.Prelude.{◌≡◌, [], Ok, Err};
 ghost use Rattle.lf_grammar.specs.Places.{context_of};
-ghost use Rattle.lf_texts.specs.Events.{heard, event_named, first_bind, names_inside, names_in, heard_in, event_in};
+ghost use Rattle.lf_texts.specs.Events.{event_named, first_bind, names_inside, names_in, heard_in, event_in};
 ghost use Rattle.lf_texts.specs.Lists.{bracketed};
 ghost use Rattle.lf_texts.specs.Reading.{Gives, read_by};
 
@@ -12,6 +12,7 @@ use crate::fronts::{ended, first_word};
 use crate::lists::{closed, opened, put};
 use crate::names::{is_free, named};
 use lf_grammar::{Meaning, Place};
+use lf_list::Listed;
 use lf_rules::{Event, Kind, Name};
 use lf_tokens::Token;
 use std::alloc::Global;
@@ -21,14 +22,14 @@ use std::alloc::Global;
 pub struct Heard {
     pub on: Event,
     /// The names that the note's fields have in the rule, in order. A field that has none is `_` there. None where no field has one.
-    pub fields: Vec<Name>,
+    pub fields: Listed<Name>,
 }
 
 /// Reads a text that says what a rule is on: `start`, `wake`, `begin`, `end`, or a note's name, and behind it in brackets a name or `_` for each of the
 /// note's fields. The brackets may be missing, and are where there are no fields. A name is free: it means nothing so far, and stands once.
 #[tactic(auto, unfolding(crate::specs::Events::event_in))]
 pub fn read_event(alloc: Global, place: &Place<'_>, tokens: &[Token]) -> Result<Heard, TextError>
-    ensures { Gives heard (event_in (context_of place.now) tokens.now) result }
+    ensures { Gives (λ heard. heard) (event_in (context_of place.now) tokens.now) result }
 {
     let (word, rest) = first_word(tokens)?;
     match event_named(word.as_str()) {
@@ -36,7 +37,7 @@ pub fn read_event(alloc: Global, place: &Place<'_>, tokens: &[Token]) -> Result<
             ended(rest)?;
             Ok(Heard {
                 on,
-                fields: Vec::new(alloc),
+                fields: Listed::from_vec(Vec::new(alloc)),
             })
         }
         None => read_heard(alloc, place, word.as_str(), rest),
@@ -64,13 +65,13 @@ fn read_heard(
     word: &str,
     tokens: &[Token],
 ) -> Result<Heard, TextError>
-    ensures { Gives heard (heard_in (context_of place.now) word.now tokens.now) result }
+    ensures { Gives (λ heard. heard) (heard_in (context_of place.now) word.now tokens.now) result }
 {
     let (form, kinds) = form_named(place.definition.notes.as_slice(), word)?;
     let fields = read_names(alloc, place.names, kinds, tokens)?;
     Ok(Heard {
         on: Event::Note(form),
-        fields,
+        fields: Listed::from_vec(fields),
     })
 }
 

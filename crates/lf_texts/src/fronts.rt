@@ -1,7 +1,7 @@
 //! Tokens, and what comes first among them.
 
-ghost use Rattle.std.specs.Prelude.{◌≡◌, ◌↔◌, IsTrue, MatchResult, Ok, Err};
-ghost use Rattle.lf_texts.specs.Fronts.{text_in, ended, past, past_word, first_word};
+ghost use Rattle.std.specs.Prelude.{◌≡◌, ◌↔◌, IsTrue, Ok, Err};
+ghost use Rattle.lf_texts.specs.Fronts.{same_token, same_tokens, text_in, ended, past, past_word, first_word};
 ghost use Rattle.lf_texts.specs.Reading.{Says, Gives};
 
 use crate::TextError;
@@ -23,7 +23,8 @@ pub fn text_tokens(alloc: Global, text: &str) -> Result<Vec<Token>, TextError>
 
 /// Whether two texts have the same tokens.
 pub fn same_tokens(one: &[Token], other: &[Token]) -> bool
-    ensures { IsTrue result ↔ (one.now ≡ other.now) }
+    ensures is { result ≡ same_tokens one.now other.now }
+    ensures same { IsTrue result ↔ (one.now ≡ other.now) }
 {
     match one {
         [] => other.is_empty(),
@@ -36,7 +37,8 @@ pub fn same_tokens(one: &[Token], other: &[Token]) -> bool
 
 /// Whether two tokens are the same.
 fn same_token(one: &Token, other: &Token) -> bool
-    ensures { IsTrue result ↔ (one.now ≡ other.now) }
+    ensures is { result ≡ same_token one.now other.now }
+    ensures same { IsTrue result ↔ (one.now ≡ other.now) }
 {
     match (one, other) {
         (Token::Number(one), Token::Number(other)) => one == other,

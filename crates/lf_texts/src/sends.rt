@@ -1,6 +1,6 @@
 //! What rules send.
 
-ghost use Rattle.std.specs.Prelude.{◌≡◌, ◌≤◌, [], length, IfOk, Ok, Err};
+ghost use Rattle.std.specs.Prelude.{◌≤◌, [], length, IfOk, Ok, Err};
 ghost use Rattle.lf_rules.specs.Kinds.{sort_of};
 ghost use Rattle.lf_grammar.specs.Places.{context_of};
 ghost use Rattle.lf_texts.specs.Lists.{bracketed, listed};

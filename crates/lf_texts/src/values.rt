@@ -1,6 +1,6 @@
 //! Texts that are expressions.
 
-ghost use Rattle.std.specs.Prelude.{◌≡◌, Ok, Err};
+ghost use Rattle.std.specs.Prelude.{Ok, Err};
 ghost use Rattle.lf_rules.specs.Terms.{term_of};
 ghost use Rattle.lf_grammar.specs.Expressions.{first_truth, first_sum};
 ghost use Rattle.lf_grammar.specs.Places.{context_of};

@@ -1,10 +1,10 @@
 //! What variables hold.
 
-ghost use Rattle.std.specs.Prelude.{◌≡◌, ◌≤◌, ◌∷◌, [], length, IfOk, Ok, Err};
+ghost use Rattle.std.specs.Prelude.{◌∷◌, [], IfOk, Ok, Err};
 ghost use Rattle.lf_grammar.specs.Places.{context_of};
 ghost use Rattle.lf_texts.specs.Lists.{listed};
 ghost use Rattle.lf_texts.specs.Reading.{Says, Gives, read_by};
-ghost use Rattle.lf_texts.specs.Variables.{holding, first_free, words_in, own_in, kind_alone, variable_in, IsHolding};
+ghost use Rattle.lf_texts.specs.Variables.{first_free, words_in, own_in, kind_alone, variable_in, HasWords};
 
 use crate::TextError;
 use crate::fronts::{ended, first_word, past};
@@ -12,6 +12,7 @@ use crate::kinds::{first_range, kind_named};
 use crate::lists::put;
 use crate::names::{is_free, is_name, named};
 use lf_grammar::{Meaning, Place, behind_sign};
+use lf_list::Listed;
 use lf_rules::{Kind, Name};
 use lf_tokens::{Sign, Token};
 use std::alloc::Global;
@@ -27,7 +28,7 @@ pub enum VariableText {
     /// They are of the kind of the variable with this name.
     Like(Name),
     /// They are these words, 2..=16, in order.
-    Words(Vec<Name>),
+    Words(Listed<Name>),
 }
 
 /// Reads a text that says what a variable holds: a kind, another variable's name, or words of its own with `|` between. A word is free: it means nothing so
@@ -38,8 +39,8 @@ pub fn read_variable(
     place: &Place<'_>,
     tokens: &[Token],
 ) -> Result<VariableText, TextError>
-    ensures read { Gives holding (variable_in (context_of place.now) tokens.now) result }
-    ensures words { IfOk result (λ text. IsHolding (holding text)) }
+    ensures read { Gives (λ text. text) (variable_in (context_of place.now) tokens.now) result }
+    ensures words { IfOk result HasWords }
 {
     match tokens.split_first() {
         Some((Token::Word(word), rest)) => match kind_named(word.as_str()) {
@@ -55,7 +56,7 @@ pub fn read_variable(
 
 /// A kind, where nothing stands behind it.
 fn kind_alone(kind: Kind, rest: &[Token]) -> Result<VariableText, TextError>
-    ensures { Says holding (kind_alone (record { value = kind; rest = rest.now })) result }
+    ensures { Says (λ text. text) (kind_alone (record { value = kind; rest = rest.now })) result }
 {
     ended(rest)?;
     Ok(VariableText::Kind(kind))
@@ -69,8 +70,8 @@ fn read_own(
     word: &str,
     rest: &[Token],
 ) -> Result<VariableText, TextError>
-    ensures read { Gives holding (own_in (context_of place.now) tokens.now word.now rest.now) result }
-    ensures words { IfOk result (λ text. IsHolding (holding text)) }
+    ensures read { Gives (λ text. text) (own_in (context_of place.now) tokens.now word.now rest.now) result }
+    ensures words { IfOk result HasWords }
 {
     if !rest.is_empty() {
         read_words(alloc, place.names, tokens)
@@ -85,14 +86,14 @@ fn read_own(
 /// Reads words with `|` between.
 #[tactic(auto, unfolding(crate::specs::Variables::words_in))]
 fn read_words(alloc: Global, names: &[Meaning], tokens: &[Token]) -> Result<VariableText, TextError>
-    ensures read { Gives holding (words_in names.now tokens.now) result }
-    ensures words { IfOk result (λ text. IsHolding (holding text)) }
+    ensures read { Gives (λ text. text) (words_in names.now tokens.now) result }
+    ensures words { IfOk result HasWords }
 {
     let (first, after) = first_free(alloc, names, &[], tokens)?;
     let next = past(after, Sign::Bar)?;
     let (words, rest) = listed_words(alloc, names, first, next)?;
     ended(rest)?;
-    Ok(VariableText::Words(words))
+    Ok(VariableText::Words(Listed::from_vec(words)))
 }
 
 /// A word with those that come first, and the tokens behind them.

@@ -86,6 +86,7 @@ asked_range words (Some p) (asked.Search file tree all workers quiet) h = named_
 asked_range words (Some p) (asked.Run file faults) h = (omega arith, omega arith)
 asked_range words (Some p) (asked.Check file tree quiet) h = (omega arith, omega arith)
 asked_range words (Some p) (asked.Answer file quiet) h = (omega arith, omega arith)
+asked_range words (Some p) (asked.Protocol file) h = (omega arith, omega arith)
 
 pub range_of : (words : List Text) (r : Result Asked Unasked) → Answers words r → IfOk r (λ a. IsWorkers (workers_of a))
 range_of words (Ok a) asks = asked_range words (subcommand_of program words) a asks.0.1

@@ -1,7 +1,7 @@
 -- Searches with one option.
 use Rattle.std.proofs.Common.{◌≡◌, ◌&&◌, not, ◌∙◌, ℕ, List, [], ◌∷◌, Option, Some, None, String, Global, inl, inr, refl, sym, ap, subst}
 use Rattle.std.proofs.Common.{true, false, codes, map, option_map}
-use Rattle.std.specs.Prelude.{Bool, ◌⊎◌}
+use Rattle.std.specs.Prelude.{Bool}
 use Rattle.std.specs.Str.{bytes_eq}
 use Rattle.std.specs.String.{string_bytes}
 use Rattle.std.proofs.lemmas.Bool.{not-true}
@@ -16,7 +16,7 @@ use Rattle.lf_words.specs.declared.types.Asked.TheVariants as asked
 use Rattle.lf_words.specs.declared.unasked.Unasked.{Unasked}
 use Rattle.lf_words.specs.declared.unasked.Unasked.TheVariants as unasked
 use Rattle.lf_words.proofs.Plain.{counted_fault, counted_names, is_taken, named_search, written_fault, written_names}
-use Rattle.lf_words.proofs.Plainly.{Search, answer_or_search, both, check_or_search, no_thing, run_or_search, some_is}
+use Rattle.lf_words.proofs.Plainly.{Search, answer_or_search, both, check_or_search, no_thing, protocol_or_search, run_or_search, some_is}
 use Rattle.lf_words.proofs.Reading.{no_truth}
 
 -- a certificate for the scenario of a file would be written into it
@@ -58,6 +58,9 @@ search_is words (Some p) file tree all workers quiet (asked.Check own own_tree o
 search_is words (Some p) file tree all workers quiet (asked.Answer own own_quiet) names asked =
     let found : named_search p ≡ (codes "search", Some file, tree, all, workers, quiet) = some_is _ _ names in
     absurd (answer_or_search p.0 asked.0.0 (ap (λ (q : Search). q.0) found))
+search_is words (Some p) file tree all workers quiet (asked.Protocol own) names asked =
+    let found : named_search p ≡ (codes "search", Some file, tree, all, workers, quiet) = some_is _ _ names in
+    absurd (protocol_or_search p.0 asked.0.0 (ap (λ (q : Search). q.0) found))
 
 -- search FILE --workers N
 

@@ -48,6 +48,10 @@ named_both key p = (p.0, first_of (codes "file") p.1, first_of key p.1)
 abbrev named_quiet : Text × List Row → Bool
 named_quiet p = is_set (first_of (codes "quiet") p.1)
 
+-- a command's name and its file
+abbrev pub named_alone : Text × List Row → Text × Option Text
+named_alone p = (p.0, first_of (codes "file") p.1)
+
 -- a command's name, its file, and its flag
 abbrev pub named_one : Text × List Row → Text × Option Text × Bool
 named_one p = (p.0, first_of (codes "file") p.1, named_quiet p)
@@ -128,6 +132,15 @@ pub answer_names : (file : Text) → IsTaken file
 unfolding clap_on_literals
 answer_names file taken = rw (taken.no_end, taken.no_long, taken.no_short) refl
 
+pub protocol_fault : (file : Text) → IsTaken file → fault_of program (codes "protocol" ∷ file ∷ []) ≡ []
+unfolding clap_on_literals
+protocol_fault file taken = rw (taken.no_end, taken.no_long, taken.no_short) refl
+
+pub protocol_names : (file : Text) → IsTaken file
+    → option_map named_alone (subcommand_of program (codes "protocol" ∷ file ∷ [])) ≡ Some (codes "protocol", Some file)
+unfolding clap_on_literals
+protocol_names file taken = rw (taken.no_end, taken.no_long, taken.no_short) refl
+
 pub help_fault : (words : List Text) → fault_of program (codes "--help" ∷ words) ≡ kind.DisplayHelp ∷ []
 unfolding clap_on_literals
 help_fault words = refl
@@ -145,8 +158,8 @@ unfolding clap_on_literals
 short_version_fault words = refl
 
 pub unknown_fault : (word : Text) (words : List Text) → IsTaken word → bytes_eq (codes "search") word ≡ false → bytes_eq (codes "run") word ≡ false
-    → bytes_eq (codes "check") word ≡ false → bytes_eq (codes "answer") word ≡ false
+    → bytes_eq (codes "check") word ≡ false → bytes_eq (codes "answer") word ≡ false → bytes_eq (codes "protocol") word ≡ false
     → fault_of program (word ∷ words) ≡ kind.UnknownArgument ∷ kind.InvalidSubcommand ∷ []
 unfolding clap_on_literals
-unknown_fault word words taken no_search no_run no_check no_answer =
-    rw (no_search, no_run, no_check, no_answer, taken.no_end, taken.no_long, taken.no_short) refl
+unknown_fault word words taken no_search no_run no_check no_answer no_protocol =
+    rw (no_search, no_run, no_check, no_answer, no_protocol, taken.no_end, taken.no_long, taken.no_short) refl

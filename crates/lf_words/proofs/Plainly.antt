@@ -12,15 +12,15 @@ use Rattle.clap.specs.Words.{Kinds, Row, Text, fault_of, subcommand_of}
 use Rattle.lf_words.specs.Commands.{program}
 use Rattle.lf_words.specs.Plain.{asks_help, asks_version, is_plain, is_plain_command, is_unknown, takes_one, takes_two}
 use Rattle.lf_words.specs.Statuses.{exit_status, status_of}
-use Rattle.lf_words.specs.Words.{AreNamed, Asks, CanBeDone, HasStatus, IsAskedIn, IsPlainly, IsRefusal, IsUncounted, is_input, overwrites, shares_input, texts_of}
-use Rattle.lf_words.specs.Words.{written_to}
+use Rattle.lf_words.specs.Words.{AreNamed, Asks, CanBeDone, HasStatus, IsAskedIn, IsPlainly, IsRefusal, IsUncounted}
+use Rattle.lf_words.specs.Words.{is_input, overwrites, shares_input, texts_of, written_to}
 use Rattle.lf_words.specs.declared.types.Asked.{Asked}
 use Rattle.lf_words.specs.declared.types.Asked.TheVariants as asked
 use Rattle.lf_words.specs.declared.unasked.Unasked.{Unasked}
 use Rattle.lf_words.specs.declared.unasked.Unasked.TheVariants as unasked
-use Rattle.lf_words.proofs.Plain.{IsTaken, is_taken, named_both, named_check, named_one, named_search}
+use Rattle.lf_words.proofs.Plain.{IsTaken, is_taken, named_alone, named_both, named_check, named_one, named_search}
 use Rattle.lf_words.proofs.Plain.{answer_fault, answer_names, check_fault, check_names, run_fault, run_names, search_fault, search_names}
-use Rattle.lf_words.proofs.Plain.{help_fault, short_help_fault, short_version_fault, unknown_fault, version_fault}
+use Rattle.lf_words.proofs.Plain.{help_fault, protocol_fault, protocol_names, short_help_fault, short_version_fault, unknown_fault, version_fault}
 use Rattle.lf_words.proofs.Reading.{apart, no_truth}
 
 abbrev Both : Type 0
@@ -31,6 +31,9 @@ Check = Text × Option Text × Option Text × Bool
 
 abbrev One : Type 0
 One = Text × Option Text × Bool
+
+abbrev Alone : Type 0
+Alone = Text × Option Text
 
 abbrev pub Search : Type 0
 Search = Text × Option Text × Option Text × Bool × Option Text × Bool
@@ -75,6 +78,18 @@ answer_or_run name is_answer is_run = apart 97 114 (omega arith) (ap first (sym 
 answer_or_check : (name : Text) → name ≡ codes "answer" → name ≡ codes "check" → ⊥
 answer_or_check name is_answer is_check = apart 97 99 (omega arith) (ap first (sym is_answer ∙ is_check))
 
+pub protocol_or_search : (name : Text) → name ≡ codes "protocol" → name ≡ codes "search" → ⊥
+protocol_or_search name is_protocol is_search = apart 112 115 (omega arith) (ap first (sym is_protocol ∙ is_search))
+
+protocol_or_run : (name : Text) → name ≡ codes "protocol" → name ≡ codes "run" → ⊥
+protocol_or_run name is_protocol is_run = apart 112 114 (omega arith) (ap first (sym is_protocol ∙ is_run))
+
+protocol_or_check : (name : Text) → name ≡ codes "protocol" → name ≡ codes "check" → ⊥
+protocol_or_check name is_protocol is_check = apart 99 112 (omega arith) (ap first (sym is_check ∙ is_protocol))
+
+protocol_or_answer : (name : Text) → name ≡ codes "protocol" → name ≡ codes "answer" → ⊥
+protocol_or_answer name is_protocol is_answer = apart 97 112 (omega arith) (ap first (sym is_answer ∙ is_protocol))
+
 search_of : (words : List Text) (o : Option (Text × List Row)) (file : Text) (a : Asked)
     → option_map named_search o ≡ Some (codes "search", Some file, None, false, None, false)
     → IsAskedIn words o a → IsPlainly (codes "search" ∷ file ∷ []) a
@@ -98,6 +113,9 @@ search_of words (Some p) file (asked.Check own tree quiet) names asked =
 search_of words (Some p) file (asked.Answer own quiet) names asked =
     let found : named_search p ≡ (codes "search", Some file, None, false, None, false) = some_is _ _ names in
     absurd (answer_or_search p.0 asked.0.0 (ap (λ (q : Search). q.0) found))
+search_of words (Some p) file (asked.Protocol own) names asked =
+    let found : named_search p ≡ (codes "search", Some file, None, false, None, false) = some_is _ _ names in
+    absurd (protocol_or_search p.0 asked.0.0 (ap (λ (q : Search). q.0) found))
 
 asks_search : (words : List Text) (o : Option (Text × List Row)) (file : String Global)
     → option_map named_search o ≡ Some (codes "search", Some (string_bytes file), None, false, None, false)
@@ -134,6 +152,9 @@ run_of words (Some p) file faults (asked.Check own tree quiet) names asked =
 run_of words (Some p) file faults (asked.Answer own quiet) names asked =
     let pair : named_both (codes "faults") p ≡ (codes "run", Some file, Some faults) = some_is _ _ names in
     absurd (answer_or_run p.0 asked.0.0 (ap (λ (q : Both). q.0) pair))
+run_of words (Some p) file faults (asked.Protocol own) names asked =
+    let pair : named_both (codes "faults") p ≡ (codes "run", Some file, Some faults) = some_is _ _ names in
+    absurd (protocol_or_run p.0 asked.0.0 (ap (λ (q : Both). q.0) pair))
 
 asks_run : (words : List Text) (o : Option (Text × List Row)) (file faults : String Global)
     → option_map (named_both (codes "faults")) o ≡ Some (codes "run", Some (string_bytes file), Some (string_bytes faults))
@@ -167,6 +188,9 @@ check_of words (Some p) file tree (asked.Check own own_tree quiet) names asked =
 check_of words (Some p) file tree (asked.Answer own quiet) names asked =
     let pair : named_check p ≡ (codes "check", Some file, Some tree, false) = some_is _ _ names in
     absurd (answer_or_check p.0 asked.0.0 (ap (λ (q : Check). q.0) pair))
+check_of words (Some p) file tree (asked.Protocol own) names asked =
+    let pair : named_check p ≡ (codes "check", Some file, Some tree, false) = some_is _ _ names in
+    absurd (protocol_or_check p.0 asked.0.0 (ap (λ (q : Check). q.0) pair))
 
 asks_check : (words : List Text) (o : Option (Text × List Row)) (file tree : String Global)
     → option_map named_check o ≡ Some (codes "check", Some (string_bytes file), Some (string_bytes tree), false)
@@ -200,6 +224,9 @@ answer_of words (Some p) file (asked.Answer own quiet) names asked =
       alone = refl;
       told = sym asked.0.2 ∙ ap (λ (q : One). q.2) found;
     }
+answer_of words (Some p) file (asked.Protocol own) names asked =
+    let found : named_one p ≡ (codes "answer", Some file, false) = some_is _ _ names in
+    absurd (protocol_or_answer p.0 asked.0.0 (ap (λ (q : One). q.0) found))
 
 asks_answer : (words : List Text) (o : Option (Text × List Row)) (file : String Global)
     → option_map named_one o ≡ Some (codes "answer", Some (string_bytes file), false)
@@ -209,6 +236,34 @@ asks_answer words (Some p) file names is =
     let found : named_one p ≡ (codes "answer", Some (string_bytes file), false) = some_is _ _ names in
     ((ap (λ (q : One). q.0) found, ap (λ (q : One). q.1) found, ap (λ (q : One). q.2) found), rw (is) (inl (refl, inl (refl, tt))))
 
+protocol_of : (words : List Text) (o : Option (Text × List Row)) (file : Text) (a : Asked)
+    → option_map named_alone o ≡ Some (codes "protocol", Some file) → IsAskedIn words o a → IsPlainly (codes "protocol" ∷ file ∷ []) a
+protocol_of words None file a names asked = elim asked [ ]
+protocol_of words (Some p) file (asked.Search own tree all workers quiet) names asked =
+    let found : named_alone p ≡ (codes "protocol", Some file) = some_is _ _ names in
+    absurd (protocol_or_search p.0 (ap (λ (q : Alone). q.0) found) asked.0.0)
+protocol_of words (Some p) file (asked.Run own faults) names asked =
+    let found : named_alone p ≡ (codes "protocol", Some file) = some_is _ _ names in
+    absurd (protocol_or_run p.0 (ap (λ (q : Alone). q.0) found) asked.0.0)
+protocol_of words (Some p) file (asked.Check own tree quiet) names asked =
+    let found : named_alone p ≡ (codes "protocol", Some file) = some_is _ _ names in
+    absurd (protocol_or_check p.0 (ap (λ (q : Alone). q.0) found) asked.0.0)
+protocol_of words (Some p) file (asked.Answer own quiet) names asked =
+    let found : named_alone p ≡ (codes "protocol", Some file) = some_is _ _ names in
+    absurd (protocol_or_answer p.0 (ap (λ (q : Alone). q.0) found) asked.0.0)
+protocol_of words (Some p) file (asked.Protocol own) names asked =
+    let found : named_alone p ≡ (codes "protocol", Some file) = some_is _ _ names in
+    let same : own.bytes.items ≡ file = some_is _ _ (sym asked.0.1 ∙ ap (λ (q : Alone). q.1) found) in
+    record { texts = rw (same) refl; unwritten = refl; one = refl; alone = refl; told = refl }
+
+asks_protocol : (words : List Text) (o : Option (Text × List Row)) (file : String Global)
+    → option_map named_alone o ≡ Some (codes "protocol", Some (string_bytes file))
+    → words ≡ codes "protocol" ∷ string_bytes file ∷ [] → IsAskedIn words o (asked.Protocol file)
+asks_protocol words None file names is = absurd (no_thing _ names)
+asks_protocol words (Some p) file names is =
+    let found : named_alone p ≡ (codes "protocol", Some (string_bytes file)) = some_is _ _ names in
+    ((ap (λ (q : Alone). q.0) found, ap (λ (q : Alone). q.1) found), rw (is) (inl (refl, inl (refl, tt))))
+
 -- what is asked for by some number of workers isn't asked for by none
 pub counted : (words : List Text) (o : Option (Text × List Row)) (a : Asked) → IsAskedIn words o a → IsUncounted o → ⊥
 counted words None a asked uncounted = elim asked [ ]
@@ -216,6 +271,7 @@ counted words (Some p) (asked.Search file tree all workers quiet) asked uncounte
 counted words (Some p) (asked.Run file faults) asked uncounted = run_or_search p.0 asked.0.0 uncounted.0
 counted words (Some p) (asked.Check file tree quiet) asked uncounted = check_or_search p.0 asked.0.0 uncounted.0
 counted words (Some p) (asked.Answer file quiet) asked uncounted = answer_or_search p.0 asked.0.0 uncounted.0
+counted words (Some p) (asked.Protocol file) asked uncounted = protocol_or_search p.0 asked.0.0 uncounted.0
 
 -- words that are taken, and ask for something that can be done, are refused for want of memory alone
 only_memory : (words : List Text) (a : Asked) (u : Unasked) → Asks words a → ((b : Asked) → Asks words b → CanBeDone b)
@@ -228,16 +284,23 @@ only_memory words a (unasked.Overwrites text) asks possible over = absurd (no_tr
 only_memory words a unasked.SharedInput asks possible shared = absurd (no_truth (sym (possible shared.0 shared.1).apart ∙ shared.2))
 only_memory words a unasked.Memory asks possible refusal = refl
 
-one_is : (command file : Text) → is_plain_command (command ∷ file ∷ []) ≡ true
-    → ((command ≡ codes "search") ⊎ (command ≡ codes "answer")) × IsTaken file
+abbrev IsOfOne : Text → Type 0
+IsOfOne command = (command ≡ codes "search") ⊎ ((command ≡ codes "answer") ⊎ (command ≡ codes "protocol"))
+
+alone_is : (command : Text) → takes_one command ≡ true → IsOfOne command
+alone_is command takes =
+    elim (either (bytes_eq command (codes "search")) (bytes_eq command (codes "answer") || bytes_eq command (codes "protocol")) takes) [
+      | inl search ↦ inl ((bytes_eq-Decides command (codes "search")).0 search)
+      | inr other ↦ inr (elim (either (bytes_eq command (codes "answer")) (bytes_eq command (codes "protocol")) other) [
+        | inl answer ↦ inl ((bytes_eq-Decides command (codes "answer")).0 answer)
+        | inr protocol ↦ inr ((bytes_eq-Decides command (codes "protocol")).0 protocol)
+      ])
+    ]
+
+one_is : (command file : Text) → is_plain_command (command ∷ file ∷ []) ≡ true → IsOfOne command × IsTaken file
 one_is command file plain =
-    let h = both (takes_one command) (is_plain file) plain in (
-      elim (either (bytes_eq command (codes "search")) (bytes_eq command (codes "answer")) h.0) [
-        | inl search ↦ inl ((bytes_eq-Decides command (codes "search")).0 search)
-        | inr answer ↦ inr ((bytes_eq-Decides command (codes "answer")).0 answer)
-      ],
-      is_taken file h.1,
-    )
+    let h = both (takes_one command) (is_plain file) plain in
+    (alone_is command h.0, is_taken file h.1)
 
 abbrev IsOfTwo : Text → Text → Text → Type 0
 IsOfTwo command one other =
@@ -266,8 +329,10 @@ asks_plainly (command ∷ file ∷ []) a plain asks =
     elim is.0 [
       | inl search ↦ subst (λ c. Asks (c ∷ file ∷ []) a → IsPlainly (c ∷ file ∷ []) a) (sym search)
           (λ h. search_of _ (subcommand_of program (codes "search" ∷ file ∷ [])) file a (search_names file is.1) h.1) asks
-      | inr answer ↦ subst (λ c. Asks (c ∷ file ∷ []) a → IsPlainly (c ∷ file ∷ []) a) (sym answer)
+      | inr (inl answer) ↦ subst (λ c. Asks (c ∷ file ∷ []) a → IsPlainly (c ∷ file ∷ []) a) (sym answer)
           (λ h. answer_of _ (subcommand_of program (codes "answer" ∷ file ∷ [])) file a (answer_names file is.1) h.1) asks
+      | inr (inr protocol) ↦ subst (λ c. Asks (c ∷ file ∷ []) a → IsPlainly (c ∷ file ∷ []) a) (sym protocol)
+          (λ h. protocol_of _ (subcommand_of program (codes "protocol" ∷ file ∷ [])) file a (protocol_names file is.1) h.1) asks
     ]
 asks_plainly (command ∷ one ∷ other ∷ []) a plain asks =
     let is = two_are command one other plain in
@@ -290,6 +355,7 @@ shared_not_plain (asked.Check file tree quiet) true is plain =
       | inr check ↦ absurd (no_truth (sym (not-true _ check.1) ∙ is))
     ]
 shared_not_plain (asked.Answer file quiet) true is plain = absurd (no_truth is)
+shared_not_plain (asked.Protocol file) true is plain = absurd (no_truth is)
 
 -- nor a certificate
 unwritten_is_kept : (a : Asked) → written_to a ≡ None → overwrites a ≡ false
@@ -298,6 +364,7 @@ unwritten_is_kept (asked.Search file (Some tree) all workers quiet) unwritten = 
 unwritten_is_kept (asked.Run file faults) unwritten = refl
 unwritten_is_kept (asked.Check file tree quiet) unwritten = refl
 unwritten_is_kept (asked.Answer file quiet) unwritten = refl
+unwritten_is_kept (asked.Protocol file) unwritten = refl
 
 can_be_done : (words : List Text) → is_plain_command words ≡ true → (a : Asked) → Asks words a → CanBeDone a
 can_be_done words plain a asks =
@@ -322,13 +389,22 @@ asks_some (command ∷ file ∷ []) plain =
               asks_search words (subcommand_of program words) file (search_names (string_bytes file) is.1) refl,
             ),
           )
-      | inr answer ↦
+      | inr (inl answer) ↦
           let words = codes "answer" ∷ string_bytes file ∷ [] in
           subst (λ c. (a : Asked) × Asks (c ∷ string_bytes file ∷ []) a) (sym answer) (
             asked.Answer file false,
             (
               answer_fault (string_bytes file) is.1,
               asks_answer words (subcommand_of program words) file (answer_names (string_bytes file) is.1) refl,
+            ),
+          )
+      | inr (inr protocol) ↦
+          let words = codes "protocol" ∷ string_bytes file ∷ [] in
+          subst (λ c. (a : Asked) × Asks (c ∷ string_bytes file ∷ []) a) (sym protocol) (
+            asked.Protocol file,
+            (
+              protocol_fault (string_bytes file) is.1,
+              asks_protocol words (subcommand_of program words) file (protocol_names (string_bytes file) is.1) refl,
             ),
           )
     ]
@@ -396,6 +472,7 @@ shared_is (asked.Check file tree quiet) is =
     let other : is_input tree.bytes.items ≡ true = (bytes_eq-Decides tree.bytes.items (codes "-")).1 (ap third is) in
     rw (one, other) refl
 shared_is (asked.Answer file quiet) is = absurd (apart 2 3 (omega arith) (ap size is))
+shared_is (asked.Protocol file) is = absurd (apart 2 3 (omega arith) (ap size is))
 
 shared_plainly : (a : Asked) → Asks shared_words a → IsPlainly shared_words a
 shared_plainly a asks = check_of _ (subcommand_of program shared_words) (codes "-") (codes "-") a
@@ -449,13 +526,15 @@ version_is (word ∷ words) version = elim (either (bytes_eq word (codes "--vers
 pub unknown_is : (words : List Text) → is_unknown words ≡ true → fault_of program words ≡ kind.UnknownArgument ∷ kind.InvalidSubcommand ∷ []
 unknown_is [] unknown = absurd (no_truth unknown)
 unknown_is (word ∷ words) unknown =
-    let no_check = not (bytes_eq (codes "check") word) && not (bytes_eq (codes "answer") word) in
+    let no_answer = not (bytes_eq (codes "answer") word) && not (bytes_eq (codes "protocol") word) in
+    let no_check = not (bytes_eq (codes "check") word) && no_answer in
     let no_run = not (bytes_eq (codes "run") word) && no_check in
     let h = both (is_plain word) (not (bytes_eq (codes "search") word) && no_run) unknown in
     let k = both (not (bytes_eq (codes "search") word)) no_run h.1 in
     let l = both (not (bytes_eq (codes "run") word)) no_check k.1 in
-    let m = both (not (bytes_eq (codes "check") word)) (not (bytes_eq (codes "answer") word)) l.1 in
-    unknown_fault word words (is_taken word h.0) (not-true _ k.0) (not-true _ l.0) (not-true _ m.0) (not-true _ m.1)
+    let m = both (not (bytes_eq (codes "check") word)) no_answer l.1 in
+    let n = both (not (bytes_eq (codes "answer") word)) (not (bytes_eq (codes "protocol") word)) m.1 in
+    unknown_fault word words (is_taken word h.0) (not-true _ k.0) (not-true _ l.0) (not-true _ m.0) (not-true _ n.0) (not-true _ n.1)
 
 abbrev kinds_count : Kinds → ℕ
 kinds_count [] = 0

@@ -82,6 +82,10 @@ check = with_rule loud_check quiet
 abbrev pub answer : App
 answer = with_rule (of_file (codes "answer")) quiet
 
+-- protocol FILE
+abbrev pub protocol : App
+protocol = of_file (codes "protocol")
+
 -- the words are all after the program's name, there is a version and no command `help`, and one command has to be named
 abbrev pub plain : App
 plain = on_top (λ s. record s {
@@ -100,8 +104,11 @@ without_check = with_subcommand without_run run.top
 abbrev pub without_answer : App
 without_answer = with_subcommand without_check check.top
 
+abbrev pub without_protocol : App
+without_protocol = with_subcommand without_answer answer.top
+
 abbrev pub program : App
-program = with_subcommand without_answer answer.top
+program = with_subcommand without_protocol protocol.top
 
 -- a command that `clap` reads so, with no argument that is meant for others too
 abbrev pub IsBuilt : App → Command → Type 0

@@ -17,9 +17,9 @@ takes_two command one other =
 
 -- the command takes one word
 abbrev pub takes_one : Text → Bool
-takes_one command = bytes_eq command (codes "search") || bytes_eq command (codes "answer")
+takes_one command = bytes_eq command (codes "search") || (bytes_eq command (codes "answer") || bytes_eq command (codes "protocol"))
 
--- search FILE, answer FILE, run FILE FAULTS, or check FILE TREE
+-- search FILE, answer FILE, protocol FILE, run FILE FAULTS, or check FILE TREE
 abbrev pub is_plain_command : List Text → Bool
 is_plain_command (command ∷ file ∷ []) = takes_one command && is_plain file
 is_plain_command (command ∷ one ∷ other ∷ []) = takes_two command one other && (is_plain one && is_plain other)
@@ -46,4 +46,4 @@ abbrev pub is_unknown : List Text → Bool
 is_unknown [] = false
 is_unknown (word ∷ words) =
     is_plain word && (not (bytes_eq (codes "search") word) && (not (bytes_eq (codes "run") word)
-    && (not (bytes_eq (codes "check") word) && not (bytes_eq (codes "answer") word))))
+    && (not (bytes_eq (codes "check") word) && (not (bytes_eq (codes "answer") word) && not (bytes_eq (codes "protocol") word)))))

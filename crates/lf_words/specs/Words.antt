@@ -18,12 +18,13 @@ IsPartOf [] words = ⊤
 IsPartOf (text ∷ texts) [] = ⊥
 IsPartOf (text ∷ texts) (word ∷ words) = ((text ≡ word) × IsPartOf texts words) ⊎ IsPartOf (text ∷ texts) words
 
--- the file of the scenario
+-- the file of the scenario, or of the protocol
 abbrev pub file_of : Asked → Text
 file_of (asked.Search file tree all workers quiet) = file.bytes.items
 file_of (asked.Run file faults) = file.bytes.items
 file_of (asked.Check file tree quiet) = file.bytes.items
 file_of (asked.Answer file quiet) = file.bytes.items
+file_of (asked.Protocol file) = file.bytes.items
 
 -- the command, and what it requires
 abbrev pub texts_of : Asked → List Text
@@ -31,6 +32,7 @@ texts_of (asked.Search file tree all workers quiet) = codes "search" ∷ file.by
 texts_of (asked.Run file faults) = codes "run" ∷ file.bytes.items ∷ faults.bytes.items ∷ []
 texts_of (asked.Check file tree quiet) = codes "check" ∷ file.bytes.items ∷ tree.bytes.items ∷ []
 texts_of (asked.Answer file quiet) = codes "answer" ∷ file.bytes.items ∷ []
+texts_of (asked.Protocol file) = codes "protocol" ∷ file.bytes.items ∷ []
 
 -- the file for a certificate that is to be written
 abbrev pub written_to : Asked → Option Text
@@ -38,6 +40,7 @@ written_to (asked.Search file tree all workers quiet) = option_map (λ t. t.byte
 written_to (asked.Run file faults) = None
 written_to (asked.Check file tree quiet) = None
 written_to (asked.Answer file quiet) = None
+written_to (asked.Protocol file) = None
 
 -- all least sets are to be told
 abbrev pub wants_all : Asked → Bool
@@ -45,6 +48,7 @@ wants_all (asked.Search file tree all workers quiet) = all
 wants_all (asked.Run file faults) = false
 wants_all (asked.Check file tree quiet) = false
 wants_all (asked.Answer file quiet) = false
+wants_all (asked.Protocol file) = false
 
 -- how many workers are to do it
 abbrev pub workers_of : Asked → ℕ
@@ -52,6 +56,7 @@ workers_of (asked.Search file tree all workers quiet) = workers
 workers_of (asked.Run file faults) = 1
 workers_of (asked.Check file tree quiet) = 1
 workers_of (asked.Answer file quiet) = 1
+workers_of (asked.Protocol file) = 1
 
 -- nothing is to be told on the way
 abbrev pub is_quiet : Asked → Bool
@@ -59,6 +64,7 @@ is_quiet (asked.Search file tree all workers quiet) = quiet
 is_quiet (asked.Run file faults) = false
 is_quiet (asked.Check file tree quiet) = quiet
 is_quiet (asked.Answer file quiet) = quiet
+is_quiet (asked.Protocol file) = false
 
 -- just these words are asked for, and no option
 pub record IsPlainly (words : List Text) (a : Asked) : Type 0 where
@@ -78,6 +84,7 @@ shares_input (asked.Search file tree all workers quiet) = false
 shares_input (asked.Run file faults) = false
 shares_input (asked.Check file tree quiet) = is_input file.bytes.items && is_input tree.bytes.items
 shares_input (asked.Answer file quiet) = false
+shares_input (asked.Protocol file) = false
 
 -- the certificate would be written into the file of the scenario, by the same name. `-` is standard input for a scenario, and for a
 -- certificate that is to be written a file of that name
@@ -88,6 +95,7 @@ overwrites (asked.Search file (Some tree) all workers quiet) =
 overwrites (asked.Run file faults) = false
 overwrites (asked.Check file tree quiet) = false
 overwrites (asked.Answer file quiet) = false
+overwrites (asked.Protocol file) = false
 
 -- what is asked for can be done
 pub record CanBeDone (a : Asked) : Type 0 where
@@ -120,6 +128,7 @@ IsMatched name rows (asked.Check file tree quiet) = (name ≡ codes "check") × 
     × (first_of (codes "tree") rows ≡ Some tree.bytes.items) × (is_set (first_of (codes "quiet") rows) ≡ quiet)
 IsMatched name rows (asked.Answer file quiet) = (name ≡ codes "answer") × (first_of (codes "file") rows ≡ Some file.bytes.items)
     × (is_set (first_of (codes "quiet") rows) ≡ quiet)
+IsMatched name rows (asked.Protocol file) = (name ≡ codes "protocol") × (first_of (codes "file") rows ≡ Some file.bytes.items)
 
 -- it asks for this, and of words that are there
 abbrev pub IsAskedBy : List Text → Text → List Row → Asked → Type 0

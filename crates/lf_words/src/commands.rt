@@ -2,7 +2,7 @@
 
 ghost use Rattle.std.specs.Prelude.{◌≡◌, IfOk, false};
 ghost use Rattle.clap.specs.Words.{App, Rule, app_of, rule_of, with_rule, with_subcommand};
-ghost use Rattle.lf_words.specs.Commands.{IsBuilt, answer, check, flag, of_file, option, plain, positional, program, quiet, run, search};
+ghost use Rattle.lf_words.specs.Commands.{IsBuilt, answer, check, flag, of_file, option, plain, positional, program, protocol, quiet, run, search};
 
 use clap::{Arg, ArgAction, Command};
 use std::alloc::{AllocError, Global};
@@ -17,14 +17,16 @@ Without arguments it reads a scenario from standard input and searches, as `leas
 
 /// What the arguments of the commands stand for, the statuses that the program exits with, and two examples.
 const NOTES: &str = "Arguments:
-  FILE    a scenario, a TOML file; - is standard input
+  FILE    a scenario, a TOML file, or for `protocol` a protocol file; - is standard input
   FAULTS  faults joined by single commas: 'omit 0>1 @2,crash 2 @3'; '' is no fault
   TREE    a certificate, a JSON file; - is standard input, but not for FILE and TREE at once. After --tree it is the file to write
 
 Exit status:
-  0  no allowed faults make the scenario miss its outcome, the run reaches it, or the certificate is right; also help and the version
+  0  no allowed faults make the scenario miss its outcome, the run reaches it, or the certificate or the protocol file is right; also help
+     and the version
   1  faults that make it miss were found, the run misses it, or the certificate is wrong
-  2  the arguments, the scenario, the faults or the certificate's text are refused, or a level of the search has too many sets (`full`)
+  2  the arguments, the scenario, the faults, the certificate's text or the protocol file are refused, or a level of the search has too
+     many sets (`full`)
   3  out of memory (`memory`), a file or stream failed (`read`, `write`), or the workers gave no answer (`pool NUMBER`)
 
 Examples:
@@ -72,6 +74,18 @@ Exit status:
   2  the arguments or the scenario are refused
   3  out of memory (`memory`), or a file or stream failed (`read`, `write`)";
 
+/// An example of `protocol`, and its statuses.
+const PROTOCOL_NOTES: &str = "Example:
+  leastfault protocol commit.toml
+
+Exit status:
+  0  `ok`: the file is a protocol file. Standard error tells what it has, and what in it looks like a slip
+  2  the arguments or the file are refused. Standard error tells what stands where, and what may stand there
+  3  out of memory (`memory`), or a file or stream failed (`read`, `write`)";
+
+/// What FILE is for the commands about a scenario.
+const SCENARIO: &str = "A scenario, a TOML file; - is standard input";
+
 /// The command line of the program, with the program's name in help.
 pub(crate) fn program<'a>(alloc: Global) -> Result<Command<'a>, AllocError>
     ensures { IfOk result (λ c. app_of c ≡ program) }
@@ -79,7 +93,8 @@ pub(crate) fn program<'a>(alloc: Global) -> Result<Command<'a>, AllocError>
     let program = with_command(plain(alloc), search(alloc));
     let program = with_command(program, run(alloc));
     let program = with_command(program, check(alloc));
-    with_command(program, answer(alloc))
+    let program = with_command(program, answer(alloc));
+    with_command(program, protocol(alloc))
 }
 
 /// The command line without its commands.
@@ -103,6 +118,7 @@ fn search<'a>(alloc: Global) -> Result<Command<'a>, AllocError>
     let command = of_file(
         alloc,
         "search",
+        SCENARIO,
         "Prints the fewest faults that make the scenario FILE miss its outcome, or `none`",
         SEARCH_NOTES,
     );
@@ -134,6 +150,7 @@ fn run<'a>(alloc: Global) -> Result<Command<'a>, AllocError>
     let command = of_file(
         alloc,
         "run",
+        SCENARIO,
         "Runs the scenario FILE with the faults FAULTS and prints each step",
         RUN_NOTES,
     );
@@ -153,6 +170,7 @@ fn check<'a>(alloc: Global) -> Result<Command<'a>, AllocError>
     let command = of_file(
         alloc,
         "check",
+        SCENARIO,
         "Checks the certificate TREE of an answer to the scenario FILE: prints `yes`, or `no` and why",
         CHECK_NOTES,
     );
@@ -172,6 +190,7 @@ fn answer<'a>(alloc: Global) -> Result<Command<'a>, AllocError>
     let command = of_file(
         alloc,
         "answer",
+        SCENARIO,
         "Prints the same answer as `search`, found by merging equal states of the cluster.
 It has no limit on the number of sets and writes no certificate: use it where `search` says `full`.",
         ANSWER_NOTES,
@@ -179,21 +198,30 @@ It has no limit on the number of sets and writes no certificate: use it where `s
     with_argument(command, quiet(alloc))
 }
 
-/// A command with this name and the argument FILE, and what help says of it before and behind its arguments.
+/// The command `protocol FILE`.
+fn protocol<'a>(alloc: Global) -> Result<Command<'a>, AllocError>
+    ensures { IfOk result (IsBuilt protocol) }
+{
+    of_file(
+        alloc,
+        "protocol",
+        "A protocol file, which is TOML; - is standard input",
+        "Checks the protocol file FILE: prints `ok`, or where it is refused and why",
+        PROTOCOL_NOTES,
+    )
+}
+
+/// A command with this name and the argument FILE, which is this, and what help says of it before and behind its arguments.
 fn of_file<'a>(
     alloc: Global,
     name: &'a str,
+    file: &'a str,
     about: &'a str,
     notes: &'a str,
 ) -> Result<Command<'a>, AllocError>
     ensures { IfOk result (IsBuilt (of_file name.entry.now)) }
 {
-    let file = positional(
-        alloc,
-        "file",
-        "FILE",
-        "A scenario, a TOML file; - is standard input",
-    );
+    let file = positional(alloc, "file", "FILE", file);
     Command::new(alloc, name)
         .about(about)
         .after_help(notes)

@@ -5,7 +5,15 @@ use lf_near::nearest;
 use std::alloc::{AllocError, Global};
 
 /// The words that a command line can begin with.
-const FIRST_WORDS: [&str; 6] = ["search", "run", "check", "answer", "--help", "--version"];
+const FIRST_WORDS: [&str; 7] = [
+    "search",
+    "run",
+    "check",
+    "answer",
+    "protocol",
+    "--help",
+    "--version",
+];
 
 /// How `clap` begins its advice to pass a word behind `--`, which no command of the program needs.
 const NEEDLESS: &str = "  tip: to pass '";

@@ -43,10 +43,15 @@ pub enum Asked {
         /// Whether nothing is to be told on the way.
         quiet: bool,
     },
+    /// To tell whether a file is a protocol file.
+    Protocol {
+        /// The file of the protocol.
+        file: String,
+    },
 }
 
 impl Asked {
-    /// The file of the scenario.
+    /// The file of the scenario, or of the protocol where that is all that is asked about.
     pub fn file(&self) -> &str
         ensures { result.now ≡ file_of self.now }
     {
@@ -54,7 +59,8 @@ impl Asked {
             Asked::Search { file, .. }
             | Asked::Run { file, .. }
             | Asked::Check { file, .. }
-            | Asked::Answer { file, .. } => file.as_str(),
+            | Asked::Answer { file, .. }
+            | Asked::Protocol { file } => file.as_str(),
         }
     }
 
@@ -64,7 +70,10 @@ impl Asked {
     {
         match self {
             Asked::Check { file, tree, .. } => file.as_str() == "-" && tree.as_str() == "-",
-            Asked::Search { .. } | Asked::Run { .. } | Asked::Answer { .. } => false,
+            Asked::Search { .. }
+            | Asked::Run { .. }
+            | Asked::Answer { .. }
+            | Asked::Protocol { .. } => false,
         }
     }
 
@@ -78,8 +87,11 @@ impl Asked {
                 tree: Some(tree),
                 ..
             } => file.as_str() != "-" && file.as_str() == tree.as_str(),
-            Asked::Search { .. } | Asked::Run { .. } | Asked::Check { .. } | Asked::Answer { .. } =>
-                false,
+            Asked::Search { .. }
+            | Asked::Run { .. }
+            | Asked::Check { .. }
+            | Asked::Answer { .. }
+            | Asked::Protocol { .. } => false,
         }
     }
 }

@@ -124,6 +124,7 @@ fn command(
         "run" => run(alloc, words, rest),
         "check" => check(alloc, words, rest),
         "answer" => answer(alloc, words, rest),
+        "protocol" => protocol(alloc, words, rest),
         _ => Ok(None),
     }
 }
@@ -248,6 +249,26 @@ fn answer(
     Ok(Some(Asked::Answer {
         file: String::from_str(alloc, file)?,
         quiet: is_set(matches, "quiet"),
+    }))
+}
+
+/// What the matches of `protocol` ask for. None where they ask for nothing that is among the words.
+fn protocol(
+    alloc: Global,
+    words: &[String],
+    matches: &ArgMatches<'_>,
+) -> Result<Option<Asked>, AllocError>
+    ensures { IfOk result (IsAnswer (IsAskedBy (map string_bytes words.now) (codes "protocol")
+        (rows_of (found_of matches.now)))) }
+{
+    let Some(file) = value(matches, "file") else {
+        return Ok(None);
+    };
+    if !are_part_of(&["protocol", file], words) {
+        return Ok(None);
+    }
+    Ok(Some(Asked::Protocol {
+        file: String::from_str(alloc, file)?,
     }))
 }
 

@@ -119,6 +119,7 @@ const NAMED: &str = concat!(
     "search+-+--tree+-|- / -\n",
     "run+s+t|s / /\n",
     "answer+s|s / /\n",
+    "protocol+p|p / /\n",
     "check+s+t|s t /\n",
     "check+-+t|- t /\n",
 );

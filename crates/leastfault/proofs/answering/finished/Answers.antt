@@ -10,5 +10,8 @@ pub returns : goal.returns
 returns c =
     let s = scenario_of c.args.book in
     let tree : IsTreeFor s c.in-Ok.tree = record { search = c.in-Ok.ensures.tree; accepted = c.in-Ok.ensures.accepted } in
-    let found : Reply Searched = record { text = c.in_ok-text.field-0.text; value = record { status = c.in_ok-text.field-0.value; tree = Some c.in-Ok.tree } } in
+    let found : Reply Searched = record {
+      text = c.in_ok-text.field-0.text;
+      value = record { status = c.in_ok-text.field-0.value; tree = Some c.in-Ok.tree };
+    } in
     found_for c.args.wanted s s c.in-Ok.tree found refl tree refl c.in_ok-text.ensures

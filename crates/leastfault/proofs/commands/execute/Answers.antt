@@ -3,7 +3,7 @@ use Rattle.lf_words.specs.declared.types.Asked.TheVariants as asked
 use Rattle.leastfault.specs.Commands.{IsCauseFor, IsDone}
 use Rattle.leastfault.specs.Engines.{IsMadeOfBoth, IsMadeOfOne, NoCause, OfReply}
 use Rattle.leastfault.specs.Replies.{IsRunReply}
-use Rattle.leastfault.proofs.CommandLemmas.{done_answer, done_certified, done_check, done_run, done_uncertified, judged}
+use Rattle.leastfault.proofs.CommandLemmas.{done_answer, done_certified, done_check, done_protocol, done_run, done_uncertified, judged}
 use Rattle.leastfault.proofs.commands.execute.Goals as goal
 
 pub returns-in-Some-clause-done : goal.returns-in-Some-clause-done
@@ -66,3 +66,13 @@ returns-in-Check-clause-done g c =
     c.judged_in_rows.result c.alone-in-Check.result
     (judged g.R.Source.left g.R.Source.has_failed g.S.Source.left g.S.Source.has_failed old new old_too new_too c.given_made-given.result
     c.judged_in_rows.result c.given_made-given.ensures c.judged_in_rows.ensures) c.alone-in-Check.ensures)
+
+pub returns-in-Protocol-clause-done : goal.returns-in-Protocol-clause-done
+returns-in-Protocol-clause-done g c =
+    let arm = c.in-Protocol in
+    let new = c.protocol_made.new.reader in
+    let tree = c.args.tree_reader.now in
+    subst (λ a. IsMadeOfBoth g.R.Source.left g.R.Source.has_failed g.S.Source.left g.S.Source.has_failed (λ text. OfReply (IsDone a text)) (IsCauseFor a)
+    c.args.scenario_reader.now new tree tree c.alone-in-Protocol.result) (sym arm.is)
+    (done_protocol g.R.Source.left g.R.Source.has_failed g.S.Source.left g.S.Source.has_failed c.args.scenario_reader.now new tree c.requires.tree
+    arm.file c.protocol_made.result c.alone-in-Protocol.result c.protocol_made.ensures c.alone-in-Protocol.ensures)

@@ -7,4 +7,4 @@ use Rattle.lf_texts.proofs.variables.read_words.Goals as goal
 pub returns-clause-words : goal.returns-clause-words
 returns-clause-words c =
     let count = listed_count (first_free c.args.names.now) signs.Bar 15 (c.in_ok-first.first ∷ []) c.in_ok-next.next.now _ c.in_ok-words.ensures in
-    (omega arith, omega arith)
+    rw c.from_vec.ensures (omega arith, omega arith)

@@ -1,0 +1,13 @@
+use Rattle.std.proofs.Common.{Vec, Global, ℕ, Ok, string_bytes}
+use Rattle.leastfault.specs.Engines.{NoCause, OfReply}
+use Rattle.leastfault.specs.Protocols.{IsProtocolReply}
+use Rattle.leastfault.proofs.EngineLemmas.{made_here, no_cause}
+use Rattle.leastfault.proofs.ReplyLemmas.{protocol_by_front}
+use Rattle.leastfault.proofs.made.protocol_made.Goals as goal
+
+pub returns : goal.returns
+returns g c =
+    made_here g.R.Source.left g.R.Source.has_failed c.args.reader.now c.read_text.new.reader (λ (v : Vec ℕ Global). v.items)
+    (OfReply IsProtocolReply) NoCause c.in_ok-text.text c.as_slice.result.now (Ok c.in_ok-protocol_reply.field-0)
+    (λ r. protocol_by_front (string_bytes r.text) r.value) no_cause c.in_ok-text.ensures c.as_slice.ensures.value
+    c.in_ok-protocol_reply.ensures

@@ -1,0 +1,4 @@
+pub mod Refusals
+pub mod Sections
+pub mod Readings
+pub mod Texts

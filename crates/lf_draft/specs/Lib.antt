@@ -1,0 +1,4 @@
+pub mod Drafts
+pub mod Constants
+pub mod Variables
+pub mod Named

@@ -1,0 +1,6 @@
+mod Inductions
+mod FactMembers
+mod RangeLemmas
+mod Counts
+mod ZerosLemmas
+mod ReadingLemmas

@@ -1,0 +1,250 @@
+-- The formulas of promises are in range.
+use Rattle.std.proofs.Common.{◌≡◌, ℕ, ◌<◌, ◌≤◌, Bool, true, false, not, ◌==◌, ◌&&◌, cond, List, [], ◌∷◌, refl, sym, ap, ◌∙◌, subst, map, arith}
+use Rattle.std.specs.Prelude.{Option, Result, Ok, Err, IfOk, nat_le, nat_lt}
+use Rattle.std.specs.List.{AllByRecursion, flat_map, list_all, range_with_len}
+use Rattle.std.proofs.lemmas.Bool.{and_from, and_parts, lt-ltb, ltb-true, le-leb, leb-true}
+use Rattle.std.proofs.lemmas.List.Folds.{list_all-map}
+use Rattle.lf_faults.specs.Allowed.{IsInLimits}
+use Rattle.lf_faults.specs.declared.spec.Bounds.{Bounds}
+use Rattle.lf_rules.specs.Terms.{Term}
+use Rattle.lf_ruled.specs.declared.fact.Fact.{Fact as Shown}
+use Rattle.lf_ruled.specs.Instances.{Instance}
+use Rattle.lf_protocols.specs.declared.fact.Fact.{Fact}
+use Rattle.lf_protocols.specs.declared.protocol.Kind.{Kind}
+use Rattle.lf_protocols.specs.declared.protocol.Kind.TheVariants as kinds
+use Rattle.lf_outcome.specs.declared.formula.Formula.{Formula, fold-roll-Formula}
+use Rattle.lf_outcome.specs.declared.formula.Formula.TheVariants.{rolls-All, rolls-Any, rolls-Down, rolls-Shows}
+use Rattle.lf_outcome.specs.declared.formula.Formula.TheVariants as kind
+use Rattle.lf_outcome.specs.declared.formula.Formula.TheOpen.{Formula-F}
+use Rattle.lf_outcome.specs.Measures.{depth_of, atoms_of}
+use Rattle.lf_outcome.specs.Named.{shows_or_down}
+use Rattle.lf_promises.specs.Facts.{has_told, names_facts}
+use Rattle.lf_promises.specs.Fronts.{opposite}
+use Rattle.lf_promises.specs.declared.promise.Many.{Many}
+use Rattle.lf_promises.specs.declared.promise.Many.TheVariants as manys
+use Rattle.lf_promises.specs.declared.promise.Promise.{Promise}
+use Rattle.lf_promises.specs.declared.promise.Promise.TheVariants as promises
+use Rattle.lf_promises.proofs.FactLemmas.{facts-All, facts-Any, facts-Always, facts-Ever, facts-Nodes, facts-At}
+use Rattle.lf_unfolding.specs.declared.error.UnfoldError.TheVariants as refusals
+use Rattle.lf_unfolding.specs.declared.scene.Scene.{Scene}
+use Rattle.lf_unfolding.specs.Members.{is_in, members, others}
+use Rattle.lf_unfolding.specs.Quantities.{ruled, shows, each, any_of, all_but_one, where_any, so_many}
+use Rattle.lf_unfolding.specs.Unfolding.{formula_at, names_nodes, limited, unfolded}
+use Rattle.lf_unfolding.proofs.MemberLemmas.{Member, all-from, kept-at, range-at, all-flat}
+use Rattle.lf_unfolding.proofs.UnfoldingLemmas.{formula-All, formula-Any, formula-Always, formula-Ever, formula-Nodes, formula-Down, formula-At}
+use Rattle.lf_unfolding.proofs.UnfoldingLemmas.{names-All, names-Any, names-Always, names-Ever, names-Down, names-At}
+use Rattle.lf_scenario.specs.Formulas.{is_point, is_fact_of, range_step, is_in_range, IsFormulaOf}
+use Rattle.lf_scenario.specs.Limits.{deepest, most_atoms}
+use Rattle.lf_own_scenario.proofs.FactMembers.{own-fact}
+use Rattle.lf_own_scenario.proofs.Inductions.{Steps, by_induction}
+
+module _ (k : Kind) (nodes horizon : ℕ) where
+  abbrev fits : Formula Fact → Bool
+  fits = is_in_range k nodes horizon
+
+  -- what is in range, by its kind
+  fits-All : (parts : List (Formula Fact)) → list_all fits parts ≡ true → fits (kind.All parts) ≡ true
+  fits-All parts h =
+      ap fits (sym (rolls-All parts)) ∙ fold-roll-Formula Fact Bool (range_step k nodes horizon) (Formula-F.All parts)
+      ∙ list_all-map (λ b. b) fits parts ∙ h
+
+  fits-Any : (parts : List (Formula Fact)) → list_all fits parts ≡ true → fits (kind.Any parts) ≡ true
+  fits-Any parts h =
+      ap fits (sym (rolls-Any parts)) ∙ fold-roll-Formula Fact Bool (range_step k nodes horizon) (Formula-F.Any parts)
+      ∙ list_all-map (λ b. b) fits parts ∙ h
+
+  -- a step of the run
+  pub record IsStep (t : ℕ) : Type 0 where
+    pub first : 1 ≤ t
+    pub last : t ≤ horizon
+
+  point : (n t : ℕ) → n < nodes → IsStep t → is_point nodes horizon n t ≡ true
+  point n t below step =
+      and_from (nat_lt n nodes) (nat_le 1 t && nat_le t horizon) (lt-ltb n nodes below)
+      (and_from (nat_le 1 t) (nat_le t horizon) (le-leb 1 t step.first) (le-leb t horizon step.last))
+
+  fits-Down : (n t : ℕ) → n < nodes → IsStep t → fits (kind.Down n t) ≡ true
+  fits-Down n t below step =
+      ap fits (sym (rolls-Down n t)) ∙ fold-roll-Formula Fact Bool (range_step k nodes horizon) (Formula-F.Down n t) ∙ point n t below step
+
+  fits-Shows : (n t : ℕ) (fact : Fact) → n < nodes → IsStep t → is_fact_of k fact ≡ true → fits (kind.Shows n t fact) ≡ true
+  fits-Shows n t fact below step own =
+      ap fits (sym (rolls-Shows n t fact)) ∙ fold-roll-Formula Fact Bool (range_step k nodes horizon) (Formula-F.Shows n t fact)
+      ∙ and_from (is_point nodes horizon n t) (is_fact_of k fact) (point n t below step) own
+
+  -- so many of some nodes that there are
+  abbrev AreNodes : List ℕ → Type 0
+  AreNodes ns = (n : ℕ) → Member ns n → n < nodes
+
+  module _ (t : ℕ) (step : IsStep t) (fact : Fact) (own : is_fact_of k fact ≡ true) where
+    fits-node : (n : ℕ) → n < nodes → fits (shows_or_down t fact n) ≡ true
+    fits-node n below =
+        fits-Any (kind.Down n t ∷ kind.Shows n t fact ∷ [])
+        (and_from (fits (kind.Down n t)) (fits (kind.Shows n t fact) && true) (fits-Down n t below step)
+        (and_from (fits (kind.Shows n t fact)) true (fits-Shows n t fact below step own) refl))
+
+    fits-each : (ns : List ℕ) → AreNodes ns → fits (each t fact ns) ≡ true
+    unfolding each
+    fits-each ns there =
+        fits-All (map (shows_or_down t fact) ns)
+        (list_all-map fits (shows_or_down t fact) ns
+        ∙ all-from (λ n. fits (shows_or_down t fact n)) ns (λ n m. fits-node n (there n m)))
+
+    fits-any : (ns : List ℕ) → AreNodes ns → fits (any_of t fact ns) ≡ true
+    unfolding any_of
+    fits-any ns there =
+        fits-Any (map (shows t fact) ns)
+        (list_all-map fits (shows t fact) ns ∙ all-from (λ n. fits (shows t fact n)) ns (λ n m. fits-Shows n t fact (there n m) step own))
+
+    others-there : (ns : List ℕ) (but : ℕ) → AreNodes ns → AreNodes (others ns but)
+    unfolding others
+    others-there ns but there n m = let found = kept-at (λ j. not (j == but)) ns n m in there n found.0
+
+    fits-ways : (ns : List ℕ) → AreNodes ns → list_all fits (all_but_one t fact ns) ≡ true
+    unfolding all_but_one
+    fits-ways ns there =
+        list_all-map fits (λ n. each t fact (others ns n)) ns
+        ∙ all-from (λ n. fits (each t fact (others ns n))) ns (λ n m. fits-each (others ns n) (others-there ns n there))
+
+    fits-where : (ns : List ℕ) (ways : List (Formula Fact)) → list_all fits ways ≡ true → fits (where_any ns ways) ≡ true
+    fits-where [] ways h = fits-All [] refl
+    fits-where (n ∷ ns) ways h = fits-Any ways h
+
+-- the nodes of which a promise speaks
+members-there : (s : Scene) (of : Option Term) (n : ℕ) → Member (members s of) n → n < s.nodes
+unfolding members
+members-there s of n m =
+    let kept = kept-at (is_in s of) (range_with_len 0 s.nodes) n m in
+    let found = range-at s.nodes 0 n kept.0 in
+    omega (arith, found.1)
+
+module _ (m : Instance) (s : Scene) where
+  abbrev k : Kind
+  k = kinds.Ruled m
+
+  abbrev in_range : Formula Fact → Bool
+  in_range = is_in_range k s.nodes s.horizon
+
+  module _ (t : ℕ) (step : IsStep k s.nodes s.horizon t) (fact : Shown) (there : has_told m.definition fact.told ≡ true) (ns : List ℕ)
+      (nodes : AreNodes k s.nodes s.horizon ns) where
+    fits-so_many : (many : Many) → in_range (so_many many t fact ns) ≡ true
+    fits-so_many manys.Each = fits-each k s.nodes s.horizon t step (ruled fact) (own-fact m fact there) ns nodes
+    fits-so_many manys.No = fits-each k s.nodes s.horizon t step (ruled (opposite fact)) (own-fact m (opposite fact) there) ns nodes
+    fits-so_many manys.Some = fits-any k s.nodes s.horizon t step (ruled fact) (own-fact m fact there) ns nodes
+    fits-so_many manys.AtMostOne =
+        let own = own-fact m (opposite fact) there in
+        fits-where k s.nodes s.horizon t step (ruled (opposite fact)) own ns (all_but_one t (ruled (opposite fact)) ns)
+        (fits-ways k s.nodes s.horizon t step (ruled (opposite fact)) own ns nodes)
+
+  -- a promise that names nodes and facts that there are is a formula in range at each step
+  abbrev Fits : Promise → Type 0
+  Fits p =
+      (t : ℕ) → IsStep k s.nodes s.horizon t → names_nodes s.nodes p ≡ true → names_facts m.definition p ≡ true → in_range (formula_at s p t) ≡ true
+
+  parts-fit : (parts : List Promise) → AllByRecursion Fits parts → (t : ℕ) → IsStep k s.nodes s.horizon t
+      → list_all (names_nodes s.nodes) parts ≡ true → list_all (names_facts m.definition) parts ≡ true
+      → list_all in_range (map (λ part. formula_at s part t) parts) ≡ true
+  parts-fit [] each_fits t step nodes facts = refl
+  parts-fit (p ∷ ps) each_fits t step nodes facts =
+      let ns = and_parts (names_nodes s.nodes p) (list_all (names_nodes s.nodes) ps) nodes in
+      let fs = and_parts (names_facts m.definition p) (list_all (names_facts m.definition) ps) facts in
+      and_from (in_range (formula_at s p t)) (list_all in_range (map (λ part. formula_at s part t) ps)) (each_fits.0 t step ns.0 fs.0)
+      (parts-fit ps each_fits.1 t step ns.1 fs.1)
+
+  -- its parts at all steps
+  always-fit : (parts : List Promise) → AllByRecursion Fits parts → list_all (names_nodes s.nodes) parts ≡ true
+      → list_all (names_facts m.definition) parts ≡ true
+      → list_all in_range (flat_map (λ u. map (λ part. formula_at s part u) parts) (range_with_len 1 s.horizon)) ≡ true
+  always-fit parts each_fits nodes facts =
+      all-flat in_range (λ u. map (λ part. formula_at s part u) parts) (range_with_len 1 s.horizon)
+      ∙ all-from (λ u. list_all in_range (map (λ part. formula_at s part u) parts)) (range_with_len 1 s.horizon)
+      (λ u at. let found = range-at s.horizon 1 u at in
+      parts-fit parts each_fits u (record { first = found.0; last = omega (arith, found.1) }) nodes facts)
+
+  steps : Steps Fits
+  steps = record {
+    all = λ parts each_fits t step nodes facts.
+        ap in_range (formula-All s parts t)
+        ∙ fits-All k s.nodes s.horizon (map (λ part. formula_at s part t) parts)
+        (parts-fit parts each_fits t step (sym (names-All s.nodes parts) ∙ nodes) (sym (facts-All m.definition parts) ∙ facts));
+    any = λ parts each_fits t step nodes facts.
+        ap in_range (formula-Any s parts t)
+        ∙ fits-Any k s.nodes s.horizon (map (λ part. formula_at s part t) parts)
+        (parts-fit parts each_fits t step (sym (names-Any s.nodes parts) ∙ nodes) (sym (facts-Any m.definition parts) ∙ facts));
+    always = λ parts each_fits t step nodes facts.
+        ap in_range (formula-Always s parts t)
+        ∙ fits-All k s.nodes s.horizon (flat_map (λ u. map (λ part. formula_at s part u) parts) (range_with_len 1 s.horizon))
+        (always-fit parts each_fits (sym (names-Always s.nodes parts) ∙ nodes) (sym (facts-Always m.definition parts) ∙ facts));
+    ever = λ parts each_fits t step nodes facts.
+        ap in_range (formula-Ever s parts t)
+        ∙ fits-Any k s.nodes s.horizon (flat_map (λ u. map (λ part. formula_at s part u) parts) (range_with_len 1 s.horizon))
+        (always-fit parts each_fits (sym (names-Ever s.nodes parts) ∙ nodes) (sym (facts-Ever m.definition parts) ∙ facts));
+    nodes = λ many fact of t step nodes facts.
+        ap in_range (formula-Nodes s many fact of t)
+        ∙ fits-so_many t step fact (sym (facts-Nodes m.definition many fact of) ∙ facts) (members s of) (members-there s of) many;
+    down = λ n t step nodes facts.
+        ap in_range (formula-Down s n t)
+        ∙ fits-Down k s.nodes s.horizon n t (ltb-true n s.nodes (sym (names-Down s.nodes n) ∙ nodes)) step;
+    shows = λ n fact t step nodes facts.
+        ap in_range (formula-At s n fact t)
+        ∙ fits-Shows k s.nodes s.horizon n t (ruled fact) (ltb-true n s.nodes (sym (names-At s.nodes n fact) ∙ nodes)) step
+        (own-fact m fact (sym (facts-At m.definition n fact) ∙ facts));
+  }
+
+  pub promise-fits : (p : Promise) → Fits p
+  promise-fits = by_induction Fits steps
+
+-- a formula that is handed on is within the limits
+module _ (f g : Formula Fact) where
+  record IsLimited : Type 0 where
+    pub same : f ≡ g
+    pub depth : depth_of f ≤ deepest
+    pub atoms : atoms_of f ≤ most_atoms
+
+  limited-by : (t : Bool) → t ≡ (nat_le (depth_of f) 8 && nat_le (atoms_of f) 512) → cond t (Ok f) (Err refusals.TooLarge) ≡ Ok g → IsLimited
+  limited-by true is h =
+      let parts = and_parts (nat_le (depth_of f) 8) (nat_le (atoms_of f) 512) (sym is) in
+      record { same = cc; depth = leb-true (depth_of f) 8 parts.0; atoms = leb-true (atoms_of f) 512 parts.1 }
+  limited-by false is h = absurd cc
+
+  is-limited : limited f ≡ Ok g → IsLimited
+  unfolding limited
+  is-limited h = limited-by (nat_le (depth_of f) 8 && nat_le (atoms_of f) 512) refl h
+
+module _ (s : Scene) (p : Promise) (f : Formula Fact) where
+  record IsUnfolded : Type 0 where
+    pub nodes : names_nodes s.nodes p ≡ true
+    pub limits : IsLimited (formula_at s p s.horizon) f
+
+  unfolded-by : (t : Bool) → t ≡ names_nodes s.nodes p → cond t (limited (formula_at s p s.horizon)) (Err refusals.NoNode) ≡ Ok f → IsUnfolded
+  unfolded-by true is h = record { nodes = sym is; limits = is-limited (formula_at s p s.horizon) f h }
+  unfolded-by false is h = absurd cc
+
+  is-unfolded : unfolded s p ≡ Ok f → IsUnfolded
+  unfolding unfolded
+  is-unfolded h = unfolded-by (names_nodes s.nodes p) refl h
+
+-- the formula of a promise is one of the scenario
+module _ (m : Instance) (s : Scene) (p : Promise) (f : Formula Fact) where
+  range-of : 1 ≤ s.horizon → names_facts m.definition p ≡ true → IsUnfolded s p f → is_in_range (kinds.Ruled m) s.nodes s.horizon f ≡ true
+  range-of some facts is =
+      ap (is_in_range (kinds.Ruled m) s.nodes s.horizon) (sym is.limits.same)
+      ∙ promise-fits m s p s.horizon (record { first = some; last = omega arith }) is.nodes facts
+
+pub formula-of : (m : Instance) (b : Bounds) (s : Scene) (p : Promise) (f : Formula Fact) → IsInLimits b → s.nodes ≡ b.nodes → s.horizon ≡ b.horizon
+    → names_facts m.definition p ≡ true → unfolded s p ≡ Ok f → IsFormulaOf (kinds.Ruled m) b f
+formula-of m b s p f limits nodes horizon facts is =
+    let found = is-unfolded s p f is in
+    let inside = range-of m s p f (omega (arith, limits.horizon.0, horizon)) facts found in
+    record {
+      range =
+          ap (λ h. is_in_range (kinds.Ruled m) b.nodes h f) (sym horizon) ∙ ap (λ n. is_in_range (kinds.Ruled m) n s.horizon f) (sym nodes) ∙ inside;
+      depth = let P : Formula Fact → Type 0 = λ h. depth_of h ≤ deepest in subst P found.limits.same found.limits.depth;
+      atoms = let P : Formula Fact → Type 0 = λ h. atoms_of h ≤ most_atoms in subst P found.limits.same found.limits.atoms;
+    }
+
+-- and so is what a call gives, if it gives that
+pub formula-where : {E : Type 0} (m : Instance) (b : Bounds) (s : Scene) (p : Promise) (r : Result (Formula Fact) E) → IsInLimits b → s.nodes ≡ b.nodes
+    → s.horizon ≡ b.horizon → names_facts m.definition p ≡ true → IfOk r (λ f. unfolded s p ≡ Ok f) → IfOk r (IsFormulaOf (kinds.Ruled m) b)
+formula-where m b s p (Ok f) limits nodes horizon facts is = formula-of m b s p f limits nodes horizon facts is
+formula-where m b s p (Err e) limits nodes horizon facts is = tt

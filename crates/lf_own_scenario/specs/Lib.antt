@@ -1,0 +1,7 @@
+pub mod Zeros
+pub mod Keys
+pub mod Values
+pub mod Constants
+pub mod Machines
+pub mod Outcomes
+pub mod Scenarios

@@ -1,0 +1,87 @@
+-- The outcome of a scenario of a protocol file: a text in the protocol's words, or a formula as a list.
+use Rattle.std.specs.Prelude.{ℕ, if◌then◌else◌, find, List, Option, None, Some, Result, Ok, Err}
+use Rattle.std.specs.Borrow.{Bor}
+use Rattle.std.specs.Str.{bytes_eq}
+use Rattle.toml.specs.Data.{Data, string, array}
+use Rattle.lf_faults.specs.declared.spec.Bounds.{Bounds}
+use Rattle.lf_rules.specs.declared.definition.Given.{Given}
+use Rattle.lf_rules.specs.declared.sort.Scope.TheVariants as scopes
+use Rattle.lf_ruled.specs.Constants.{given_table}
+use Rattle.lf_texts.specs.declared.error.TextError.{TextError}
+use Rattle.lf_texts.specs.declared.error.TextError.TheVariants as faults
+use Rattle.lf_texts.specs.Fronts.{text_in}
+use Rattle.lf_promises.specs.declared.promise.Promise.{Promise}
+use Rattle.lf_promises.specs.Promises.{promise_of}
+use Rattle.lf_protocols.specs.declared.fact.Fact.{Fact}
+use Rattle.lf_outcome.specs.declared.formula.Formula.{Formula}
+use Rattle.lf_unfolding.specs.declared.error.UnfoldError.{UnfoldError}
+use Rattle.lf_unfolding.specs.declared.scene.Scene.{Scene}
+use Rattle.lf_unfolding.specs.Unfolding.{unfolded}
+use Rattle.lf_written.specs.declared.declared.Declared.{Declared}
+use Rattle.lf_written.specs.declared.declared.Outcome.{Outcome}
+use Rattle.lf_scenario.specs.declared.key.Key.{Key}
+use Rattle.lf_scenario.specs.declared.error.ScenarioError.{ScenarioError}
+use Rattle.lf_scenario.specs.declared.error.ScenarioError.TheVariants as refusals
+use Rattle.lf_scenario.specs.Values.{Reading, ◌>>=◌}
+use Rattle.lf_scenario.specs.Outcomes.{list_formula}
+use Rattle.lf_own_scenario.specs.Machines.{kind_of}
+use Rattle.lf_own_scenario.specs.Values.{place_of}
+use Rattle.lf_own_scenario.specs.Zeros.{promise_divides}
+
+abbrev pub seen_promise : Option (Bor Promise) → Option Promise
+seen_promise None = None
+seen_promise (Some p) = Some p.now
+
+-- the promise of the outcome with a name
+abbrev pub promise_of_found : Option Outcome → Option Promise
+promise_of_found None = None
+promise_of_found (Some outcome) = Some outcome.promise
+
+abbrev pub named : List ℕ → List Outcome → Option Promise
+named name outcomes = promise_of_found (find (λ outcome. bytes_eq name outcome.name) outcomes)
+
+-- an outcome whose text can't stand there is refused
+abbrev pub text_refusal : TextError → ScenarioError
+text_refusal faults.Unfit = refusals.Outcome
+text_refusal faults.PastLimit = refusals.Outcome
+text_refusal faults.Memory = refusals.Memory
+
+abbrev pub as_outcome : {A : Type 0} → Result A TextError → Reading A
+as_outcome (Ok x) = Ok x
+as_outcome (Err e) = Err (text_refusal e)
+
+abbrev pub wanted : {A : Type 0} → Option A → Reading A
+wanted None = Err refusals.Outcome
+wanted (Some x) = Ok x
+
+-- the promise that a text is
+unfoldable pub promise_in : Declared → List ℕ → Reading Promise
+promise_in file text = do
+  ts ← as_outcome (text_in text)
+  wanted (promise_of (place_of file scopes.Who) ts)
+
+-- what a promise depends on
+abbrev pub scene_of : Bounds → List Given → Scene
+scene_of b given = record { nodes = b.nodes; horizon = b.horizon; given = given_table b.nodes given }
+
+abbrev pub unfolded_to : Result (Formula Fact) UnfoldError → Reading (Formula Fact)
+unfolded_to (Ok formula) = Ok formula
+unfolded_to (Err e) = Err refusals.Outcome
+
+-- the formula of a promise, which divides by no constant that is 0
+unfoldable pub formula_of : Bounds → List Given → Promise → Reading (Formula Fact)
+formula_of b given promise = if promise_divides given promise then Err refusals.Outcome else unfolded_to (unfolded (scene_of b given) promise)
+
+-- a text is the name of an outcome, or a promise itself
+abbrev pub said : Declared → List ℕ → Option Promise → Reading Promise
+said file text (Some promise) = Ok promise
+said file text None = promise_in file text
+
+abbrev pub text_formula : Declared → List Given → Bounds → List ℕ → Reading (Formula Fact)
+text_formula file given b text = said file text (named text file.outcomes) >>= formula_of b given
+
+-- what the key `outcome` takes
+abbrev pub outcome_in : Declared → List Given → Bounds → Key → Data → Reading (Formula Fact)
+outcome_in file given b key (string text) = text_formula file given b text
+outcome_in file given b key (array ds) = list_formula (kind_of file b.nodes given) b (array ds)
+outcome_in file given b key _ = Err (refusals.WrongKind key)

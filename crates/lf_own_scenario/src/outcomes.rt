@@ -1,0 +1,168 @@
+//! The outcome, in the protocol's words.
+
+ghost use Rattle.std.specs.Prelude.{◌≡◌, true, IfOk, IfSome, Ok};
+ghost use Rattle.toml.specs.View.{table_view};
+ghost use Rattle.lf_faults.specs.Allowed.{IsInLimits};
+ghost use Rattle.lf_promises.specs.Facts.{names_facts};
+ghost use Rattle.lf_unfolding.specs.Unfolding.{unfolded};
+ghost use Rattle.lf_scenario.specs.Formulas.{IsFormulaOf};
+ghost use Rattle.lf_scenario.specs.Ranges.{IsInRange};
+ghost use Rattle.lf_scenario.specs.Values.{required};
+ghost use Rattle.lf_own_scenario.specs.Machines.{kind_of};
+ghost use Rattle.lf_own_scenario.specs.Values.{Gives};
+ghost use Rattle.lf_own_scenario.specs.Outcomes.{seen_promise, named, text_refusal, promise_in, scene_of, unfolded_to, formula_of, text_formula, outcome_in};
+
+use crate::zeros::promise_divides;
+use lf_faults::FaultSpec;
+use lf_grammar::Place;
+use lf_outcome::Formula;
+use lf_promises::{Promise, PromiseError, read_promise};
+use lf_protocols::Fact;
+use lf_ruled::given_table;
+use lf_rules::{Given, Scope};
+use lf_scenario::{Described, Key, ScenarioError, at, list_formula};
+use lf_texts::{TextError, text_tokens};
+use lf_unfolding::{Scene, UnfoldError, unfold};
+use lf_written::ProtocolFile;
+use std::alloc::Global;
+use toml::{Table, Value};
+
+/// The promise of a file's outcome with a name.
+fn named<'a>(file: &'a ProtocolFile, name: &str) -> Option<&'a Promise>
+    ensures value { seen_promise result ≡ named name.now file.now.outcomes }
+    ensures facts { IfSome result (λ p. names_facts file.now.definition p.now ≡ true) }
+{
+    let outcomes = file.outcomes();
+    'outcomes: for outcome in outcomes {
+        if name == outcome.name.as_str() {
+            return Some(&outcome.promise);
+        }
+    }
+    None
+}
+
+/// The refusal of an outcome for a fault of its text.
+fn text_refusal(fault: TextError) -> ScenarioError
+    ensures { result ≡ text_refusal fault }
+{
+    match fault {
+        TextError::Unfit | TextError::PastLimit => ScenarioError::Outcome,
+        TextError::Memory => ScenarioError::Memory,
+    }
+}
+
+/// The promise that a text is.
+#[tactic(auto, unfolding(crate::specs::Outcomes::promise_in))]
+fn promise_in(alloc: Global, file: &ProtocolFile, text: &str) -> Result<Promise, ScenarioError>
+    ensures value { Gives (λ p. p) (promise_in file.now text.now) result }
+    ensures facts { IfOk result (λ p. names_facts file.now.definition p ≡ true) }
+{
+    let tokens = text_tokens(alloc, text).map_err(text_refusal)?;
+    let place = Place {
+        definition: file.definition(),
+        names: file.names(),
+        fields: &[],
+        scope: Scope::Who,
+    };
+    match read_promise(alloc, &place, tokens.as_slice()) {
+        Ok(promise) => Ok(promise),
+        Err(PromiseError::Unfit) => Err(ScenarioError::Outcome),
+        Err(PromiseError::Memory) => Err(ScenarioError::Memory),
+    }
+}
+
+/// What a promise depends on.
+fn scene_of(bounds: &FaultSpec, given: &[Given]) -> Scene
+    ensures { result ≡ scene_of bounds.now given.now }
+{
+    let nodes = bounds.nodes();
+    Scene {
+        nodes,
+        horizon: bounds.horizon(),
+        given: given_table(nodes, given),
+    }
+}
+
+/// The formula of a promise, where it isn't too large.
+fn unfolded_in(
+    alloc: Global,
+    scene: &Scene,
+    promise: &Promise,
+) -> Result<Formula<Fact>, ScenarioError>
+    ensures value { Gives (λ f. f) (unfolded_to (unfolded scene.now promise.now)) result }
+    ensures formula { IfOk result (λ f. unfolded scene.now promise.now ≡ Ok f) }
+{
+    match unfold(alloc, scene, promise) {
+        Ok(formula) => Ok(formula),
+        Err(UnfoldError::Memory) => Err(ScenarioError::Memory),
+        Err(_) => Err(ScenarioError::Outcome),
+    }
+}
+
+/// The formula of a promise, where it divides by no constant that is 0, and isn't too large.
+#[tactic(auto, unfolding(crate::specs::Outcomes::formula_of))]
+fn formula_of(
+    alloc: Global,
+    file: &ProtocolFile,
+    given: &[Given],
+    bounds: &FaultSpec,
+    promise: &Promise,
+) -> Result<Formula<Fact>, ScenarioError>
+    requires limits { IsInLimits bounds.now }
+    requires facts { names_facts file.now.definition promise.now ≡ true }
+    ensures value { Gives (λ f. f) (formula_of bounds.now given.now promise.now) result }
+    ensures fits { IfOk result (IsFormulaOf (kind_of file.now bounds.now.nodes given.now) bounds.now) }
+{
+    if promise_divides(given, promise) {
+        return Err(ScenarioError::Outcome);
+    }
+    let scene = scene_of(bounds, given);
+    unfolded_in(alloc, &scene, promise)
+}
+
+/// The formula of a text: that of the file's outcome with this name, or else of the promise that it is itself.
+fn text_formula(
+    alloc: Global,
+    file: &ProtocolFile,
+    given: &[Given],
+    bounds: &FaultSpec,
+    text: &str,
+) -> Result<Formula<Fact>, ScenarioError>
+    requires { IsInLimits bounds.now }
+    ensures value { Gives (λ f. f) (text_formula file.now given.now bounds.now text.now) result }
+    ensures fits { IfOk result (IsFormulaOf (kind_of file.now bounds.now.nodes given.now) bounds.now) }
+{
+    match named(file, text) {
+        Some(promise) => formula_of(alloc, file, given, bounds, promise),
+        None => {
+            let promise = promise_in(alloc, file, text)?;
+            formula_of(alloc, file, given, bounds, &promise)
+        }
+    }
+}
+
+/// The formula of the table: of a text, or of a list as for any protocol.
+#[tactic(auto, unfolding(lf_scenario::specs::Values::required))]
+pub(crate) fn formula_in(
+    alloc: Global,
+    table: &Table,
+    file: &ProtocolFile,
+    given: &[Given],
+    described: &Described,
+) -> Result<Formula<Fact>, ScenarioError>
+    requires range { IsInRange described.now }
+    requires protocol { described.now.protocol ≡ kind_of file.now described.now.bounds.nodes given.now }
+    ensures value { Gives (λ f. f) (required (table_view table.now) Key.Outcome (outcome_in file.now given.now described.now.bounds)) result }
+    ensures fits { IfOk result (IsFormulaOf described.now.protocol described.now.bounds) }
+{
+    match at(table, Key::Outcome.name()) {
+        Some(value) => match value {
+            Value::String(text) => {
+                text_formula(alloc, file, given, &described.bounds, text.as_str())
+            }
+            Value::Array(_) => list_formula(alloc, value, described),
+            _ => Err(ScenarioError::WrongKind(Key::Outcome)),
+        },
+        None => Err(ScenarioError::Missing(Key::Outcome)),
+    }
+}

@@ -1,0 +1,112 @@
+//! The reader of scenarios of protocol files.
+
+ghost use Rattle.std.specs.Prelude.{◌≡◌, ◌≢◌, ◌<◌, ◌≤◌, IfOk, length, MatchResult, IsErrAnd, Ok, Err};
+ghost use Rattle.toml.specs.Data.{Members};
+ghost use Rattle.toml.specs.View.{table_view};
+ghost use Rattle.lf_scenario.specs.Limits.{longest};
+ghost use Rattle.lf_scenario.specs.Ranges.{IsInRange};
+ghost use Rattle.lf_scenario.specs.Scenarios.{IsDocument};
+ghost use Rattle.lf_own_scenario.specs.Machines.{kind_of, kind_in};
+ghost use Rattle.lf_own_scenario.specs.Values.{Gives};
+ghost use Rattle.lf_own_scenario.specs.Scenarios.{chosen_in, asked_with, IsAskedWith, IsRefusedWith, IsTextWith};
+
+use crate::constants::given_in;
+use crate::keys::{Bounded, bounded_in, settled_in};
+use crate::outcomes::formula_in;
+use lf_protocols::Protocol;
+use lf_ruled::Ruled;
+use lf_rules::Given;
+use lf_scenario::{Described, Key, LONGEST, Scenario, ScenarioError, Usual, all_links, assembled};
+use lf_written::ProtocolFile;
+use std::alloc::Global;
+use toml::Table;
+
+/// The scenario of a text, where a protocol file is known beside the shipped protocols, or why it is none.
+///
+/// A text that is longer than `LONGEST` bytes is refused first, and then one that is no TOML document. What a table says is `asked_with`. The refusal `Memory`
+/// comes only where memory has run out.
+pub fn read_with(alloc: Global, text: &[u8], file: &ProtocolFile) -> Result<Scenario, ScenarioError>
+    ensures too_long { longest < length text.now → result ≡ Err ScenarioError.TooLong }
+    ensures no_document { length text.now ≤ longest → ((ms : Members) → IsDocument text.now ms → ⊥) →
+        IsErrAnd result (λ e. e ≢ ScenarioError.Memory → e ≡ ScenarioError.NoDocument) }
+    ensures document { length text.now ≤ longest → (ms : Members) → IsDocument text.now ms →
+        MatchResult result (IsAskedWith file.now ms) (λ e. e ≢ ScenarioError.Memory → asked_with file.now ms ≡ Err e) }
+    ensures reading { MatchResult result (λ s. IsTextWith file.now s text.now) (λ e. e ≢ ScenarioError.Memory → IsRefusedWith file.now text.now e) }
+{
+    if text.len() > LONGEST {
+        return Err(ScenarioError::TooLong);
+    }
+    match toml::table_from_slice(alloc, text) {
+        Ok(table) => read_table(alloc, &table, file),
+        Err(e) if e.is_memory() => Err(ScenarioError::Memory),
+        Err(_) => Err(ScenarioError::NoDocument),
+    }
+}
+
+/// What a scenario says but its outcome and its links, with the constants.
+struct Chosen {
+    described: Described,
+    given: Vec<Given>,
+}
+
+/// The scenario of a table.
+#[tactic(auto, unfolding(crate::specs::Scenarios::asked_with))]
+fn read_table(alloc: Global, table: &Table, file: &ProtocolFile) -> Result<Scenario, ScenarioError>
+    ensures { MatchResult result (IsAskedWith file.now (table_view table.now))
+        (λ e. e ≢ ScenarioError.Memory → asked_with file.now (table_view table.now) ≡ Err e) }
+{
+    let Chosen { described, given } = chosen_in(alloc, table, file)?;
+    let formula = formula_in(alloc, table, file, given.as_slice(), &described)?;
+    let usual = Usual {
+        nodes: described.bounds.nodes(),
+        least: described.delays.least,
+        spread: described.delays.spread,
+    };
+    let links = all_links(alloc, table, usual)?;
+    Ok(assembled(described, formula, links))
+}
+
+/// What a table says but the outcome and the links.
+#[tactic(auto, unfolding(crate::specs::Scenarios::chosen_in))]
+fn chosen_in(alloc: Global, table: &Table, file: &ProtocolFile) -> Result<Chosen, ScenarioError>
+    ensures value { Gives (λ x. record { described = x.described; given = x.given.items }) (chosen_in file.now (table_view table.now)) result }
+    ensures range { IfOk result (λ x. IsInRange x.described) }
+    ensures protocol { IfOk result (λ x. x.described.protocol ≡ kind_of file.now x.described.bounds.nodes x.given.items) }
+{
+    let Bounded {
+        bounds,
+        max_sets,
+        delays,
+    } = bounded_in(table)?;
+    settled_in(table, file.name())?;
+    let nodes = bounds.nodes();
+    let given = given_in(alloc, file, nodes, table)?;
+    let protocol = kind_in(alloc, file, nodes, given.as_slice())?;
+    let described = Described {
+        bounds,
+        max_sets,
+        delays,
+        protocol,
+    };
+    Ok(Chosen { described, given })
+}
+
+/// The protocol among so many nodes, with these values of its constants.
+fn kind_in(
+    alloc: Global,
+    file: &ProtocolFile,
+    nodes: u32,
+    given: &[Given],
+) -> Result<Protocol, ScenarioError>
+    ensures value { Gives (λ protocol. protocol) (kind_in file.now nodes given.now) result }
+    ensures kind { IfOk result (λ protocol. protocol ≡ kind_of file.now nodes given.now) }
+{
+    let Ok(rules) = file.rules() else {
+        return Err(ScenarioError::Memory);
+    };
+    match Ruled::new(alloc, rules, nodes, given) {
+        Ok(Some(ruled)) => Ok(Protocol::ruled(ruled)),
+        Ok(None) => Err(ScenarioError::WrongKind(Key::Given)),
+        Err(_) => Err(ScenarioError::Memory),
+    }
+}

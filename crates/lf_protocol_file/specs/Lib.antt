@@ -1,0 +1,4 @@
+pub mod Chains
+pub mod RuleParts
+pub mod Entries
+pub mod Files

@@ -1,0 +1,156 @@
+//! The reader of protocol files.
+
+ghost use Rattle.std.specs.Prelude.{◌≡◌, ◌≢◌, ◌<◌, ◌≤◌, length, MatchResult, IsErrAnd, IfOk, Ok, Err};
+ghost use Rattle.toml.specs.Data.{Members};
+ghost use Rattle.toml.specs.View.{table_view};
+ghost use Rattle.lf_document.specs.Refusals.{shown};
+ghost use Rattle.lf_document.specs.Readings.{Reads};
+ghost use Rattle.lf_protocol_file.specs.Files.{longest, known_sections, name_in, declared_in, shown_by, with_trace, finished, file_in};
+ghost use Rattle.lf_protocol_file.specs.Files.{IsDocument, IsRefused, IsText};
+
+use crate::chains::with_last_chain;
+use crate::sections::{with_listing, with_naming};
+use lf_document::{
+    LONGEST, Listing, Naming, Path, ProtocolError, Section, Shown, at, is_section, name_of,
+};
+use lf_draft::{Draft, with_all_shown, with_variables};
+use lf_rules::Name;
+use lf_texts::is_name;
+use lf_written::{Declared, ProtocolFile};
+use std::alloc::{AllocError, Global};
+use toml::{Table, Value};
+
+/// The protocol that a text is a file of, or why it is none.
+///
+/// A text that is longer than `LONGEST` bytes is refused first, and then one that is no TOML document. What a table says is `file_in`. The refusal `Memory`
+/// comes only where memory has run out.
+pub fn read_protocol(alloc: Global, text: &[u8]) -> Result<ProtocolFile, ProtocolError>
+    ensures too_long { longest < length text.now → result ≡ Err ProtocolError.TooLong }
+    ensures no_document { length text.now ≤ longest → ((ms : Members) → IsDocument text.now ms → ⊥) →
+        IsErrAnd result (λ e. e ≢ ProtocolError.Memory → e ≡ ProtocolError.NoDocument) }
+    ensures document { length text.now ≤ longest → (ms : Members) → IsDocument text.now ms → Reads (file_in ms) result }
+    ensures reading { MatchResult result (λ file. IsText file text.now) (λ e. e ≢ ProtocolError.Memory → IsRefused text.now e) }
+{
+    if text.len() > LONGEST {
+        return Err(ProtocolError::TooLong);
+    }
+    match toml::table_from_slice(alloc, text) {
+        Ok(table) => read_table(alloc, &table),
+        Err(e) if e.is_memory() => Err(ProtocolError::Memory),
+        Err(_) => Err(ProtocolError::NoDocument),
+    }
+}
+
+/// The protocol of a table.
+#[tactic(auto, unfolding(crate::specs::Files::file_in))]
+fn read_table(alloc: Global, table: &Table) -> Result<ProtocolFile, ProtocolError>
+    ensures { Reads (file_in (table_view table.now)) result }
+{
+    known_sections(alloc, table)?;
+    let name = name_in(alloc, table)?;
+    let draft = declared_in(alloc, table)?;
+    let draft = with_listing(alloc, draft, table, Listing::Rules)?;
+    let draft = with_last_chain(draft)?;
+    let draft = with_naming(alloc, draft, table, Naming::Outcomes)?;
+    let draft = with_trace(alloc, draft, table)?;
+    finished(alloc, name, draft)
+}
+
+/// Refuses a file with a key that files don't have.
+#[tactic(auto, unfolding(crate::specs::Files::known_sections))]
+fn known_sections(alloc: Global, table: &Table) -> Result<(), ProtocolError>
+    ensures { Reads (known_sections (table_view table.now)) result }
+{
+    'members: for (key, _value) in table.iter() {
+        if !is_section(key.as_str()) {
+            return Err(unknown_section(alloc, key.as_str()));
+        }
+    }
+    Ok(())
+}
+
+/// The refusal of a key that files don't have.
+fn unknown_section(alloc: Global, key: &str) -> ProtocolError
+    ensures { result ≢ ProtocolError.Memory → result ≡ ProtocolError.Unknown (Path.Key (shown key.now)) }
+{
+    match Shown::of(alloc, key) {
+        Ok(shown) => ProtocolError::Unknown(Path::Key(shown)),
+        Err(_) => ProtocolError::Memory,
+    }
+}
+
+/// The protocol's name.
+#[tactic(auto, unfolding(crate::specs::Files::name_in))]
+fn name_in(alloc: Global, table: &Table) -> Result<Name, ProtocolError>
+    ensures { Reads (name_in (table_view table.now)) result }
+{
+    match at(table, "name") {
+        Some(Value::String(name)) => {
+            if !is_name(name.as_str()) {
+                return Err(ProtocolError::Unfit(Path::Section(Section::Name)));
+            }
+            let name = name_of(alloc, name.as_str())?;
+            Ok(name)
+        }
+        Some(_) => Err(ProtocolError::WrongKind(Path::Section(Section::Name))),
+        None => Err(ProtocolError::Missing(Path::Section(Section::Name))),
+    }
+}
+
+/// What a file declares: constants, variables, notes, named expressions and named guards.
+#[tactic(auto, unfolding(crate::specs::Files::declared_in))]
+fn declared_in(alloc: Global, table: &Table) -> Result<Draft, ProtocolError>
+    ensures { Reads (declared_in (table_view table.now)) result }
+{
+    let draft = Draft::new(alloc);
+    let draft = with_naming(alloc, draft, table, Naming::Given)?;
+    let draft = with_naming(alloc, draft, table, Naming::State)?;
+    let draft = with_variables(alloc, draft)?;
+    let draft = with_listing(alloc, draft, table, Listing::Notes)?;
+    let draft = with_naming(alloc, draft, table, Naming::Lets)?;
+    with_naming(alloc, draft, table, Naming::Facts)
+}
+
+/// The draft, whose traces show the variables that are asked for, or all.
+#[tactic(auto, unfolding(crate::specs::Files::with_trace))]
+fn with_trace(alloc: Global, draft: Draft, table: &Table) -> Result<Draft, ProtocolError>
+    ensures { Reads (with_trace draft (table_view table.now)) result }
+{
+    let draft = with_listing(alloc, draft, table, Listing::Trace)?;
+    let draft = shown_by(alloc, draft)?;
+    Ok(draft)
+}
+
+/// The draft, whose traces show all variables where they show none so far.
+fn shown_by(alloc: Global, draft: Draft) -> Result<Draft, AllocError>
+    ensures { IfOk result (λ d. d ≡ shown_by draft.definition.trace draft) }
+{
+    match draft.definition.trace.as_slice() {
+        [] => with_all_shown(alloc, draft),
+        _ => Ok(draft),
+    }
+}
+
+/// The file of a draft that is whole.
+fn finished(alloc: Global, name: Name, draft: Draft) -> Result<ProtocolFile, ProtocolError>
+    ensures { Reads (finished name draft) result }
+{
+    let Draft {
+        definition,
+        names,
+        outcomes,
+        ..
+    } = draft;
+    let declared = Declared {
+        name,
+        definition,
+        names,
+        outcomes,
+    };
+    match ProtocolFile::new(alloc, declared) {
+        Ok(Some(file)) => Ok(file),
+        // Never comes: what is read is whole, since each reader gives only what may stand where it stands.
+        Ok(None) => Err(ProtocolError::Unfit(Path::Section(Section::Name))),
+        Err(_) => Err(ProtocolError::Memory),
+    }
+}

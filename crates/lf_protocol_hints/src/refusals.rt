@@ -1,0 +1,109 @@
+//! What is wrong with the text of a protocol file.
+
+use crate::found::found_at;
+use crate::hint::{Hint, said};
+use crate::keys::unknown_hint;
+use crate::limits::limit_hint;
+use crate::place::{Place, place_of};
+use crate::unfit::unfit_hint;
+use crate::wanted::{kind_of, wanted};
+use lf_protocol_file::{LONGEST, ProtocolError};
+use std::alloc::{AllocError, Global};
+use toml::{Table, Value};
+
+/// What is wrong with a text that `read_protocol` refuses with this error: its place, what stands there, and what may. The error here,
+/// also below, is that memory has run out.
+pub fn protocol_hint(
+    alloc: Global,
+    text: &[u8],
+    error: &ProtocolError,
+) -> Result<String, AllocError> {
+    match error.number() {
+        1 => format!(in alloc; "the protocol is longer than {LONGEST} bytes: its comments count"),
+        8 => Err(AllocError),
+        number => match toml::table_from_slice(alloc, text) {
+            Ok(table) => table_hint(alloc, &table, number, error),
+            Err(fault) => toml_hint(alloc, text, &fault),
+        },
+    }
+}
+
+/// What is wrong with the table of a text.
+fn table_hint(
+    alloc: Global,
+    table: &Table,
+    number: u32,
+    error: &ProtocolError,
+) -> Result<String, AllocError> {
+    let Some(path) = error.place() else {
+        return Ok(String::new(alloc));
+    };
+    let shown = format!(in alloc; "{path}")?;
+    let place = place_of(shown.as_str());
+    let hint = match number {
+        3 => missing_hint(&place),
+        4 => unknown_hint(alloc, table, &place)?,
+        5 => kind_hint(table, &place),
+        6 => limit_hint(alloc, table, &place)?,
+        _ => unfit_hint(alloc, table, &place)?,
+    };
+    String::from_str(alloc, hint.as_str())
+}
+
+/// That nothing stands at a place, and what has to.
+fn missing_hint(place: &Place<'_>) -> Hint {
+    Hint::of(format_args!("{}: missing; {}", place.text, wanted(place)))
+}
+
+/// That what stands at a place is of the wrong kind.
+fn kind_hint(table: &Table, place: &Place<'_>) -> Hint {
+    match found_at(table, place) {
+        Some(found) => Hint::of(format_args!(
+            "{}: {}; {} may stand there",
+            place.text,
+            kinds_of(found.value).as_str(),
+            wanted(place)
+        )),
+        None => said(place.text, wanted(place)),
+    }
+}
+
+/// What a value is, and of a list its first item of another kind than the first one.
+fn kinds_of(value: &Value) -> Hint {
+    let Value::Array(items) = value else {
+        return Hint::of(kind_of(value));
+    };
+    let Some(first) = items.first() else {
+        return Hint::of("a list");
+    };
+    for item in items.iter() {
+        if kind_of(item) != kind_of(first) {
+            return Hint::of(format_args!("a list with {} and {}", kind_of(first), kind_of(item)));
+        }
+    }
+    Hint::of(format_args!("a list whose first item is {}", kind_of(first)))
+}
+
+/// Where a text is no TOML, and why.
+fn toml_hint(alloc: Global, text: &[u8], fault: &toml::de::Error) -> Result<String, AllocError> {
+    let Some(span) = fault.span() else {
+        return Err(AllocError);
+    };
+    let (line, column) = line_and_column(text, span.start);
+    format!(in alloc; "line {line}, column {column}: {}", fault.message())
+}
+
+/// The line behind the first `offset` bytes and the character in it, both from 1.
+fn line_and_column(text: &[u8], offset: usize) -> (usize, usize) {
+    let mut line: usize = 1;
+    let mut column: usize = 1;
+    for byte in text.iter().take(offset) {
+        if *byte == b'\n' {
+            line = line.saturating_add(1);
+            column = 1;
+        } else if *byte & 0xC0 != 0x80 {
+            column = column.saturating_add(1);
+        }
+    }
+    (line, column)
+}
