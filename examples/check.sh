@@ -274,9 +274,17 @@ test_check() {
     expect 2 '' 'refused usage*' 'leastfault check - - <examples/claimed_away.toml'
 }
 
+test_protocol() {
+    expect 0 ok 'protocol two_phase*' 'leastfault protocol examples/protocols/two_phase.toml'
+    expect 0 ok 'protocol two_phase*' 'leastfault protocol - <examples/protocols/two_phase.toml'
+    expect 2 'refused protocol 7 facts.blocked' 'facts.blocked: `prepare`: *`prepared`?*' \
+        "sed 's/blocked = \"phase = prepared\"/blocked = \"phase = prepare\"/' examples/protocols/two_phase.toml | leastfault protocol -"
+    expect 2 'refused protocol 2' '?*' 'leastfault protocol examples/README.md'
+}
+
 test_words() {
     local words
-    for words in --help -h 'search --help' 'answer --help' 'run --help' 'check --help'; do
+    for words in --help -h 'search --help' 'answer --help' 'run --help' 'check --help' 'protocol --help'; do
         helps "leastfault $words"
     done
     expect 0 'leastfault 0.1.0' '' 'leastfault --version'
@@ -295,6 +303,7 @@ test_words() {
 test_devices() {
     expect 3 '' $'read\n*' 'leastfault search nowhere.toml'
     expect 3 '' $'read\n*' 'leastfault answer nowhere.toml'
+    expect 3 '' $'read\n*' 'leastfault protocol nowhere.toml'
     expect 3 '' $'read\n*' "leastfault run nowhere.toml ''"
     expect 3 '' $'read\n*' 'leastfault check examples/claimed_away.toml nowhere.json'
     expect 3 '' $'read\nexamples: *irectory*' 'leastfault search examples'
@@ -342,7 +351,7 @@ test_refused() {
 # status_of OUT ERR: the status that belongs to what a command prints; 0 for a silent command, which isn't the program's.
 status_of() {
     case $1 in
-    none* | yes*) echo 0 ;;
+    none* | yes* | ok*) echo 0 ;;
     least* | all* | 'no '*) echo 1 ;;
     refused* | full*) echo 2 ;;
     *$'\nreaches\n') echo 0 ;;
@@ -461,6 +470,7 @@ test_own_file
 test_full
 test_run
 test_check
+test_protocol
 test_words
 test_devices
 test_refused
