@@ -1,3 +1,4 @@
+pub mod Laws
 mod Sorted
 mod Steps
 mod Typings

@@ -223,7 +223,7 @@ module _ (at : Context) where
       let i = step-inv (behind_sign signs.CloseRound us) (λ rest. made >>= λ b. found b rest) e in
       good-made most i.0 made fit i.2 (omega (arith, s, sign-shorter signs.CloseRound us i.1))
 
-  fits : (n : ℕ) (next : Next) (ts : List Token) (x : Found) → IsReady at next → read at n next ts ≡ Some x → IsGood at next ts x
+  pub fits : (n : ℕ) (next : Next) (ts : List Token) (x : Found) → IsReady at next → read at n next ts ≡ Some x → IsGood at next ts x
   unfolding read
   fits zero next ts x r e = absurd (none-some _ e)
   fits (suc n) (All level) ts x r e =

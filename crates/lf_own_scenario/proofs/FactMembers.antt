@@ -1,5 +1,5 @@
 -- A fact whose numbers are there is one of its definition's, and of the protocol's.
-use Rattle.std.proofs.Common.{◌≡◌, ℕ, ◌+◌, Bool, true, false, List, [], ◌∷◌, ◌++◌, length, min, refl, sym, ap, subst, inl, inr, map, arith}
+use Rattle.std.proofs.Common.{◌≡◌, ℕ, Bool, true, false, List, [], ◌∷◌, ◌++◌, length, min, refl, sym, ap, subst, inl, inr, map, arith}
 use Rattle.std.specs.Prelude.{Option, Some, None, slice_get}
 use Rattle.std.specs.List.{flat_map}
 use Rattle.std.specs.Str.{bytes_eq}
@@ -20,7 +20,8 @@ use Rattle.lf_protocols.specs.declared.fact.Fact.TheVariants as facts
 use Rattle.lf_protocols.specs.declared.protocol.Kind.TheVariants as kinds
 use Rattle.lf_protocols.specs.Words.{fact_name}
 use Rattle.lf_promises.specs.Facts.{is_number, has_word, is_flag_kind, is_flag, has_told}
-use Rattle.lf_unfolding.proofs.MemberLemmas.{Member, any-from, range-from}
+use Rattle.lf_unfolding.specs.Elements.{Member}
+use Rattle.lf_unfolding.proofs.Laws.{any-from, range-from}
 use Rattle.lf_scenario.specs.Formulas.{is_fact_of}
 
 in-left : {X : Type 0} (xs ys : List X) (x : X) → Member xs x → Member (xs ++ ys) x

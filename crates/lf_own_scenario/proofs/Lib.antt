@@ -1,6 +1,7 @@
-mod Inductions
 mod FactMembers
 mod RangeLemmas
 mod Counts
 mod ZerosLemmas
 mod ReadingLemmas
+mod SetLemmas
+mod FittingLemmas

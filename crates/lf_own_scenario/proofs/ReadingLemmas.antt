@@ -15,14 +15,14 @@ use Rattle.lf_scenario.specs.Values.{required}
 use Rattle.lf_own_scenario.specs.declared.keys.Bounded.{Bounded}
 use Rattle.lf_own_scenario.specs.Constants.{given_in}
 use Rattle.lf_own_scenario.specs.Keys.{bounded_in, settled_in}
-use Rattle.lf_own_scenario.specs.Machines.{kind_in}
+use Rattle.lf_own_scenario.specs.Machines.{kind_of}
 use Rattle.lf_own_scenario.specs.Outcomes.{outcome_in}
 use Rattle.lf_own_scenario.specs.Scenarios.{IsAskedWith, Settled, asked_with, chosen_in}
 
 module _ (file : Declared) (ms : Members) where
   pub chosen-whole : (bounded : Bounded) (given : List Given) (kind : Kind)
       → bounded_in ms ≡ Ok bounded → settled_in file.name ms ≡ Ok tt → given_in file bounded.bounds.nodes ms ≡ Ok given
-      → kind_in file bounded.bounds.nodes given ≡ Ok kind
+      → kind ≡ kind_of file bounded.bounds.nodes given
       → chosen_in file ms
       ≡ Ok (record {
         described = record { bounds = bounded.bounds; max_sets = bounded.max_sets; delays = bounded.delays; protocol = kind };

@@ -14,7 +14,7 @@ use Rattle.lf_scenario.specs.Scenarios.{Asked, IsDocument, IsScenario}
 use Rattle.lf_scenario.specs.Values.{Reading, ◌>>=◌, required}
 use Rattle.lf_own_scenario.specs.Keys.{bounded_in, settled_in}
 use Rattle.lf_own_scenario.specs.Constants.{given_in}
-use Rattle.lf_own_scenario.specs.Machines.{kind_in}
+use Rattle.lf_own_scenario.specs.Machines.{kind_of}
 use Rattle.lf_own_scenario.specs.Outcomes.{outcome_in}
 
 -- what a scenario says but its outcome and its links, with what the constants are
@@ -28,9 +28,13 @@ module _ (file : Declared) where
     bounded ← bounded_in ms
     named ← settled_in file.name ms
     given ← given_in file bounded.bounds.nodes ms
-    kind ← kind_in file bounded.bounds.nodes given
     Ok (record {
-      described = record { bounds = bounded.bounds; max_sets = bounded.max_sets; delays = bounded.delays; protocol = kind };
+      described = record {
+        bounds = bounded.bounds;
+        max_sets = bounded.max_sets;
+        delays = bounded.delays;
+        protocol = kind_of file bounded.bounds.nodes given;
+      };
       given = given;
     })
 

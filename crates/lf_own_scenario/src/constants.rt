@@ -1,8 +1,9 @@
 //! The constants of a protocol in a scenario.
 
-ghost use Rattle.std.specs.Prelude.{◌≡◌};
+ghost use Rattle.std.specs.Prelude.{◌≡◌, ◌≤◌, true, IfOk};
 ghost use Rattle.toml.specs.View.{table_view};
 ghost use Rattle.lf_ruled.specs.Constants.{is_for};
+ghost use Rattle.lf_ruled.specs.Machines.{is_machine};
 ghost use Rattle.lf_own_scenario.specs.Values.{Gives};
 ghost use Rattle.lf_own_scenario.specs.Constants.{seen, is_declared, all_declared, anew, left, constant_at, constants_in, found_in, given_in};
 
@@ -128,7 +129,7 @@ fn found_in(
 /// What all constants are in a scenario.
 ///
 /// It is refused where `given` is no table or names what is no constant, then for the first constant that can't be so, and then where the protocol divides by
-/// a constant that is 0.
+/// a constant that is 0. What is read fits: among 2 to 8 nodes the protocol is a machine with it.
 #[tactic(auto, unfolding(crate::specs::Constants::given_in))]
 pub(crate) fn given_in(
     alloc: Global,
@@ -136,7 +137,8 @@ pub(crate) fn given_in(
     nodes: u32,
     table: &Table,
 ) -> Result<Vec<Given>, ScenarioError>
-    ensures { Gives (λ vs. vs.items) (given_in file.now nodes (table_view table.now)) result }
+    ensures value { Gives (λ vs. vs.items) (given_in file.now nodes (table_view table.now)) result }
+    ensures fitting { 2 ≤ nodes → nodes ≤ 8 → IfOk result (λ vs. is_machine file.now.definition nodes vs.items ≡ true) }
 {
     let given = found_in(alloc, file, nodes, at(table, Key::Given.name()))?;
     if definition_divides(given.as_slice(), file.definition()) {

@@ -13,5 +13,5 @@ mod reader;
 mod values;
 mod zeros;
 
-pub use laws::promises_are_formulas;
-pub use reader::read_with;
+pub use laws::{constants_fit, promises_are_formulas};
+pub use reader::{Valued, read_with, read_with_values};

@@ -1,12 +1,15 @@
 //! The reader of scenarios of protocol files.
 
-ghost use Rattle.std.specs.Prelude.{◌≡◌, ◌≢◌, ◌<◌, ◌≤◌, IfOk, length, MatchResult, IsErrAnd, Ok, Err};
+ghost use Rattle.std.specs.Prelude.{◌≡◌, ◌≢◌, ◌<◌, ◌≤◌, true, IfOk, length, MatchResult, IsErrAnd, Ok, Err};
 ghost use Rattle.toml.specs.Data.{Members};
 ghost use Rattle.toml.specs.View.{table_view};
+ghost use Rattle.lf_protocols.specs.declared.protocol.Kind.{Kind};
+ghost use Rattle.lf_ruled.specs.Instances.{Instance};
 ghost use Rattle.lf_scenario.specs.Limits.{longest};
 ghost use Rattle.lf_scenario.specs.Ranges.{IsInRange};
 ghost use Rattle.lf_scenario.specs.Scenarios.{IsDocument};
-ghost use Rattle.lf_own_scenario.specs.Machines.{kind_of, kind_in};
+ghost use Rattle.lf_ruled.specs.Machines.{is_machine};
+ghost use Rattle.lf_own_scenario.specs.Machines.{kind_of};
 ghost use Rattle.lf_own_scenario.specs.Values.{Gives};
 ghost use Rattle.lf_own_scenario.specs.Scenarios.{chosen_in, asked_with, IsAskedWith, IsRefusedWith, IsTextWith};
 
@@ -14,9 +17,9 @@ use crate::constants::given_in;
 use crate::keys::{Bounded, bounded_in, settled_in};
 use crate::outcomes::formula_in;
 use lf_protocols::Protocol;
-use lf_ruled::Ruled;
+use lf_ruled::{Ruled, given_table};
 use lf_rules::Given;
-use lf_scenario::{Described, Key, LONGEST, Scenario, ScenarioError, Usual, all_links, assembled};
+use lf_scenario::{Described, LONGEST, Scenario, ScenarioError, Usual, all_links, assembled};
 use lf_written::ProtocolFile;
 use std::alloc::Global;
 use toml::Table;
@@ -43,27 +46,70 @@ pub fn read_with(alloc: Global, text: &[u8], file: &ProtocolFile) -> Result<Scen
     }
 }
 
+/// A scenario of a protocol file, with the values of the protocol's constants, by node and number.
+#[derive(Drop)]
+pub struct Valued {
+    pub scenario: Scenario,
+    pub values: [[u8; 16]; 8],
+}
+
+/// The scenario of a text as `read_with` reads it, with the values of its protocol's constants.
+pub fn read_with_values(
+    alloc: Global,
+    text: &[u8],
+    file: &ProtocolFile,
+) -> Result<Valued, ScenarioError>
+    ensures reading { MatchResult result (λ v. IsTextWith file.now v.scenario text.now) (λ e. e ≢ ScenarioError.Memory → IsRefusedWith file.now text.now e) }
+    ensures values { IfOk result (λ v. (m : Instance) → v.scenario.setting.machine ≡ Kind.Ruled m → m.given ≡ v.values) }
+{
+    if text.len() > LONGEST {
+        return Err(ScenarioError::TooLong);
+    }
+    match toml::table_from_slice(alloc, text) {
+        Ok(table) => valued_in(alloc, &table, file),
+        Err(e) if e.is_memory() => Err(ScenarioError::Memory),
+        Err(_) => Err(ScenarioError::NoDocument),
+    }
+}
+
+/// The scenario of a table.
+fn read_table(alloc: Global, table: &Table, file: &ProtocolFile) -> Result<Scenario, ScenarioError>
+    ensures { MatchResult result (IsAskedWith file.now (table_view table.now))
+        (λ e. e ≢ ScenarioError.Memory → asked_with file.now (table_view table.now) ≡ Err e) }
+{
+    match valued_in(alloc, table, file) {
+        Ok(Valued { scenario, .. }) => Ok(scenario),
+        Err(e) => Err(e),
+    }
+}
+
 /// What a scenario says but its outcome and its links, with the constants.
 struct Chosen {
     described: Described,
     given: Vec<Given>,
 }
 
-/// The scenario of a table.
+/// The scenario of a table, with the values of the constants.
 #[tactic(auto, unfolding(crate::specs::Scenarios::asked_with))]
-fn read_table(alloc: Global, table: &Table, file: &ProtocolFile) -> Result<Scenario, ScenarioError>
-    ensures { MatchResult result (IsAskedWith file.now (table_view table.now))
+fn valued_in(alloc: Global, table: &Table, file: &ProtocolFile) -> Result<Valued, ScenarioError>
+    ensures asked { MatchResult result (λ v. IsAskedWith file.now (table_view table.now) v.scenario)
         (λ e. e ≢ ScenarioError.Memory → asked_with file.now (table_view table.now) ≡ Err e) }
+    ensures values { IfOk result (λ v. (m : Instance) → v.scenario.setting.machine ≡ Kind.Ruled m → m.given ≡ v.values) }
 {
     let Chosen { described, given } = chosen_in(alloc, table, file)?;
     let formula = formula_in(alloc, table, file, given.as_slice(), &described)?;
+    let nodes = described.bounds.nodes();
     let usual = Usual {
-        nodes: described.bounds.nodes(),
+        nodes,
         least: described.delays.least,
         spread: described.delays.spread,
     };
     let links = all_links(alloc, table, usual)?;
-    Ok(assembled(described, formula, links))
+    let values = given_table(nodes, given.as_slice());
+    Ok(Valued {
+        scenario: assembled(described, formula, links),
+        values,
+    })
 }
 
 /// What a table says but the outcome and the links.
@@ -81,7 +127,7 @@ fn chosen_in(alloc: Global, table: &Table, file: &ProtocolFile) -> Result<Chosen
     settled_in(table, file.name())?;
     let nodes = bounds.nodes();
     let given = given_in(alloc, file, nodes, table)?;
-    let protocol = kind_in(alloc, file, nodes, given.as_slice())?;
+    let protocol = kind_of(alloc, file, nodes, given.as_slice())?;
     let described = Described {
         bounds,
         max_sets,
@@ -92,21 +138,21 @@ fn chosen_in(alloc: Global, table: &Table, file: &ProtocolFile) -> Result<Chosen
 }
 
 /// The protocol among so many nodes, with these values of its constants.
-fn kind_in(
+fn kind_of(
     alloc: Global,
     file: &ProtocolFile,
     nodes: u32,
     given: &[Given],
 ) -> Result<Protocol, ScenarioError>
-    ensures value { Gives (λ protocol. protocol) (kind_in file.now nodes given.now) result }
-    ensures kind { IfOk result (λ protocol. protocol ≡ kind_of file.now nodes given.now) }
+    requires fitting { is_machine file.now.definition nodes given.now ≡ true }
+    ensures { MatchResult result (λ protocol. protocol ≡ kind_of file.now nodes given.now) (λ e. e ≡ ScenarioError.Memory) }
 {
     let Ok(rules) = file.rules() else {
         return Err(ScenarioError::Memory);
     };
     match Ruled::new(alloc, rules, nodes, given) {
         Ok(Some(ruled)) => Ok(Protocol::ruled(ruled)),
-        Ok(None) => Err(ScenarioError::WrongKind(Key::Given)),
+        Ok(None) => unreachable!(),
         Err(_) => Err(ScenarioError::Memory),
     }
 }

@@ -1,2 +1,4 @@
-pub mod FactLemmas
-pub mod ReadingLemmas
+pub mod Laws
+mod FactLemmas
+mod Inductions
+mod ReadingLemmas

@@ -3,3 +3,4 @@ pub mod Units
 pub mod Promises
 pub mod Readings
 pub mod Facts
+pub mod Inductions

@@ -23,12 +23,13 @@ use Rattle.lf_promises.specs.Fronts.{opposite}
 use Rattle.lf_promises.specs.declared.promise.Promise.{Promise}
 use Rattle.lf_promises.specs.declared.promise.Promise.TheVariants as promises
 use Rattle.lf_promises.specs.declared.promise.Many.TheVariants as manys
+use Rattle.lf_unfolding.specs.Elements.{Member}
 use Rattle.lf_unfolding.specs.declared.scene.Scene.{Scene}
 use Rattle.lf_unfolding.specs.Members.{is_in, members, others}
 use Rattle.lf_unfolding.specs.Quantities.{ruled, shows, each, any_of, all_but_one, where_any}
 use Rattle.lf_unfolding.specs.Unfolding.{formula_at}
 use Rattle.lf_unfolding.specs.Keeping.{IsKept, IsMeant, UpShows, UpLacks}
-use Rattle.lf_unfolding.proofs.MemberLemmas.{Member, all-at, all-from, any-at, any-from, kept-at, kept-from, range-at, range-from}
+use Rattle.lf_unfolding.proofs.MemberLemmas.{all-at, all-from, any-at, any-from, kept-at, kept-from, range-at, range-from}
 use Rattle.lf_unfolding.proofs.MemberLemmas.{all-flat, any-flat, but_one-then, but_one-from}
 use Rattle.lf_unfolding.proofs.UnfoldingLemmas.{formula-All, formula-Any, formula-Always, formula-Ever, formula-Nodes, formula-Down, formula-At}
 

@@ -1,4 +1,6 @@
-pub mod KeptLemmas
-pub mod ListLemmas
-pub mod MemberLemmas
-pub mod UnfoldingLemmas
+pub mod Laws
+mod KeptLemmas
+mod ListLemmas
+mod MemberLemmas
+mod SizeLemmas
+mod UnfoldingLemmas

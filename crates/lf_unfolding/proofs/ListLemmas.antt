@@ -1,5 +1,5 @@
 -- Lists, one element more.
-use Rattle.std.proofs.Common.{◌≡◌, ℕ, ◌+◌, Bool, true, false, List, [], ◌∷◌, ◌++◌, refl, sym, ap, ◌∙◌, map, zero-add, filter}
+use Rattle.std.proofs.Common.{◌≡◌, ℕ, ◌+◌, Bool, true, false, List, [], ◌∷◌, ◌++◌, refl, sym, ap, ◌∙◌, map, zero-add, filter, length, length-append}
 use Rattle.std.specs.List.{range_with_len, flat_map}
 use Rattle.std.proofs.lemmas.List.FromFn.{map-range_with_len_more}
 use Rattle.std.proofs.lemmas.List.Elements.{filter-append}
@@ -45,6 +45,18 @@ module _ (p : ℕ → Bool) (n : ℕ) where
   range-out sofar b before tested fails =
       before ∙ sym (append-none (filter p (range_with_len 0 n)))
       ∙ ap (λ ys. filter p (range_with_len 0 n) ++ ys) (sym (one-out (sym tested ∙ fails))) ∙ sym filter-range-more
+
+  -- the same, where they are counted alone
+  pub count-in : (sofar : ℕ) (b : Bool) → sofar ≡ length (filter p (range_with_len 0 n)) → b ≡ p n → b ≡ true
+      → sofar + 1 ≡ length (filter p (range_with_len 0 (n + 1)))
+  count-in sofar b before tested holds =
+      ap (λ k. k + 1) before ∙ sym (length-append (filter p (range_with_len 0 n)) (n ∷ []))
+      ∙ ap (λ ys. length (filter p (range_with_len 0 n) ++ ys)) (sym (one-in (sym tested ∙ holds))) ∙ ap length (sym filter-range-more)
+
+  pub count-out : (sofar : ℕ) (b : Bool) → sofar ≡ length (filter p (range_with_len 0 n)) → b ≡ p n → b ≡ false
+      → sofar ≡ length (filter p (range_with_len 0 (n + 1)))
+  count-out sofar b before tested fails =
+      before ∙ ap length (range-out (filter p (range_with_len 0 n)) b refl tested fails)
 
 -- what comes of each number in turn
 pub flat-range-more : {X : Type 0} (f : ℕ → List X) (a n k : ℕ) (sofar next : List X) → a + n ≡ k

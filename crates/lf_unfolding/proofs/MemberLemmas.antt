@@ -5,11 +5,7 @@ use Rattle.std.specs.List.{range_with_len, list_all, list_any, flat_map}
 use Rattle.std.proofs.lemmas.Bool.{and_parts, and_from, or_cases, or_left, or_right, cases_lt, eqb-true, eq-eqb}
 use Rattle.std.proofs.lemmas.List.Folds.{list_all-append}
 use Rattle.std.proofs.lemmas.List.Concat.{flat_map-cons}
-
--- x is one of the elements
-abbrev pub Member : {X : Type 0} → List X → X → Type 0
-Member [] x = ⊥
-Member (y ∷ ys) x = (y ≡ x) ⊎ Member ys x
+use Rattle.lf_unfolding.specs.Elements.{Member}
 
 -- a truth value, whichever it is
 pub either : (b : Bool) → (b ≡ true) ⊎ (b ≡ false)

@@ -1,4 +1,6 @@
+pub mod Elements
 pub mod Members
 pub mod Quantities
 pub mod Unfolding
+pub mod Sizes
 pub mod Keeping

@@ -1,6 +1,6 @@
 //! Why a promise is no formula.
 
-use crate::unfolding::{DEEPEST, MOST_ATOMS};
+use crate::sizes::{DEEPEST, MOST_ATOMS};
 use thiserror::Error;
 
 /// Why a promise is no formula in a scenario.

@@ -5,13 +5,14 @@
 
 mod checking;
 mod error;
-mod laws;
+mod kept;
 mod members;
 mod quantities;
 mod scene;
+mod sizes;
 mod unfolding;
 
 pub use error::UnfoldError;
-pub use laws::{nodes_keep, opposites_are_opposite, parts_are_kept};
+pub use kept::{nodes_keep, opposites_are_opposite, parts_are_kept};
 pub use scene::Scene;
 pub use unfolding::unfold;

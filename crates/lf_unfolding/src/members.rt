@@ -1,6 +1,6 @@
 //! The nodes of sets.
 
-ghost use Rattle.std.specs.Prelude.{◌≡◌, IfOk, slice_get};
+ghost use Rattle.std.specs.Prelude.{◌≡◌, IfOk, length, slice_get};
 ghost use Rattle.lf_ruled.specs.Constants.{row_of};
 ghost use Rattle.lf_unfolding.specs.Members.{is_in, is_in_set, members, others};
 
@@ -25,6 +25,20 @@ pub(crate) fn members(
         }
     }
     Ok(nodes)
+}
+
+/// How many they are.
+#[tactic(auto, unfolding(crate::specs::Members::members))]
+pub(crate) fn count_members(scene: &Scene, of: &Option<Expr>) -> u32
+    ensures { result ≡ length (members scene.now of.now) }
+{
+    let mut count = 0;
+    for node in 0..scene.nodes {
+        if is_in(scene, of, node) {
+            count += 1;
+        }
+    }
+    count
 }
 
 /// Whether something is said of a node.

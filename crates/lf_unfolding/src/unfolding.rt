@@ -2,23 +2,18 @@
 
 ghost use Rattle.std.specs.Prelude.{◌≡◌, ◌≢◌, ◌++◌, IfOk, MatchResult, map, Ok, Err};
 ghost use Rattle.std.specs.List.{flat_map, range_with_len};
-ghost use Rattle.lf_unfolding.specs.Unfolding.{formula_at, limited, unfolded};
+ghost use Rattle.lf_unfolding.specs.Unfolding.{formula_at, unfolded};
 
 use crate::checking::names_nodes;
 use crate::members::members;
 use crate::quantities::so_many;
+use crate::sizes::fits;
 use crate::{Scene, UnfoldError};
 use lf_list::Listed;
-use lf_outcome::{Formula, Formulas, atoms, depth};
+use lf_outcome::{Formula, Formulas};
 use lf_promises::Promise;
 use lf_protocols::Fact;
 use std::alloc::{AllocError, Global};
-
-/// How deep the formula of a promise may be.
-pub const DEEPEST: u32 = 8;
-
-/// The most atoms of the formula of a promise.
-pub const MOST_ATOMS: u32 = 512;
 
 /// The formula that a promise is in a scenario.
 ///
@@ -34,8 +29,9 @@ pub const MOST_ATOMS: u32 = 512;
 /// | at most one shows it | `Any`, for each node n, of `All` of `Any [Down m, Shows m opposite]` for the other nodes m; `All []` where there is no node |
 /// | `Down`, `At` | `Down`, `Shows` |
 ///
-/// It is refused where it names a node by its number that there isn't, and else where the formula is too large.
-#[tactic(auto, unfolding(crate::specs::Unfolding::unfolded))]
+/// It is refused where it names a node by its number that there isn't, and else where the formula is too large. How large it would be
+/// is counted first, so nothing is made of a formula that is too large.
+#[tactic(auto, unfolding(crate::specs::Unfolding::unfolded, crate::specs::Unfolding::limited))]
 pub fn unfold(alloc: Global, scene: &Scene, promise: &Promise) -> Result<Formula<Fact>, UnfoldError>
     ensures { MatchResult result (λ formula. unfolded scene.now promise.now ≡ Ok formula)
         (λ e. e ≢ UnfoldError.Memory → unfolded scene.now promise.now ≡ Err e) }
@@ -43,21 +39,12 @@ pub fn unfold(alloc: Global, scene: &Scene, promise: &Promise) -> Result<Formula
     if !names_nodes(scene.nodes, promise) {
         return Err(UnfoldError::NoNode);
     }
-    match formula_at(alloc, scene, promise, scene.horizon) {
-        Ok(formula) => limited(formula),
-        Err(_) => Err(UnfoldError::Memory),
+    if !fits(scene, promise) {
+        return Err(UnfoldError::TooLarge);
     }
-}
-
-/// A formula, where it isn't too deep and hasn't too many atoms.
-#[tactic(auto, unfolding(crate::specs::Unfolding::limited))]
-fn limited(formula: Formula<Fact>) -> Result<Formula<Fact>, UnfoldError>
-    ensures { result ≡ limited formula }
-{
-    if depth(&formula) <= DEEPEST && atoms(&formula) <= MOST_ATOMS {
-        Ok(formula)
-    } else {
-        Err(UnfoldError::TooLarge)
+    match formula_at(alloc, scene, promise, scene.horizon) {
+        Ok(formula) => Ok(formula),
+        Err(_) => Err(UnfoldError::Memory),
     }
 }
 

@@ -1,6 +1,6 @@
 use Rattle.std.specs.Prelude.{None}
 use Rattle.lf_unfolding.proofs.KeptLemmas.{each-keeps, no-keeps, some-keeps, most-keeps, down-keeps, at-keeps}
-use Rattle.lf_unfolding.proofs.laws.nodes_keep.Goals as goal
+use Rattle.lf_unfolding.proofs.kept.nodes_keep.Goals as goal
 
 pub returns : goal.returns
 returns g c = record {

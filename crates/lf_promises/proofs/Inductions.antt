@@ -1,26 +1,12 @@
 -- Induction on promises.
-use Rattle.std.proofs.Common.{ℕ, List, [], ◌∷◌, sym, subst, map}
-use Rattle.std.specs.Prelude.{Option}
+use Rattle.std.proofs.Common.{List, [], ◌∷◌, sym, subst, map}
 use Rattle.std.specs.List.{AllByRecursion}
-use Rattle.lf_rules.specs.Terms.{Term}
-use Rattle.lf_ruled.specs.declared.fact.Fact.{Fact}
-use Rattle.lf_promises.specs.declared.promise.Many.{Many}
 use Rattle.lf_promises.specs.declared.promise.Promise.{Promise}
 use Rattle.lf_promises.specs.declared.promise.Promise.TheVariants.{rolls-All, rolls-Any, rolls-Always, rolls-Ever, rolls-Nodes, rolls-Down, rolls-At}
-use Rattle.lf_promises.specs.declared.promise.Promise.TheVariants as promises
 use Rattle.lf_promises.specs.declared.promise.Promise.TheOpen.{Promise-F}
 use Rattle.lf_promises.specs.declared.promise.Promise.TheFolds.{ind-Promise, map-Promise}
 use Rattle.lf_promises.specs.declared.promise.Promise.TheViews.{roll-Promise}
-
--- what holds of a promise of which it holds of each part, by kind
-pub record Steps (Q : Promise → Type 0) : Type 0 where
-  pub all : (parts : List Promise) → AllByRecursion Q parts → Q (promises.All parts)
-  pub any : (parts : List Promise) → AllByRecursion Q parts → Q (promises.Any parts)
-  pub always : (parts : List Promise) → AllByRecursion Q parts → Q (promises.Always parts)
-  pub ever : (parts : List Promise) → AllByRecursion Q parts → Q (promises.Ever parts)
-  pub nodes : (many : Many) (fact : Fact) (of : Option Term) → Q (promises.Nodes many fact of)
-  pub down : (n : ℕ) → Q (promises.Down n)
-  pub shows : (n : ℕ) (fact : Fact) → Q (promises.At n fact)
+use Rattle.lf_promises.specs.Inductions.{Steps}
 
 module _ (Q : Promise → Type 0) where
   each : (proved : List ((p : Promise) × Q p)) → AllByRecursion Q (map (λ e. e.0) proved)
