@@ -8,4 +8,4 @@ mod naming;
 mod telling;
 
 pub use naming::{names_are_one, read_faults};
-pub use telling::trace;
+pub use telling::{end_word, push_step, trace};

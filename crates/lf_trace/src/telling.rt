@@ -39,19 +39,35 @@ pub fn trace(
 {
     let mut text = String::new(alloc);
     'steps: for past in 0..run.horizon() {
-        let step = Step {
-            setting,
-            run,
-            number: past + 1,
-        };
-        step.push(&mut text)?;
+        push_step(setting, run, past + 1, &mut text)?;
     }
     writeln!(text, "{}", end_word(setting, formula, run))?;
     Ok(text)
 }
 
+/// Adds to a text the lines of a step of a run of this setting: `step T`, a line for each node, and one for each note that is sent at the step.
+pub fn push_step(
+    setting: &Setting<Protocol>,
+    run: &Run<Protocol>,
+    number: u32,
+    text: &mut String,
+) -> Result<(), AllocError>
+    requires run { IsRun (world_of setting.now) run.now }
+    requires first { 1 ≤ number }
+    requires last { number ≤ (world_of setting.now).horizon }
+    ensures { IfOk result (λ _. string_bytes text.new ≡ string_bytes text.old
+        ++ step_lines setting.now.machine (world_of setting.now) (set_of run.now) number) }
+{
+    let step = Step {
+        setting,
+        run,
+        number,
+    };
+    step.push(text)
+}
+
 /// The last line's word.
-fn end_word(
+pub fn end_word(
     setting: &Setting<Protocol>,
     formula: &Formula<Fact>,
     run: &Run<Protocol>,

@@ -1,0 +1,4 @@
+mod NumbersLemmas
+mod ListsLemmas
+mod LettersLemmas
+mod ReadingsLemmas

@@ -1,0 +1,4 @@
+pub mod Numbers
+pub mod Turns
+pub mod Points
+pub mod Readings
