@@ -1,16 +1,17 @@
-//! A machine of one's own, run under faults and judged: three nodes that tell each other a number.
+//! A machine of one's own, run under faults, judged and searched: three nodes that tell each other a number.
 #![tactic(auto)]
 
 ghost use Rattle.std.specs.Prelude.{◌≡◌};
 ghost use Rattle.own_machine.specs.Gossip.{learned, told};
 
-use lf_faults::{Fault, FaultSet, FaultSpec};
+use lf_faults::{Fault, FaultSet, FaultSpec, fault_text};
 use lf_latency::{Links, Network};
 use lf_list::Listed;
 use lf_outcome::{Formula, holds};
+use lf_plain::first_missing;
 use lf_sim::{Letter, Machine, Out, Setting, Stepped, run};
 use std::alloc::{AllocError, Global};
-use std::process::ExitCode;
+use std::io;
 
 /// Three nodes, of which node 0 knows a number. Who knows it tells all others at each step.
 #[derive(Clone, Copy, Debug, PartialEq, Eq, Drop)]
@@ -78,7 +79,7 @@ fn told(node: u32, known: u32) -> Out<u32>
     }
 }
 
-/// Three steps, in which each note takes one; notes may be lost at the steps 1 and 2.
+/// Three steps, in which each note takes one; up to three notes may be lost, at the steps 1 and 2.
 fn setting() -> Option<Setting<Gossip>> {
     let network = Network::new([0; 32], Links::new(3, 1, 0), 3, 3);
     let bounds = FaultSpec::new(3, 3, 2, 0, 3)?;
@@ -96,40 +97,56 @@ fn promise(alloc: Global) -> Result<Formula<u32>, AllocError> {
     Ok(Formula::Any(Listed::from_vec(Vec::from_array(alloc, [down, knows])?)))
 }
 
-/// Whether node 2 learns the number under these faults.
-fn keeps(alloc: Global, faults: &[Option<Fault>]) -> Result<Option<bool>, AllocError> {
-    let Some(setting) = setting() else {
-        return Ok(None);
-    };
+/// Prints whether the run of these faults keeps the promise.
+fn tell(
+    rt: &HostRuntime,
+    setting: &Setting<Gossip>,
+    formula: &Formula<u32>,
+    name: &str,
+    faults: &[Option<Fault>],
+) -> io::Result<()> {
     let mut set = FaultSet::empty();
     for fault in faults.iter().copied().flatten() {
         set = set.insert(fault).unwrap_or(set);
     }
-    let formula = promise(alloc)?;
-    let played = run(alloc, &setting, &set)?;
-    Ok(Some(holds(&setting, &formula, &played)))
-}
-
-/// Prints whether node 2 learns the number under these faults.
-fn tell(rt: &HostRuntime, name: &str, faults: &[Option<Fault>]) {
-    let verdict = match keeps(rt.alloc(), faults) {
-        Ok(Some(true)) => "reaches",
-        Ok(Some(false)) => "misses",
-        Ok(None) => "no such setting",
-        Err(_) => "out of memory",
+    let played = run(rt.alloc(), setting, &set)?;
+    let verdict = if holds(setting, formula, &played) {
+        "reaches"
+    } else {
+        "misses"
     };
-    let _printed = println!(rt; "{name}: {verdict}").is_ok();
+    println!(rt; "{name}: {verdict}")
 }
 
-fn main(rt: HostRuntime) -> ExitCode {
+/// Prints the first of the smallest sets of faults that break the promise.
+fn tell_least(
+    rt: &HostRuntime,
+    setting: &Setting<Gossip>,
+    formula: &Formula<u32>,
+) -> io::Result<()> {
+    let Some(set) = first_missing(rt.alloc(), setting, formula)? else {
+        return println!(rt; "none");
+    };
+    println!(rt; "least {}", set.len())?;
+    for fault in set.items() {
+        println!(rt; "{}", fault_text(rt.alloc(), fault)?)?;
+    }
+    Ok(())
+}
+
+fn main(rt: HostRuntime) -> io::Result<()> {
+    let Some(setting) = setting() else {
+        return println!(rt; "no such setting");
+    };
+    let formula = promise(rt.alloc())?;
     // twice the direct note, and then the one that node 1 sends on
     let lost = [
         Fault::omit(0, 2, 1),
         Fault::omit(0, 2, 2),
         Fault::omit(1, 2, 2),
     ];
-    tell(&rt, "no fault", &lost[..0]);
-    tell(&rt, "two faults", &lost[..2]);
-    tell(&rt, "three faults", &lost);
-    ExitCode::SUCCESS
+    tell(&rt, &setting, &formula, "no fault", &lost[..0])?;
+    tell(&rt, &setting, &formula, "two faults", &lost[..2])?;
+    tell(&rt, &setting, &formula, "three faults", &lost)?;
+    tell_least(&rt, &setting, &formula)
 }
