@@ -97,7 +97,12 @@ fn hint(alloc: Global, what: &str, given: &str) -> Result<String, AllocError> {
         "check" => check_hint(alloc, text, given.as_bytes()),
         "search" => search_hint(alloc, text, given.as_bytes()),
         "all" => all_hint(alloc, text, given.as_bytes()),
-        "see" => see_hint(alloc, "a.toml", given.replace(alloc, ";", "\n")?.as_bytes()),
+        "see" => see_hint(
+            alloc,
+            "a.toml",
+            None,
+            given.replace(alloc, ";", "\n")?.as_bytes(),
+        ),
         "verdict" => {
             let (reply, tree) = given.split_once(';').unwrap_or(("", ""));
             verdict_hint(alloc, text, tree.as_bytes(), reply.as_bytes())

@@ -3,7 +3,7 @@
 //! In a table each line is a command line, `|`, and what it asks for. Before each word stands `;`.
 
 use lf_words::{Asked, Unasked, asked};
-use std::alloc::Global;
+use std::alloc::{AllocError, Global};
 use std::process::Abort;
 
 /// Adds the words as they come from the system. Says whether there was memory.
@@ -39,6 +39,7 @@ fn wrong(unasked: &Unasked) -> &'static str {
         Unasked::Overwrites(_) if text.starts_with("--tree = ") => "overwrites",
         Unasked::Wrong(_) if text.starts_with("error: ") => "wrong",
         Unasked::Wrong(_) if text.contains(": no such command; ") => "wrong",
+        Unasked::Wrong(_) if text.starts_with("--rules: ") => "rules of none",
         _ => "something else",
     }
 }
@@ -64,62 +65,61 @@ fn is_text(
     }
 }
 
-/// Whether a table says this of what is asked for.
+/// Whether a table says this of what is asked for: behind it stand `;rules`, and `;of` with the file of a protocol.
 fn is_said(alloc: Global, asked: &Asked, expected: &str) -> bool {
+    let (verb, behind, rest) = parts(asked);
+    let (told, workers) = options(asked);
+    match end_of(alloc, asked, told, workers, rest) {
+        Ok(end) => is_text(alloc, expected, verb, asked.file(), behind, end.as_str()),
+        Err(_) => false,
+    }
+}
+
+/// What to do, what stands behind the file, and whether nothing is to be told on the way.
+fn parts(asked: &Asked) -> (&str, (&str, &str), &str) {
     match asked {
-        Asked::Search {
-            file,
-            tree,
-            all,
-            workers,
-            quiet,
-        } => {
-            let told = if *all { ";all" } else { "" };
+        Asked::Search { tree, quiet, .. } => {
             let behind = match tree {
                 Some(tree) => (";tree;", tree.as_str()),
                 None => ("", ""),
             };
-            match format!(in alloc; "{told};{workers}{}", stillness(*quiet)) {
-                Ok(rest) => is_text(
-                    alloc,
-                    expected,
-                    "search",
-                    file.as_str(),
-                    behind,
-                    rest.as_str(),
-                ),
-                Err(_) => false,
-            }
+            ("search", behind, stillness(*quiet))
         }
-        Asked::Run { file, faults } => {
-            let behind = (";", faults.as_str());
-            is_text(alloc, expected, "run", file.as_str(), behind, "")
+        Asked::Run { faults, rules, .. } => {
+            let told = if *rules { ";rules" } else { "" };
+            ("run", (";", faults.as_str()), told)
         }
-        Asked::Check { file, tree, quiet } => {
-            let behind = (";", tree.as_str());
-            is_text(
-                alloc,
-                expected,
-                "check",
-                file.as_str(),
-                behind,
-                stillness(*quiet),
-            )
-        }
-        Asked::Answer { file, quiet } => {
-            is_text(
-                alloc,
-                expected,
-                "answer",
-                file.as_str(),
-                ("", ""),
-                stillness(*quiet),
-            )
-        }
-        Asked::Protocol { file } => {
-            is_text(alloc, expected, "protocol", file.as_str(), ("", ""), "")
-        }
+        Asked::Check { tree, quiet, .. } => ("check", (";", tree.as_str()), stillness(*quiet)),
+        Asked::Answer { quiet, .. } => ("answer", ("", ""), stillness(*quiet)),
+        Asked::Protocol { .. } => ("protocol", ("", ""), ""),
     }
+}
+
+/// Whether all least sets are to be told, and how many workers search, where one of these is said.
+fn options(asked: &Asked) -> (&str, Option<u32>) {
+    match asked {
+        Asked::Search { all, workers, .. } => (if *all { ";all" } else { "" }, Some(*workers)),
+        _ => ("", None),
+    }
+}
+
+/// The end of what a table says of what is asked for.
+fn end_of(
+    alloc: Global,
+    asked: &Asked,
+    told: &str,
+    workers: Option<u32>,
+    rest: &str,
+) -> Result<String, AllocError> {
+    let mut end = String::from_str(alloc, told)?;
+    if let Some(workers) = workers {
+        write!(&mut end, ";{workers}")?;
+    }
+    end.push_str(rest)?;
+    if let Some(protocol) = asked.protocol_file() {
+        write!(&mut end, ";of;{protocol}")?;
+    }
+    Ok(end)
 }
 
 /// Whether a command line of a table asks for what stands behind it.
@@ -186,6 +186,13 @@ fn searches_name_their_file(rt: HostRuntime) {
         ";search;--quiet;a;--all;--tree;t|;search;a;tree;t;all;1;quiet\n",
         ";search;a;--quiet;--workers;2|;search;a;2;quiet\n",
         ";search;--;--quiet|;search;--quiet;1\n",
+        ";search;a;--protocol;p|;search;a;1;of;p\n",
+        ";search;--protocol=-;-|;search;-;1;of;-\n",
+        ";search;a;--all;--tree;t;--protocol;p;--workers;2|;search;a;tree;t;all;2;of;p\n",
+        ";search;a;--tree;p;--protocol;p|overwrites\n",
+        ";search;a;--protocol|wrong\n",
+        ";search;a;--protocol;p;--protocol;q|wrong\n",
+        ";search;a;--rules|wrong\n",
     );
     check_lines(&rt, rt.alloc(), table);
 }
@@ -200,6 +207,10 @@ fn runs_name_their_file_and_their_faults(rt: HostRuntime) {
         ";run;ü b; é,日本 |;run;ü b; é,日本 \n",
         ";run;a;--;-h|;run;a;-h\n",
         ";run;--;-a;--help|;run;-a;--help\n",
+        ";run;a;;--protocol;p|;run;a;;of;p\n",
+        ";run;a;;--protocol;p;--rules|;run;a;;rules;of;p\n",
+        ";run;--rules;--protocol=p;a;crash 0 @1|;run;a;crash 0 @1;rules;of;p\n",
+        ";run;a;;--rules|rules of none\n",
     );
     check_lines(&rt, rt.alloc(), table);
 }
@@ -217,6 +228,9 @@ fn checks_name_their_file_and_their_tree(rt: HostRuntime) {
         ";check;-;-|shared\n",
         ";check;-;--quiet;-|shared\n",
         ";check;--;-;-|shared\n",
+        ";check;a;b;--protocol;p;--quiet|;check;a;b;quiet;of;p\n",
+        ";check;-;b;--protocol;-|;check;-;b;of;-\n",
+        ";check;a;b;--protocol;p;--rules|wrong\n",
     );
     check_lines(&rt, rt.alloc(), table);
 }
@@ -233,6 +247,7 @@ fn answers_name_their_file(rt: HostRuntime) {
         ";answer;a;--quiet|;answer;a;quiet\n",
         ";answer;a;--all|wrong\n",
         ";answer;--help|help\n",
+        ";answer;a;--protocol;p|;answer;a;of;p\n",
     );
     check_lines(&rt, rt.alloc(), table);
 }
@@ -246,6 +261,7 @@ fn protocols_name_their_file(rt: HostRuntime) {
         ";protocol|wrong\n",
         ";protocol;a;b|wrong\n",
         ";protocol;a;--quiet|wrong\n",
+        ";protocol;a;--protocol;b|wrong\n",
         ";protocol;--help|help\n",
     );
     check_lines(&rt, rt.alloc(), table);
@@ -322,6 +338,8 @@ const TOLD: &str = concat!(
     ";search;a;--workers;33|--workers = 33: a whole number from 1 to 32\n",
     ";search;a;--workers;x|--workers = x: a whole number from 1 to 32\n",
     ";search;x.toml;--tree;x.toml|--tree = x.toml: it would overwrite the scenario\n",
+    ";search;x.toml;--tree;p.toml;--protocol;p.toml|--tree = p.toml: it would overwrite the protocol file\n",
+    ";run;x.toml;;--rules|--rules: it tells the rules of a protocol file, which --protocol PROTOCOL gives\n",
     ";check;-;-|refused usage\n",
     ";search;a;--al|error: unexpected argument '--al' found\n",
 );

@@ -1,6 +1,7 @@
 -- A text has one reply of a search with a certificate.
 use Rattle.std.proofs.Common.{◌≡◌, ℕ, ◌<◌, ◌≤◌, List, length, sym, ap, ◌∙◌, subst, inl, inr, arith}
-use Rattle.std.specs.Prelude.{Some}
+use Rattle.std.specs.Prelude.{Option, Some}
+use Rattle.lf_written.specs.declared.declared.Declared.{Declared}
 use Rattle.lf_scenario.specs.declared.scenario.Scenario.{Scenario}
 use Rattle.lf_tree.specs.declared.tree.Tree.{Tree}
 use Rattle.lf_tree.specs.Texts.{most_bytes, tree_text}
@@ -15,21 +16,23 @@ not_both tree bytes is long =
     let short : length bytes ≤ most_bytes = is.short in
     omega (arith, longer, short)
 
-module _ (Reports : Scenario → List ℕ → ℕ → Type 0) (text : List ℕ) (replies_one : HasOneReply (IsReplyWith Reports text)) where
+module _ (known : Option Declared) (Reports : Scenario → List ℕ → ℕ → Type 0) (text : List ℕ)
+    (replies_one : HasOneReply (IsReplyWith known Reports text)) where
   -- a search with a tree has an answer
-  never_two : (tree : Tree) (one other : List ℕ) (m n : ℕ) → IsReplyWith Reports text one m → m ≡ 2 → IsReplyWith Reports text other n
-      → HandsOut text (Some tree) n → ⊥
+  never_two : (tree : Tree) (one other : List ℕ) (m n : ℕ) → IsReplyWith known Reports text one m → m ≡ 2 → IsReplyWith known Reports text other n
+      → HandsOut known text (Some tree) n → ⊥
   never_two tree one other m n a two b hands = no_answer_is_two tree.answer (sym two ∙ (replies_one one other m n a b).1 ∙ hands.3)
 
   -- and one tree
-  one_tree : (t u : Tree) (one other : List ℕ) (m n : ℕ) → IsReplyWith Reports text one m → HandsOut text (Some t) m → IsReplyWith Reports text other n
-      → HandsOut text (Some u) n → t ≡ u
+  one_tree : (t u : Tree) (one other : List ℕ) (m n : ℕ) → IsReplyWith known Reports text one m → HandsOut known text (Some t) m
+      → IsReplyWith known Reports text other n
+      → HandsOut known text (Some u) n → t ≡ u
   one_tree t u one other m n a hands b hands_too =
       let same : m ≡ n = (replies_one one other m n a b).1 in
-      let both : Some t ≡ Some u = handed_one text n (Some t) (Some u) (subst (HandsOut text (Some t)) same hands) hands_too in
+      let both : Some t ≡ Some u = handed_one known text n (Some t) (Some u) (subst (HandsOut known text (Some t)) same hands) hands_too in
       cc
 
-  pub certified_one : HasOneEnd (IsCertified Reports text)
+  pub certified_one : HasOneEnd (IsCertified known Reports text)
   certified_one one other x y (inl a) (inl b) =
       let same = replies_one one other x.status y.status a.0 b.0 in
       (same.0, same.1, a.2 ∙ sym b.2)

@@ -1,12 +1,13 @@
 mod CertificateLemmas
 mod CommandLemmas
+mod DoneLemmas
 mod EngineLemmas
+mod KnownLaws
 mod LeastSets
 mod Limits
 mod LineTexts
 mod Listing
 mod ReplyLemmas
-mod Searching
 mod SetTexts
 mod TreeTexts
 mod Uniqueness

@@ -19,8 +19,15 @@ use Rattle.lf_scenario.specs.Limits.{most_sets, usual_sets}
 use Rattle.lf_scenario.specs.LinkTables.{all_links}
 use Rattle.lf_scenario.specs.Outcomes.{outcome_in}
 use Rattle.lf_scenario.specs.Reading.{bounds_in, delays_in, described_in, kind_in}
-use Rattle.lf_scenario.specs.Scenarios.{Asked, IsText, asked_in}
+use Rattle.lf_scenario.specs.Scenarios.{Asked, asked_in}
 use Rattle.lf_scenario.specs.Values.{Reading, ◌>>=◌, found_or, known, optional, required, whole}
+use Rattle.lf_written.specs.declared.declared.Declared.{Declared}
+use Rattle.lf_own_scenario.specs.Keys as own
+use Rattle.lf_own_scenario.specs.Keys.{bounded_in, settled_in}
+use Rattle.lf_own_scenario.specs.Constants.{given_in}
+use Rattle.lf_own_scenario.specs.Outcomes as own_outcomes
+use Rattle.lf_own_scenario.specs.Scenarios.{Settled, asked_with, chosen_in}
+use Rattle.leastfault.specs.Known.{IsTextOf}
 
 -- a reading that gives something was not refused before
 given : {A B : Type 0} (x : Reading A) (next : A → Reading B) (y : B) → x >>= next ≡ Ok y → (a : A) × (x ≡ Ok a) × (next a ≡ Ok y)
@@ -110,12 +117,42 @@ asked_bounds ms a is =
     let links = given (all_links described.0.bounds.nodes described.0.delays.least described.0.delays.spread ms) _ a formula.2 in
     described_bounds ms described.0 described.1 ∙ ap (λ (x : Asked). Ok x.described.bounds) (ok_is _ a links.2)
 
+-- the same where the protocol is a file's
+module _ (file : Declared) where
+  settled_bounds : (ms : Members) (x : Settled) → chosen_in file ms ≡ Ok x → bounds_in ms ≡ Ok x.described.bounds
+  unfolding chosen_in bounded_in
+  settled_bounds ms x is =
+      let bounded = given (bounded_in ms) _ x is in
+      let all = given (own.known ms) _ bounded.0 bounded.1 in
+      let bounds = given (bounds_in ms) _ bounded.0 all.2 in
+      let max_sets = given (optional ms keys.MaxSets (whole 1 most_sets) usual_sets) _ bounded.0 bounds.2 in
+      let delays = given (delays_in ms) _ bounded.0 max_sets.2 in
+      let same = ok_is _ bounded.0 delays.2 in
+      let named = given (settled_in file.name ms) _ x bounded.2 in
+      let values = given (given_in file bounded.0.bounds.nodes ms) _ x named.2 in
+      rw (← same) bounds.1 ∙ ap (λ (y : Settled). Ok y.described.bounds) (ok_is _ x values.2)
+
+  own_bounds : (ms : Members) (a : Asked) → asked_with file ms ≡ Ok a → bounds_in ms ≡ Ok a.described.bounds
+  unfolding asked_with
+  own_bounds ms a is =
+      let chosen = given (chosen_in file ms) _ a is in
+      let formula = given (required ms keys.Outcome (own_outcomes.outcome_in file chosen.0.given chosen.0.described.bounds)) _ a chosen.2 in
+      let links = given (all_links chosen.0.described.bounds.nodes chosen.0.described.delays.least chosen.0.described.delays.spread ms) _ a formula.2 in
+      settled_bounds ms chosen.0 chosen.1 ∙ ap (λ (x : Asked). Ok x.described.bounds) (ok_is _ a links.2)
+
 -- the bounds of a scenario with a text are within the limits, and are those of its world
-pub text_is_bounded : (s : Scenario) (text : List ℕ) → IsText s text → IsBounded (world_of s.setting) s.setting.spec
-text_is_bounded s text reads = record {
-  limits = subst IsInLimits (sym reads.asked.scenario.bounds)
-      (bounds_within reads.members reads.asked.asked.described.bounds (asked_bounds reads.members reads.asked.asked reads.asked.reading));
+bounded : (s : Scenario) (ms : Members) (b : Bounds) → bounds_in ms ≡ Ok b → s.setting.spec ≡ b → IsBounded (world_of s.setting) s.setting.spec
+bounded s ms b reads is = record {
+  limits = subst IsInLimits (sym is) (bounds_within ms b reads);
   nodes = s.setting.nodes_agree;
   horizon = refl;
   pause_length = refl;
 }
+
+pub text_is_bounded : (known : Option Declared) (s : Scenario) (text : List ℕ) → IsTextOf known s text → IsBounded (world_of s.setting) s.setting.spec
+text_is_bounded None s text reads =
+    bounded s reads.members reads.asked.asked.described.bounds (asked_bounds reads.members reads.asked.asked reads.asked.reading)
+    reads.asked.scenario.bounds
+text_is_bounded (Some file) s text reads =
+    bounded s reads.members reads.asked.asked.described.bounds (own_bounds file reads.members reads.asked.asked reads.asked.reading)
+    reads.asked.scenario.bounds

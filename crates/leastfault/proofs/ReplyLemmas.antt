@@ -1,6 +1,6 @@
 -- The reply to a text, and to the bytes at its front.
 use Rattle.std.proofs.Common.{◌≡◌, ℕ, ◌+◌, ◌<◌, ◌≤◌, List, length, not, take, sym, ap, ◌∙◌, subst, inl, inr, arith, string_bytes}
-use Rattle.std.specs.Prelude.{◌⊎◌, Option, None, Some, Result, Ok, Err, slice_get}
+use Rattle.std.specs.Prelude.{◌⊎◌, Bool, Option, None, Some, Result, Ok, Err, slice_get}
 use Rattle.std.proofs.lemmas.List.{length-take}
 use Rattle.lf_alone.specs.Ends.{IsFull, IsNeverFull}
 use Rattle.lf_faults.specs.declared.fault.Parts.{Parts}
@@ -12,10 +12,9 @@ use Rattle.lf_protocol_file.specs.Files as files
 use Rattle.lf_scenario.specs.declared.error.ScenarioError.{ScenarioError}
 use Rattle.lf_scenario.specs.Limits.{longest}
 use Rattle.lf_scenario.specs.declared.scenario.Scenario.{Scenario}
-use Rattle.lf_scenario.specs.Scenarios.{IsRefused, IsText}
+use Rattle.lf_written.specs.declared.declared.Declared.{Declared}
 use Rattle.lf_sim.specs.Settings.{world_of}
 use Rattle.lf_trace.specs.Namings.{Names}
-use Rattle.lf_trace.specs.Traces.{trace}
 use Rattle.lf_check.specs.declared.verdict.Verdict.{Verdict}
 use Rattle.lf_check.specs.declared.verdict.Verdict.TheVariants as verdicts
 use Rattle.lf_check.specs.Verdicts.{IsVerdict}
@@ -28,50 +27,56 @@ use Rattle.leastfault.specs.declared.checking.Given.{Given}
 use Rattle.leastfault.specs.declared.checking.Given.TheVariants as given
 use Rattle.leastfault.specs.declared.fault.BytesFault.{BytesFault}
 use Rattle.leastfault.specs.declared.fault.BytesFault.TheVariants as faults
+use Rattle.leastfault.specs.declared.reply.Certified.{Certified}
 use Rattle.leastfault.specs.declared.reply.Reply.{Reply}
 use Rattle.leastfault.specs.declared.reply.Searched.{Searched}
 use Rattle.leastfault.specs.declared.answering.Wanted.{Wanted}
 use Rattle.leastfault.specs.declared.answering.Wanted.TheVariants as wanted
 use Rattle.leastfault.specs.Answers.{AreLeastSets, IsAnswer, reaches_in}
 use Rattle.leastfault.specs.Checks.{IsGiven}
+use Rattle.leastfault.specs.Commands.{IsCauseAt, IsCertified, IsCertifiedBy, IsUncertified}
+use Rattle.leastfault.specs.Known.{IsRefusedOf, IsTextOf}
 use Rattle.leastfault.specs.Protocols.{IsProtocolReply}
 use Rattle.leastfault.specs.Searches.{IsEndFor, IsEndIn, IsFoundFor}
 use Rattle.leastfault.specs.Reports.{all_report, check_status, full_line, judgement, no_set_line, refusal, report, run_status, search_status}
-use Rattle.leastfault.specs.Replies.{IsAnswerReply, IsCheckReply, IsPoolCause, IsReplyWith, IsRunReply, IsSharedWith, MayWork, RepliesCheck, RepliesRefusal}
+use Rattle.leastfault.specs.Replies.{IsAnswerReply, IsCheckReply, IsPoolCause, IsReplyWith, IsRunReply}
+use Rattle.leastfault.specs.Replies.{IsSharedWith, MayWork, RepliesCheck, RepliesRefusal, told_trace}
 use Rattle.leastfault.specs.Replies.{HandsOut, IsSearchedWith, IsTreeFor, RepliesAll, RepliesAnswer, RepliesFull, RepliesReport, RepliesVerdict, reports_of}
+use Rattle.leastfault.proofs.KnownLaws.{front_is_no_text, refused_by_front}
 use Rattle.leastfault.proofs.LeastSets.{first_of_least}
 
 -- the reply of a search, from what it came to for the scenario
-replied : (Reports : Scenario → List ℕ → ℕ → Type 0) (text reply : List ℕ) (found : Searched) (s : Scenario) → IsText s text
+replied : (known : Option Declared) (Reports : Scenario → List ℕ → ℕ → Type 0) (text reply : List ℕ) (found : Searched) (s : Scenario) → IsTextOf known s text
     → (RepliesFull s reply found.status × (found.tree ≡ None))
     ⊎ (Reports s reply found.status × ((t : Tree) × (found.tree ≡ Some t) × IsTreeFor s t × (found.status ≡ search_status t.answer)))
-    → IsSearchedWith Reports text reply found
-replied Reports text reply found s reads (inl full) =
-    (inr (s, reads, inl full.0), subst (λ t. HandsOut text t found.status) (sym full.1) full.0.4)
-replied Reports text reply found s reads (inr report) = (
+    → IsSearchedWith known Reports text reply found
+replied known Reports text reply found s reads (inl full) =
+    (inr (s, reads, inl full.0), subst (λ t. HandsOut known text t found.status) (sym full.1) full.0.4)
+replied known Reports text reply found s reads (inr report) = (
   inr (s, reads, inr report.0),
-  subst (λ t. HandsOut text t found.status) (sym report.1.1) (s, reads, report.1.2, report.1.3),
+  subst (λ t. HandsOut known text t found.status) (sym report.1.1) (s, reads, report.1.2, report.1.3),
 )
 
 -- and of a text that is refused
-pub search_refused : (wanted : Wanted) (text : List ℕ) (e : ScenarioError) (found : Reply Searched) → IsRefused text e
+pub search_refused : (known : Option Declared) (wanted : Wanted) (text : List ℕ) (e : ScenarioError) (found : Reply Searched) → IsRefusedOf known text e
     → string_bytes found.text ≡ refusal e → found.value.status ≡ 2 → found.value.tree ≡ None
-    → IsSearchedWith (reports_of wanted) text (string_bytes found.text) found.value
-search_refused wanted text e found why is ends none =
-    (inl (e, why, is, ends), subst (λ t. HandsOut text t found.value.status) (sym none) ends)
+    → IsSearchedWith known (reports_of wanted) text (string_bytes found.text) found.value
+search_refused known wanted text e found why is ends none =
+    (inl (e, why, is, ends), subst (λ t. HandsOut known text t found.value.status) (sym none) ends)
 
-pub search_found : (wanted : Wanted) (text : List ℕ) (s : Scenario) (found : Reply Searched) → IsText s text → IsFoundFor wanted s found
-    → IsSearchedWith (reports_of wanted) text (string_bytes found.text) found.value
-search_found wanted text s found reads is = replied (reports_of wanted) text (string_bytes found.text) found.value s reads is
+pub search_found : (known : Option Declared) (wanted : Wanted) (text : List ℕ) (s : Scenario) (found : Reply Searched) → IsTextOf known s text
+    → IsFoundFor wanted s found
+    → IsSearchedWith known (reports_of wanted) text (string_bytes found.text) found.value
+search_found known wanted text s found reads is = replied known (reports_of wanted) text (string_bytes found.text) found.value s reads is
 
 -- also where so many workers search
-pub shared_found : (wanted : Wanted) (workers : ℕ) (text : List ℕ) (s : Scenario) (result : Result (Reply Searched) BytesFault) → IsText s text
-    → IsEndFor wanted workers s result → IsEndIn wanted workers text result
-shared_found wanted workers text s (Ok found) reads is = (search_found wanted text s found reads is.0, inl is.1)
-shared_found wanted workers text s (Err faults.Read) reads is = absurd is
-shared_found wanted workers text s (Err faults.Write) reads is = absurd is
-shared_found wanted workers text s (Err faults.Memory) reads is = tt
-shared_found wanted workers text s (Err (faults.Pool number)) reads is = ((s, reads), is)
+pub shared_found : (known : Option Declared) (wanted : Wanted) (workers : ℕ) (text : List ℕ) (s : Scenario) (result : Result (Reply Searched) BytesFault)
+    → IsTextOf known s text → IsEndFor wanted workers s result → IsEndIn known wanted workers text result
+shared_found known wanted workers text s (Ok found) reads is = (search_found known wanted text s found reads is.0, inl is.1)
+shared_found known wanted workers text s (Err faults.Read) reads is = absurd is
+shared_found known wanted workers text s (Err faults.Write) reads is = absurd is
+shared_found known wanted workers text s (Err faults.Memory) reads is = tt
+shared_found known wanted workers text s (Err (faults.Pool number)) reads is = ((s, reads), is)
 
 -- the answer is one
 same_answer : (s : Scenario) (x y : Option (List Parts)) → IsAnswer s x → IsAnswer s y → x ≡ y
@@ -149,9 +154,10 @@ module _ (words : List ℕ) (b : Bounds) (read : Option (List Parts))
   )
 
 -- the reply of a run, by the allowed set that the words name
-pub run_without_set : (words text reply : List ℕ) (status : ℕ) (s : Scenario) (chosen : Option (List Parts)) → IsText s text
-    → IsChoice words s.setting.spec chosen → chosen ≡ None → reply ≡ no_set_line → status ≡ 2 → IsRunReply words text reply status
-run_without_set words text reply status s chosen reads choice none is ends =
+pub run_without_set : (known : Option Declared) (rules : Bool) (words text reply : List ℕ) (status : ℕ) (s : Scenario) (chosen : Option (List Parts))
+    → IsTextOf known s text
+    → IsChoice words s.setting.spec chosen → chosen ≡ None → reply ≡ no_set_line → status ≡ 2 → IsRunReply known rules words text reply status
+run_without_set known rules words text reply status s chosen reads choice none is ends =
     inr (
       s,
       reads,
@@ -162,9 +168,10 @@ run_without_set words text reply status s chosen reads choice none is ends =
       ),
     )
 
-pub run_of_set : (words text reply : List ℕ) (status : ℕ) (s : Scenario) (set : List Parts) → IsText s text → Names words set × IsAllowed s.setting.spec set
-    → reply ≡ trace s.setting.machine (world_of s.setting) set s.formula → status ≡ run_status (reaches_in s set) → IsRunReply words text reply status
-run_of_set words text reply status s set reads chosen is ends = inr (s, reads, inr (set, chosen.0, chosen.1, is, ends))
+pub run_of_set : (known : Option Declared) (rules : Bool) (words text reply : List ℕ) (status : ℕ) (s : Scenario) (set : List Parts) → IsTextOf known s text
+    → Names words set × IsAllowed s.setting.spec set → reply ≡ told_trace rules s set
+    → status ≡ run_status (reaches_in s set) → IsRunReply known rules words text reply status
+run_of_set known rules words text reply status s set reads chosen is ends = inr (s, reads, inr (set, chosen.0, chosen.1, is, ends))
 
 -- the reply of a check, by the verdict
 pub reply_of_verdict : (s : Scenario) (t : Tree) (v : Verdict) (reply : List ℕ) (status : ℕ) → IsVerdict (world_of s.setting) s.setting.spec s.formula t v
@@ -177,51 +184,48 @@ module _ (held : List ℕ) where
   front : longest < length held → length (take (longest + 1) held) ≤ longest → ⊥
   front more short = omega (arith, more, short, length-take (longest + 1) held)
 
-  refused : (e : ScenarioError) → longest < length held → IsRefused (take (longest + 1) held) e → IsRefused held e
-  refused e more (inl why) = inl (more, why.1)
-  refused e more (inr (inl why)) = absurd (front more why.0)
-  refused e more (inr (inr why)) = absurd (front more why.0)
-
   file_refused : (e : ProtocolError) → longest < length held → files.IsRefused (take (longest + 1) held) e → files.IsRefused held e
   file_refused e more (inl why) = inl (more, why.1)
   file_refused e more (inr (inl why)) = absurd (front more why.0)
   file_refused e more (inr (inr why)) = absurd (front more why.0)
 
-  hands_long : (tree : Option Tree) (status : ℕ) → longest < length held → HandsOut (take (longest + 1) held) tree status
-      → HandsOut held tree status
-  hands_long None status more is = is
-  hands_long (Some t) status more is = absurd (front more is.1.short)
+  protocol_long : (reply : List ℕ) (status : ℕ) → longest < length held → IsProtocolReply (take (longest + 1) held) reply status
+      → IsProtocolReply held reply status
+  protocol_long reply status more (inl is) = absurd (front more is.1.short)
+  protocol_long reply status more (inr refusal) = inr (refusal.0, file_refused refusal.0 more refusal.1, refusal.2, refusal.3)
 
-  work_long : (workers : ℕ) → longest < length held → MayWork workers (take (longest + 1) held) → MayWork workers held
-  work_long workers more (inl may) = inl may
-  work_long workers more (inr why) = inr (why.0, refused why.0 more why.1)
+  module _ (known : Option Declared) where
+    hands_long : (tree : Option Tree) (status : ℕ) → longest < length held → HandsOut known (take (longest + 1) held) tree status
+        → HandsOut known held tree status
+    hands_long None status more is = is
+    hands_long (Some t) status more is = absurd (front_is_no_text known held is.0 more is.1)
 
-  module _ (reply : List ℕ) (status : ℕ) where
-    refused_reply : longest < length held → RepliesRefusal (take (longest + 1) held) reply status → RepliesRefusal held reply status
-    refused_reply more refusal = (refusal.0, refused refusal.0 more refusal.1, refusal.2, refusal.3)
+    work_long : (workers : ℕ) → longest < length held → MayWork known workers (take (longest + 1) held) → MayWork known workers held
+    work_long workers more (inl may) = inl may
+    work_long workers more (inr why) = inr (why.0, refused_by_front known held why.0 more why.1)
 
-    search_long : (Reports : Scenario → List ℕ → ℕ → Type 0) → longest < length held
-        → IsReplyWith Reports (take (longest + 1) held) reply status → IsReplyWith Reports held reply status
-    search_long Reports more (inl refusal) = inl (refused_reply more refusal)
-    search_long Reports more (inr found) = absurd (front more found.1.short)
+    module _ (reply : List ℕ) (status : ℕ) where
+      refused_reply : longest < length held → RepliesRefusal known (take (longest + 1) held) reply status → RepliesRefusal known held reply status
+      refused_reply more refusal = (refusal.0, refused_by_front known held refusal.0 more refusal.1, refusal.2, refusal.3)
 
-    run_long : (words : List ℕ) → longest < length held → IsRunReply words (take (longest + 1) held) reply status
-        → IsRunReply words held reply status
-    run_long words more (inl refusal) = inl (refused_reply more refusal)
-    run_long words more (inr found) = absurd (front more found.1.short)
+      search_long : (Reports : Scenario → List ℕ → ℕ → Type 0) → longest < length held
+          → IsReplyWith known Reports (take (longest + 1) held) reply status → IsReplyWith known Reports held reply status
+      search_long Reports more (inl refusal) = inl (refused_reply more refusal)
+      search_long Reports more (inr found) = absurd (front_is_no_text known held found.0 more found.1)
 
-    answer_long : longest < length held → IsAnswerReply (take (longest + 1) held) reply status → IsAnswerReply held reply status
-    answer_long more (inl refusal) = inl (refused_reply more refusal)
-    answer_long more (inr found) = absurd (front more found.1.short)
+      run_long : (rules : Bool) (words : List ℕ) → longest < length held → IsRunReply known rules words (take (longest + 1) held) reply status
+          → IsRunReply known rules words held reply status
+      run_long rules words more (inl refusal) = inl (refused_reply more refusal)
+      run_long rules words more (inr found) = absurd (front_is_no_text known held found.0 more found.1)
 
-    protocol_long : longest < length held → IsProtocolReply (take (longest + 1) held) reply status → IsProtocolReply held reply status
-    protocol_long more (inl is) = absurd (front more is.1.short)
-    protocol_long more (inr refusal) = inr (refusal.0, file_refused refusal.0 more refusal.1, refusal.2, refusal.3)
+      answer_long : longest < length held → IsAnswerReply known (take (longest + 1) held) reply status → IsAnswerReply known held reply status
+      answer_long more (inl refusal) = inl (refused_reply more refusal)
+      answer_long more (inr found) = absurd (front_is_no_text known held found.0 more found.1)
 
-    check_long : (certificate : List ℕ) → longest < length held → IsCheckReply (take (longest + 1) held) certificate reply status
-        → IsCheckReply held certificate reply status
-    check_long certificate more (inl refusal) = inl (refused_reply more refusal)
-    check_long certificate more (inr found) = absurd (front more found.1.short)
+      check_long : (certificate : List ℕ) → longest < length held → IsCheckReply known (take (longest + 1) held) certificate reply status
+          → IsCheckReply known held certificate reply status
+      check_long certificate more (inl refusal) = inl (refused_reply more refusal)
+      check_long certificate more (inr found) = absurd (front_is_no_text known held found.0 more found.1)
 
   -- and so of a tree's text
   tree_front : most_bytes < length held → length (take (most_bytes + 1) held) ≤ most_bytes → ⊥
@@ -235,15 +239,15 @@ module _ (held : List ℕ) where
   tree_refused tree.TooDeep more why = absurd (tree_front more why.0)
   tree_refused tree.Memory more why = absurd why
 
-  module _ (reply : List ℕ) (status : ℕ) where
+  module _ (known : Option Declared) (reply : List ℕ) (status : ℕ) where
     judged_long : (s : Scenario) → most_bytes < length held → RepliesCheck s (take (most_bytes + 1) held) reply status
         → RepliesCheck s held reply status
     judged_long s more (inl refusal) = inl (refusal.0, tree_refused refusal.0 more refusal.1, refusal.2, refusal.3)
     judged_long s more (inr given) =
         absurd (tree_front more (subst (λ (bytes : List ℕ). length bytes ≤ most_bytes) given.1.spelled given.1.range.short))
 
-    tree_long : (text : List ℕ) → most_bytes < length held → IsCheckReply text (take (most_bytes + 1) held) reply status
-        → IsCheckReply text held reply status
+    tree_long : (text : List ℕ) → most_bytes < length held → IsCheckReply known text (take (most_bytes + 1) held) reply status
+        → IsCheckReply known text held reply status
     tree_long text more (inl refusal) = inl refusal
     tree_long text more (inr found) = inr (found.0, found.1, judged_long found.0 more found.2)
 
@@ -251,38 +255,66 @@ module _ (held : List ℕ) where
 abbrev pub GoesByFront : ℕ → (List ℕ → Type 0) → Type 0
 GoesByFront most Says = (held : List ℕ) → most < length held → Says (take (most + 1) held) → Says held
 
-pub searched_by_front : (Reports : Scenario → List ℕ → ℕ → Type 0) (reply : List ℕ) (found : Searched)
-    → GoesByFront longest (λ text. IsSearchedWith Reports text reply found)
-searched_by_front Reports reply found held more is =
-    (search_long held reply found.status Reports more is.0, hands_long held found.tree found.status more is.1)
-
-pub shared_by_front : (Reports : Scenario → List ℕ → ℕ → Type 0) (workers : ℕ) (reply : List ℕ) (found : Searched)
-    → GoesByFront longest (λ text. IsSharedWith Reports workers text reply found)
-shared_by_front Reports workers reply found held more is = (searched_by_front Reports reply found held more is.0, work_long held workers more is.1)
-
-pub cause_by_front : (workers number : ℕ) → GoesByFront longest (λ text. IsPoolCause workers text number)
-cause_by_front workers number held more is = absurd (front held more is.0.1.short)
-
-pub run_by_front : (words reply : List ℕ) (status : ℕ) → GoesByFront longest (λ text. IsRunReply words text reply status)
-run_by_front words reply status held more is = run_long held reply status words more is
-
-pub answer_by_front : (reply : List ℕ) (status : ℕ) → GoesByFront longest (λ text. IsAnswerReply text reply status)
-answer_by_front reply status held more is = answer_long held reply status more is
-
 pub protocol_by_front : (reply : List ℕ) (status : ℕ) → GoesByFront longest (λ text. IsProtocolReply text reply status)
 protocol_by_front reply status held more is = protocol_long held reply status more is
 
-pub check_by_front : (certificate reply : List ℕ) (status : ℕ) → GoesByFront longest (λ text. IsCheckReply text certificate reply status)
-check_by_front certificate reply status held more is = check_long held reply status certificate more is
+pub file_refused_by_front : (e : ProtocolError) → GoesByFront longest (λ text. files.IsRefused text e)
+file_refused_by_front e held more is = file_refused held e more is
 
-pub tree_by_front : (text reply : List ℕ) (status : ℕ) → GoesByFront most_bytes (λ certificate. IsCheckReply text certificate reply status)
-tree_by_front text reply status held more is = tree_long held reply status text more is
+pub file_by_front : (file : Declared) → GoesByFront longest (λ text. files.IsText file text)
+file_by_front file held more is = absurd (front held more is.short)
 
-pub given_by_front : (certificate : List ℕ) (g : Given) → GoesByFront longest (λ text. IsGiven text certificate g)
-given_by_front certificate (given.Refused r) held more is = check_by_front certificate (string_bytes r.text) r.value held more is
-given_by_front certificate (given.Both s tree) held more is = absurd (front held more is.0.short)
+module _ (known : Option Declared) where
+  pub searched_by_front : (Reports : Scenario → List ℕ → ℕ → Type 0) (reply : List ℕ) (found : Searched)
+      → GoesByFront longest (λ text. IsSearchedWith known Reports text reply found)
+  searched_by_front Reports reply found held more is =
+      (search_long held known reply found.status Reports more is.0, hands_long held known found.tree found.status more is.1)
 
-pub given_by_tree_front : (text : List ℕ) (g : Given) → GoesByFront most_bytes (λ certificate. IsGiven text certificate g)
-given_by_tree_front text (given.Refused r) held more is = tree_by_front text (string_bytes r.text) r.value held more is
-given_by_tree_front text (given.Both s tree) held more is =
-    absurd (tree_front held more (subst (λ (bytes : List ℕ). length bytes ≤ most_bytes) is.1.spelled is.1.range.short))
+  pub shared_by_front : (Reports : Scenario → List ℕ → ℕ → Type 0) (workers : ℕ) (reply : List ℕ) (found : Searched)
+      → GoesByFront longest (λ text. IsSharedWith known Reports workers text reply found)
+  shared_by_front Reports workers reply found held more is =
+      (searched_by_front Reports reply found held more is.0, work_long held known workers more is.1)
+
+  pub cause_by_front : (workers number : ℕ) → GoesByFront longest (λ text. IsPoolCause known workers text number)
+  cause_by_front workers number held more is = absurd (front_is_no_text known held is.0.0 more is.0.1)
+
+  pub run_by_front : (rules : Bool) (words reply : List ℕ) (status : ℕ) → GoesByFront longest (λ text. IsRunReply known rules words text reply status)
+  run_by_front rules words reply status held more is = run_long held known reply status rules words more is
+
+  pub answer_by_front : (reply : List ℕ) (status : ℕ) → GoesByFront longest (λ text. IsAnswerReply known text reply status)
+  answer_by_front reply status held more is = answer_long held known reply status more is
+
+  pub check_by_front : (certificate reply : List ℕ) (status : ℕ) → GoesByFront longest (λ text. IsCheckReply known text certificate reply status)
+  check_by_front certificate reply status held more is = check_long held known reply status certificate more is
+
+  pub tree_by_front : (text reply : List ℕ) (status : ℕ) → GoesByFront most_bytes (λ certificate. IsCheckReply known text certificate reply status)
+  tree_by_front text reply status held more is = tree_long held known reply status text more is
+
+  pub given_by_front : (certificate : List ℕ) (g : Given) → GoesByFront longest (λ text. IsGiven known text certificate g)
+  given_by_front certificate (given.Refused r) held more is = check_by_front certificate (string_bytes r.text) r.value held more is
+  given_by_front certificate (given.Both s tree) held more is = absurd (front_is_no_text known held s more is.0)
+
+  pub given_by_tree_front : (text : List ℕ) (g : Given) → GoesByFront most_bytes (λ certificate. IsGiven known text certificate g)
+  given_by_tree_front text (given.Refused r) held more is = tree_by_front text (string_bytes r.text) r.value held more is
+  given_by_tree_front text (given.Both s tree) held more is =
+      absurd (tree_front held more (subst (λ (bytes : List ℕ). length bytes ≤ most_bytes) is.1.spelled is.1.range.short))
+
+  -- a search with a certificate
+  pub certified_by_front : (wanted : Wanted) (workers : ℕ) (reply : List ℕ) (ended : Certified)
+      → GoesByFront longest (λ text. IsCertifiedBy known wanted workers text reply ended)
+  certified_by_front wanted workers reply ended held more is =
+      (ended_long held more is.0, work_long held known workers more is.1)
+    where
+      ended_long : (held : List ℕ) → longest < length held → IsCertified known (reports_of wanted) (take (longest + 1) held) reply ended
+          → IsCertified known (reports_of wanted) held reply ended
+      ended_long held more (inl none) = inl (search_long held known reply ended.status (reports_of wanted) more none.0, none.1, none.2)
+      ended_long held more (inr (inl some)) = absurd (front_is_no_text known held some.3.0 more some.3.1)
+      ended_long held more (inr (inr long)) = absurd (front_is_no_text known held long.4.0 more long.4.1)
+
+  pub uncertified_by_front : (wanted : Wanted) (workers : ℕ) (reply : List ℕ) (ended : Certified)
+      → GoesByFront longest (λ text. IsUncertified known (reports_of wanted) text reply ended × MayWork known workers text)
+  uncertified_by_front wanted workers reply ended held more is =
+      ((search_long held known reply ended.status (reports_of wanted) more is.0.0, is.0.1), work_long held known workers more is.1)
+
+  pub certified_cause_by_front : (workers number : ℕ) → GoesByFront longest (λ text. IsCauseAt known workers text number)
+  certified_cause_by_front workers number held more is = (is.0, cause_by_front workers number held more is.1)

@@ -1,6 +1,6 @@
 -- A text, and words, have one reply at most.
 use Rattle.std.proofs.Common.{◌≡◌, ℕ, List, not, refl, sym, ap, ◌∙◌, subst, inl, inr, arith}
-use Rattle.std.specs.Prelude.{◌⊎◌, Ok, Option, None, Some, slice_get}
+use Rattle.std.specs.Prelude.{◌⊎◌, Bool, Ok, Option, None, Some, slice_get}
 use Rattle.std.specs.Cmp.{IsTotalOrder}
 use Rattle.lf_document.specs.declared.error.ProtocolError.{ProtocolError}
 use Rattle.lf_faults.specs.declared.fault.Parts.{Parts}
@@ -20,11 +20,9 @@ use Rattle.lf_written.specs.declared.declared.Declared.{Declared}
 use Rattle.lf_protocol_file.specs.Files as files
 use Rattle.lf_scenario.specs.declared.scenario.Scenario.{Scenario}
 use Rattle.lf_scenario.specs.Sameness.{AreSame}
-use Rattle.lf_scenario.specs.Scenarios.{IsText}
-use Rattle.lf_scenario.proofs.Laws.{refusals_are_one, refused_is_no_text, scenarios_are_one, worlds_are_one}
+use Rattle.lf_scenario.proofs.Laws.{worlds_are_one}
 use Rattle.lf_search.specs.Levels.{AreAllLeast, IsFullAt}
 use Rattle.lf_trace.specs.Namings.{Names}
-use Rattle.lf_trace.specs.Traces.{trace}
 use Rattle.lf_tree.specs.declared.tree.Tree.{Tree}
 use Rattle.lf_tree.specs.FirstFaults.{IsJson}
 use Rattle.lf_tree.specs.Reading.{tree_in}
@@ -32,11 +30,13 @@ use Rattle.lf_tree.specs.Texts.{IsInRange, tree_text}
 use Rattle.lf_tree.specs.Trees.{IsTree}
 use Rattle.lf_tree.specs.Values.{tree_value}
 use Rattle.leastfault.specs.Answers.{AreLeastSets, IsAnswer, reaches_in}
+use Rattle.leastfault.specs.Known.{IsTextOf}
 use Rattle.leastfault.specs.Protocols.{IsProtocolReply, protocol_refusal}
 use Rattle.leastfault.specs.Reports.{all_report, full_line, no_line, refusal, report, run_status, search_status, tree_refusal}
 use Rattle.leastfault.specs.Replies.{HandsOut, HasOneReply, IsAllReply, IsAnswerReply, IsCheckReply, IsReplyWith, IsRunReply, IsSearchReply, IsTreeFor}
 use Rattle.leastfault.specs.Replies.{RepliesAll, RepliesAnswer, RepliesCheck, RepliesNoSet, RepliesReport}
-use Rattle.leastfault.specs.Replies.{RepliesRefusal, RepliesSearch, RepliesTrace, RepliesTreeRefusal, RepliesVerdict}
+use Rattle.leastfault.specs.Replies.{RepliesRefusal, RepliesSearch, RepliesTrace, RepliesTreeRefusal, RepliesVerdict, trace_of}
+use Rattle.leastfault.proofs.KnownLaws.{refusals_are_one, refused_is_no_text, scenarios_are_one}
 use Rattle.leastfault.proofs.LeastSets.{first_of_least, least_one}
 use Rattle.leastfault.proofs.TreeTexts.{tree_faults_one, tree_not_refused, trees_one}
 
@@ -49,9 +49,9 @@ answers_one s t x y same first other =
     (subst (λ b. IsFirst b (λ faults. not (reaches (world_of s.setting) faults s.formula)) x) same.bounds first)))
     other
 
-refusals_one : (text : List ℕ) → HasOneReply (RepliesRefusal text)
-refusals_one text one other m n a b =
-    let same = refusals_are_one text a.0 b.0 a.1 b.1 in
+refusals_one : (known : Option Declared) (text : List ℕ) → HasOneReply (RepliesRefusal known text)
+refusals_one known text one other m n a b =
+    let same = refusals_are_one known text a.0 b.0 a.1 b.1 in
     (a.2 ∙ ap refusal same ∙ sym b.2, a.3 ∙ sym b.3)
 
 -- scenarios that are the same have one first level that is too full
@@ -115,18 +115,18 @@ module _ (Reports : Scenario → List ℕ → ℕ → Type 0) (reports : HaveOne
       absurd (reports.never_full s one m a b.0 b.1 (full_of_same t s (back s t same) b.0 b.1 b.2))
   searches_one s t same one other m n (inr a) (inr b) = reports.one s t same one other m n a b
 
-  with_one : (text : List ℕ) → HasOneReply (IsReplyWith Reports text)
-  with_one text one other m n (inl a) (inl b) = refusals_one text one other m n a b
-  with_one text one other m n (inl a) (inr b) = absurd (refused_is_no_text text a.0 b.0 a.1 b.1)
-  with_one text one other m n (inr a) (inl b) = absurd (refused_is_no_text text b.0 a.0 b.1 a.1)
-  with_one text one other m n (inr a) (inr b) =
-      searches_one a.0 b.0 (scenarios_are_one text a.0 b.0 a.1 b.1) one other m n a.2 b.2
+  with_one : (known : Option Declared) (text : List ℕ) → HasOneReply (IsReplyWith known Reports text)
+  with_one known text one other m n (inl a) (inl b) = refusals_one known text one other m n a b
+  with_one known text one other m n (inl a) (inr b) = absurd (refused_is_no_text known text a.0 b.0 a.1 b.1)
+  with_one known text one other m n (inr a) (inl b) = absurd (refused_is_no_text known text b.0 a.0 b.1 a.1)
+  with_one known text one other m n (inr a) (inr b) =
+      searches_one a.0 b.0 (scenarios_are_one known text a.0 b.0 a.1 b.1) one other m n a.2 b.2
 
-pub search_replies_one : (text : List ℕ) → HasOneReply (IsSearchReply text)
-search_replies_one text = with_one RepliesReport report_one text
+pub search_replies_one : (known : Option Declared) (text : List ℕ) → HasOneReply (IsSearchReply known text)
+search_replies_one known text = with_one RepliesReport report_one known text
 
-pub all_replies_one : IsTotalOrder set_cmp → (text : List ℕ) → HasOneReply (IsAllReply text)
-all_replies_one total text = with_one RepliesAll (all_report_one total) text
+pub all_replies_one : IsTotalOrder set_cmp → (known : Option Declared) (text : List ℕ) → HasOneReply (IsAllReply known text)
+all_replies_one total known text = with_one RepliesAll (all_report_one total) known text
 
 -- a text has one reply that tells the answer alone, which is that of the search unless a level of it is too full
 answers_told_one : (s t : Scenario) → AreSame s t → (one other : List ℕ) (m n : ℕ) → RepliesAnswer s one m → RepliesAnswer t other n
@@ -137,28 +137,30 @@ answers_told_one s t same one other m n a b =
       a.3 ∙ ap search_status answers ∙ sym b.3,
     )
 
-pub answer_replies_one : (text : List ℕ) → HasOneReply (IsAnswerReply text)
-answer_replies_one text one other m n (inl a) (inl b) = refusals_one text one other m n a b
-answer_replies_one text one other m n (inl a) (inr b) = absurd (refused_is_no_text text a.0 b.0 a.1 b.1)
-answer_replies_one text one other m n (inr a) (inl b) = absurd (refused_is_no_text text b.0 a.0 b.1 a.1)
-answer_replies_one text one other m n (inr a) (inr b) =
-    answers_told_one a.0 b.0 (scenarios_are_one text a.0 b.0 a.1 b.1) one other m n a.2 b.2
+pub answer_replies_one : (known : Option Declared) (text : List ℕ) → HasOneReply (IsAnswerReply known text)
+answer_replies_one known text one other m n (inl a) (inl b) = refusals_one known text one other m n a b
+answer_replies_one known text one other m n (inl a) (inr b) = absurd (refused_is_no_text known text a.0 b.0 a.1 b.1)
+answer_replies_one known text one other m n (inr a) (inl b) = absurd (refused_is_no_text known text b.0 a.0 b.1 a.1)
+answer_replies_one known text one other m n (inr a) (inr b) =
+    answers_told_one a.0 b.0 (scenarios_are_one known text a.0 b.0 a.1 b.1) one other m n a.2 b.2
 
-abbrev AgreeOrFull : List ℕ → List ℕ → List ℕ → ℕ → ℕ → Type 0
-AgreeOrFull text one other m n =
-    ((one ≡ other) × (m ≡ n)) ⊎ ((s : Scenario) × (level : ℕ) × (count : ℕ) × IsText s text × IsFull s level count)
+abbrev AgreeOrFull : Option Declared → List ℕ → List ℕ → List ℕ → ℕ → ℕ → Type 0
+AgreeOrFull known text one other m n =
+    ((one ≡ other) × (m ≡ n)) ⊎ ((s : Scenario) × (level : ℕ) × (count : ℕ) × IsTextOf known s text × IsFull s level count)
 
-agree_told : (text : List ℕ) (s t : Scenario) → IsText s text → AreSame s t → (one other : List ℕ) (m n : ℕ) → RepliesSearch RepliesReport s one m
-    → RepliesAnswer t other n → AgreeOrFull text one other m n
-agree_told text s t reads same one other m n (inl full) b = inr (s, full.0, full.1, reads, full.2)
-agree_told text s t reads same one other m n (inr a) b = inl (answers_told_one s t same one other m n (a.0, a.2, a.3, a.4) b)
+agree_told : (known : Option Declared) (text : List ℕ) (s t : Scenario) → IsTextOf known s text → AreSame s t → (one other : List ℕ) (m n : ℕ)
+    → RepliesSearch RepliesReport s one m
+    → RepliesAnswer t other n → AgreeOrFull known text one other m n
+agree_told known text s t reads same one other m n (inl full) b = inr (s, full.0, full.1, reads, full.2)
+agree_told known text s t reads same one other m n (inr a) b = inl (answers_told_one s t same one other m n (a.0, a.2, a.3, a.4) b)
 
-pub answer_replies_agree : (text one other : List ℕ) (m n : ℕ) → IsSearchReply text one m → IsAnswerReply text other n → AgreeOrFull text one other m n
-answer_replies_agree text one other m n (inl a) (inl b) = inl (refusals_one text one other m n a b)
-answer_replies_agree text one other m n (inl a) (inr b) = absurd (refused_is_no_text text a.0 b.0 a.1 b.1)
-answer_replies_agree text one other m n (inr a) (inl b) = absurd (refused_is_no_text text b.0 a.0 b.1 a.1)
-answer_replies_agree text one other m n (inr a) (inr b) =
-    agree_told text a.0 b.0 a.1 (scenarios_are_one text a.0 b.0 a.1 b.1) one other m n a.2 b.2
+pub answer_replies_agree : (known : Option Declared) (text one other : List ℕ) (m n : ℕ) → IsSearchReply known text one m → IsAnswerReply known text other n
+    → AgreeOrFull known text one other m n
+answer_replies_agree known text one other m n (inl a) (inl b) = inl (refusals_one known text one other m n a b)
+answer_replies_agree known text one other m n (inl a) (inr b) = absurd (refused_is_no_text known text a.0 b.0 a.1 b.1)
+answer_replies_agree known text one other m n (inr a) (inl b) = absurd (refused_is_no_text known text b.0 a.0 b.1 a.1)
+answer_replies_agree known text one other m n (inr a) (inr b) =
+    agree_told known text a.0 b.0 a.1 (scenarios_are_one known text a.0 b.0 a.1 b.1) one other m n a.2 b.2
 
 -- which reports what plays no part in the status
 statuses_one : (s t : Scenario) → AreSame s t → (one other : List ℕ) (m n : ℕ) → RepliesSearch RepliesReport s one m → RepliesSearch RepliesAll t other n
@@ -170,12 +172,12 @@ statuses_one s t same one other m n (inr a) (inr b) =
     let first = first_of_least (world_of s.setting) s.setting.spec s.formula a.0 b.0 a.2 (least_of_same t s b.0 (back s t same) b.2) in
     a.4 ∙ ap search_status first ∙ sym b.4
 
-pub statuses_agree : (text one other : List ℕ) (m n : ℕ) → IsSearchReply text one m → IsAllReply text other n → m ≡ n
-statuses_agree text one other m n (inl a) (inl b) = a.3 ∙ sym b.3
-statuses_agree text one other m n (inl a) (inr b) = absurd (refused_is_no_text text a.0 b.0 a.1 b.1)
-statuses_agree text one other m n (inr a) (inl b) = absurd (refused_is_no_text text b.0 a.0 b.1 a.1)
-statuses_agree text one other m n (inr a) (inr b) =
-    statuses_one a.0 b.0 (scenarios_are_one text a.0 b.0 a.1 b.1) one other m n a.2 b.2
+pub statuses_agree : (known : Option Declared) (text one other : List ℕ) (m n : ℕ) → IsSearchReply known text one m → IsAllReply known text other n → m ≡ n
+statuses_agree known text one other m n (inl a) (inl b) = a.3 ∙ sym b.3
+statuses_agree known text one other m n (inl a) (inr b) = absurd (refused_is_no_text known text a.0 b.0 a.1 b.1)
+statuses_agree known text one other m n (inr a) (inl b) = absurd (refused_is_no_text known text b.0 a.0 b.1 a.1)
+statuses_agree known text one other m n (inr a) (inr b) =
+    statuses_one a.0 b.0 (scenarios_are_one known text a.0 b.0 a.1 b.1) one other m n a.2 b.2
 
 -- one tree is handed out
 tree_of_same : (s t : Scenario) (tree : Tree) → AreSame s t → IsTreeFor s tree → IsTreeOf (world_of t.setting) t.setting.spec t.formula tree
@@ -188,38 +190,39 @@ pub no_answer_is_two : (answer : Option (List Parts)) → 2 ≡ search_status an
 no_answer_is_two None is = omega (arith, is)
 no_answer_is_two (Some faults) is = omega (arith, is)
 
-pub handed_one : (text : List ℕ) (status : ℕ) (one other : Option Tree) → HandsOut text one status → HandsOut text other status → one ≡ other
-handed_one text status None None a b = refl
-handed_one text status None (Some u) a b = absurd (no_answer_is_two u.answer (sym a ∙ b.3))
-handed_one text status (Some t) None a b = absurd (no_answer_is_two t.answer (sym b ∙ a.3))
-handed_one text status (Some t) (Some u) a b =
-    let same = scenarios_are_one text a.0 b.0 a.1 b.1 in
+pub handed_one : (known : Option Declared) (text : List ℕ) (status : ℕ) (one other : Option Tree) → HandsOut known text one status
+    → HandsOut known text other status → one ≡ other
+handed_one known text status None None a b = refl
+handed_one known text status None (Some u) a b = absurd (no_answer_is_two u.answer (sym a ∙ b.3))
+handed_one known text status (Some t) None a b = absurd (no_answer_is_two t.answer (sym b ∙ a.3))
+handed_one known text status (Some t) (Some u) a b =
+    let same = scenarios_are_one known text a.0 b.0 a.1 b.1 in
     ap Some (tree_one (world_of b.0.setting) b.0.setting.spec b.0.formula t u (tree_of_same a.0 b.0 t same a.2) b.2.search)
 
 -- words that name one set at most
 module _ (words : List ℕ) (named_one : (one other : List Parts) → Names words one → Names words other → one ≡ other) where
   -- scenarios that are the same have one reply to the words
-  told_one : (s t : Scenario) → AreSame s t → (one other : List ℕ) (m n : ℕ) → RepliesNoSet words s one m ⊎ RepliesTrace words s one m
-      → RepliesNoSet words t other n ⊎ RepliesTrace words t other n → (one ≡ other) × (m ≡ n)
-  told_one s t same one other m n (inl a) (inl b) = (a.1 ∙ sym b.1, a.2 ∙ sym b.2)
-  told_one s t same one other m n (inl a) (inr b) = absurd (a.0 b.0 b.1 (subst (λ bounds. IsAllowed bounds b.0) (sym same.bounds) b.2))
-  told_one s t same one other m n (inr a) (inl b) = absurd (b.0 a.0 a.1 (subst (λ bounds. IsAllowed bounds a.0) same.bounds a.2))
-  told_one s t same one other m n (inr a) (inr b) =
+  told_one : (rules : Bool) (s t : Scenario) → AreSame s t → (one other : List ℕ) (m n : ℕ) → RepliesNoSet words s one m ⊎ RepliesTrace rules words s one m
+      → RepliesNoSet words t other n ⊎ RepliesTrace rules words t other n → (one ≡ other) × (m ≡ n)
+  told_one rules s t same one other m n (inl a) (inl b) = (a.1 ∙ sym b.1, a.2 ∙ sym b.2)
+  told_one rules s t same one other m n (inl a) (inr b) = absurd (a.0 b.0 b.1 (subst (λ bounds. IsAllowed bounds b.0) (sym same.bounds) b.2))
+  told_one rules s t same one other m n (inr a) (inl b) = absurd (b.0 a.0 a.1 (subst (λ bounds. IsAllowed bounds a.0) same.bounds a.2))
+  told_one rules s t same one other m n (inr a) (inr b) =
       let sets = named_one a.0 b.0 a.1 b.1 in
       let worlds = worlds_are_one s t same in
       let reached : reaches_in s a.0 ≡ reaches_in t b.0 =
       ap (λ w. reaches w a.0 s.formula) worlds ∙ ap (reaches (world_of t.setting) a.0) same.formula ∙ ap (reaches_in t) sets in (
-        a.3 ∙ ap (λ k. trace k (world_of s.setting) a.0 s.formula) same.protocol ∙ ap (λ w. trace t.setting.machine w a.0 s.formula) worlds
-            ∙ ap (trace t.setting.machine (world_of t.setting) a.0) same.formula
-            ∙ ap (λ set. trace t.setting.machine (world_of t.setting) set t.formula) sets ∙ sym b.3,
+        a.3 ∙ ap (λ k. trace_of rules k (world_of s.setting) a.0 s.formula) same.protocol ∙ ap (λ w. trace_of rules t.setting.machine w a.0 s.formula) worlds
+            ∙ ap (trace_of rules t.setting.machine (world_of t.setting) a.0) same.formula
+            ∙ ap (λ set. trace_of rules t.setting.machine (world_of t.setting) set t.formula) sets ∙ sym b.3,
         a.4 ∙ ap run_status reached ∙ sym b.4,
       )
 
-  pub run_replies_one : (text : List ℕ) → HasOneReply (IsRunReply words text)
-  run_replies_one text one other m n (inl a) (inl b) = refusals_one text one other m n a b
-  run_replies_one text one other m n (inl a) (inr b) = absurd (refused_is_no_text text a.0 b.0 a.1 b.1)
-  run_replies_one text one other m n (inr a) (inl b) = absurd (refused_is_no_text text b.0 a.0 b.1 a.1)
-  run_replies_one text one other m n (inr a) (inr b) = told_one a.0 b.0 (scenarios_are_one text a.0 b.0 a.1 b.1) one other m n a.2 b.2
+  pub run_replies_one : (known : Option Declared) (rules : Bool) (text : List ℕ) → HasOneReply (IsRunReply known rules words text)
+  run_replies_one known rules text one other m n (inl a) (inl b) = refusals_one known text one other m n a b
+  run_replies_one known rules text one other m n (inl a) (inr b) = absurd (refused_is_no_text known text a.0 b.0 a.1 b.1)
+  run_replies_one known rules text one other m n (inr a) (inl b) = absurd (refused_is_no_text known text b.0 a.0 b.1 a.1)
+  run_replies_one known rules text one other m n (inr a) (inr b) = told_one rules a.0 b.0 (scenarios_are_one known text a.0 b.0 a.1 b.1) one other m n a.2 b.2
 
 module _ {State Note Fact : Type 0} (w : World State Note Fact) (b : Bounds) (formula : Formula Fact) (tree : Tree) where
   verdicts_one : HasOneReply (RepliesVerdict w b formula tree)
@@ -256,12 +259,12 @@ module _ (json : (t : Tree) → IsTree t → IsInRange t → IsJson (tree_text t
       verdicts_one (world_of t.setting) t.setting.spec t.formula b.0 one other m n
       (subst (λ tree. RepliesVerdict (world_of t.setting) t.setting.spec t.formula tree one m) trees (verdict_of_same s t a.0 one m same a.2)) b.2
 
-  pub check_replies_one : (text certificate : List ℕ) → HasOneReply (IsCheckReply text certificate)
-  check_replies_one text certificate one other m n (inl a) (inl b) = refusals_one text one other m n a b
-  check_replies_one text certificate one other m n (inl a) (inr b) = absurd (refused_is_no_text text a.0 b.0 a.1 b.1)
-  check_replies_one text certificate one other m n (inr a) (inl b) = absurd (refused_is_no_text text b.0 a.0 b.1 a.1)
-  check_replies_one text certificate one other m n (inr a) (inr b) =
-      judged_one a.0 b.0 (scenarios_are_one text a.0 b.0 a.1 b.1) certificate one other m n a.2 b.2
+  pub check_replies_one : (known : Option Declared) (text certificate : List ℕ) → HasOneReply (IsCheckReply known text certificate)
+  check_replies_one known text certificate one other m n (inl a) (inl b) = refusals_one known text one other m n a b
+  check_replies_one known text certificate one other m n (inl a) (inr b) = absurd (refused_is_no_text known text a.0 b.0 a.1 b.1)
+  check_replies_one known text certificate one other m n (inr a) (inl b) = absurd (refused_is_no_text known text b.0 a.0 b.1 a.1)
+  check_replies_one known text certificate one other m n (inr a) (inr b) =
+      judged_one a.0 b.0 (scenarios_are_one known text a.0 b.0 a.1 b.1) certificate one other m n a.2 b.2
 
 -- of protocol files, by the laws of their refusals
 module _ (one_refusal : (text : List ℕ) (e f : ProtocolError) → files.IsRefused text e → files.IsRefused text f → e ≡ f)

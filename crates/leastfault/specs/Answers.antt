@@ -1,10 +1,10 @@
 -- The answer to a scenario: the first allowed set of faults that misses its outcome; and all least sets.
-use Rattle.std.specs.Prelude.{◌≡◌, ◌<◌, Bool, true, false, not, List, length, Option, MatchOption}
+use Rattle.std.specs.Prelude.{Bool, not, List, Option}
 use Rattle.lf_faults.specs.declared.fault.Parts.{Parts}
-use Rattle.lf_faults.specs.Allowed.{IsAllowed, IsFirst}
-use Rattle.lf_faults.specs.declared.spec.Bounds.{Bounds}
+use Rattle.lf_faults.specs.Allowed.{IsFirst}
 use Rattle.lf_sim.specs.Settings.{world_of}
 use Rattle.lf_outcome.specs.Truth.{reaches}
+use Rattle.lf_plain.specs.Fewest.{IsFewest}
 use Rattle.lf_scenario.specs.declared.scenario.Scenario.{Scenario}
 use Rattle.lf_search.specs.Levels.{AreAllLeast}
 
@@ -18,13 +18,6 @@ IsAnswer s answer = IsFirst s.setting.spec (λ faults. not (reaches_in s faults)
 
 -- the set answered is allowed, its run misses, and every allowed set with fewer faults reaches; where none is answered,
 -- every allowed set reaches
-abbrev pub IsFewest : Bounds → (List Parts → Bool) → Option (List Parts) → Type 0
-IsFewest b reaching answer =
-    MatchOption answer
-    ((other : List Parts) → IsAllowed b other → reaching other ≡ true)
-    (λ found. IsAllowed b found × (reaching found ≡ false) ×
-    ((other : List Parts) → IsAllowed b other → length other < length found → reaching other ≡ true))
-
 abbrev pub IsLeast : Scenario → Option (List Parts) → Type 0
 IsLeast s answer = IsFewest s.setting.spec (reaches_in s) answer
 

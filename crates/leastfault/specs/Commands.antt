@@ -2,6 +2,7 @@
 use Rattle.std.specs.Prelude.{◌≡◌, ◌≢◌, ◌⊎◌, ℕ, ◌<◌, ◌≤◌, Bool, true, false, List, length, string_bytes}
 use Rattle.std.specs.Prelude.{Option, None, Some, MatchOption}
 use Rattle.std.specs.Option.{option_map}
+use Rattle.lf_protocol_file.specs.Files as files
 use Rattle.lf_scenario.specs.declared.scenario.Scenario.{Scenario}
 use Rattle.lf_tree.specs.declared.fault.TreeFault.TheVariants as trees
 use Rattle.lf_tree.specs.declared.tree.Tree.{Tree}
@@ -10,12 +11,13 @@ use Rattle.lf_tree.specs.Trees.{IsTree}
 use Rattle.lf_words.specs.declared.types.Asked.{Asked}
 use Rattle.lf_words.specs.declared.types.Asked.TheVariants as asked
 use Rattle.lf_words.specs.Words.{written_to}
+use Rattle.lf_written.specs.declared.declared.Declared.{Declared}
 use Rattle.leastfault.specs.declared.answering.Wanted.{Wanted}
 use Rattle.leastfault.specs.declared.answering.Wanted.TheVariants as wanted
 use Rattle.leastfault.specs.declared.reply.Certified.{Certified}
 use Rattle.leastfault.specs.declared.reply.Reply.{Reply}
 use Rattle.leastfault.specs.declared.reply.Searched.{Searched}
-use Rattle.leastfault.specs.Protocols.{IsProtocolReply}
+use Rattle.leastfault.specs.Protocols.{IsProtocolReply, RepliesProtocolRefusal}
 use Rattle.leastfault.specs.Replies.{HandsOut, IsAnswerReply, IsCheckReply, IsPoolCause, IsReplyWith, IsRunReply, MayWork, reports_of}
 use Rattle.leastfault.specs.Reports.{tree_refusal}
 
@@ -29,26 +31,26 @@ pub record IsCertificate (tree : Tree) (bytes : List ℕ) : Type 0 where
   pub spelled : tree_text tree ≡ bytes
   pub short : length bytes ≤ most_bytes
 
--- of a search, by what it reports where it has ended
-module _ (Reports : Scenario → List ℕ → ℕ → Type 0) (text reply : List ℕ) (ended : Certified) where
+-- of a search, by the protocol that may be known besides the shipped ones, and by what it reports where it has ended
+module _ (known : Option Declared) (Reports : Scenario → List ℕ → ℕ → Type 0) (text reply : List ℕ) (ended : Certified) where
   -- no certificate is to be made: its reply alone
   abbrev pub IsUncertified : Type 0
-  IsUncertified = IsReplyWith Reports text reply ended.status × (certificate_of ended ≡ None)
+  IsUncertified = IsReplyWith known Reports text reply ended.status × (certificate_of ended ≡ None)
 
   -- there is no answer: its reply, whose status is 2, and no certificate
   abbrev pub HasNoAnswer : Type 0
-  HasNoAnswer = IsReplyWith Reports text reply ended.status × (ended.status ≡ 2) × (certificate_of ended ≡ None)
+  HasNoAnswer = IsReplyWith known Reports text reply ended.status × (ended.status ≡ 2) × (certificate_of ended ≡ None)
 
   -- its reply, and the text of the tree that is handed out with it
   abbrev pub HasCertificate : Type 0
   HasCertificate =
-      (tree : Tree) × (bytes : List ℕ) × IsReplyWith Reports text reply ended.status × HandsOut text (Some tree) ended.status
+      (tree : Tree) × (bytes : List ℕ) × IsReplyWith known Reports text reply ended.status × HandsOut known text (Some tree) ended.status
       × IsCertificate tree bytes × (certificate_of ended ≡ Some bytes)
 
   -- that text is too long: its refusal in place of the reply, with status 2, and no certificate
   abbrev pub HasLongText : Type 0
   HasLongText =
-      (tree : Tree) × (own : List ℕ) × (status : ℕ) × IsReplyWith Reports text own status × HandsOut text (Some tree) status
+      (tree : Tree) × (own : List ℕ) × (status : ℕ) × IsReplyWith known Reports text own status × HandsOut known text (Some tree) status
       × (most_bytes < length (tree_text tree))
       × (reply ≡ tree_refusal trees.TooLong) × (ended.status ≡ 2) × (certificate_of ended ≡ None)
 
@@ -63,12 +65,12 @@ HasOneEnd IsEnd =
     → (one ≡ other) × (x.status ≡ y.status) × (certificate_of x ≡ certificate_of y)
 
 -- the same of a search by so many workers
-abbrev pub IsCertifiedBy : Wanted → ℕ → List ℕ → List ℕ → Certified → Type 0
-IsCertifiedBy wanted workers text reply ended = IsCertified (reports_of wanted) text reply ended × MayWork workers text
+abbrev pub IsCertifiedBy : Option Declared → Wanted → ℕ → List ℕ → List ℕ → Certified → Type 0
+IsCertifiedBy known wanted workers text reply ended = IsCertified known (reports_of wanted) text reply ended × MayWork known workers text
 
 -- one worker searches alone, and several may give no answer for a cause
-abbrev pub IsCauseAt : ℕ → List ℕ → ℕ → Type 0
-IsCauseAt workers text number = (workers ≢ 1) × IsPoolCause workers text number
+abbrev pub IsCauseAt : Option Declared → ℕ → List ℕ → ℕ → Type 0
+IsCauseAt known workers text number = (workers ≢ 1) × IsPoolCause known workers text number
 
 -- a reply with this text and status, and the text of the tree as its certificate; or that the latter is too long
 abbrev pub IsWritten : List ℕ → ℕ → Tree → Reply Certified → Type 0
@@ -94,34 +96,61 @@ abbrev pub wanted_of : Bool → Wanted
 wanted_of false = wanted.Answer
 wanted_of true = wanted.AllLeast
 
--- a search's reply, with a certificate where a file is named for it
-abbrev pub IsSearchFor : Option (List ℕ) → Wanted → List ℕ → List ℕ → Certified → Type 0
-IsSearchFor None wanted text reply ended = IsUncertified (reports_of wanted) text reply ended
-IsSearchFor (Some file) wanted text reply ended = IsCertified (reports_of wanted) text reply ended
-
 -- the file of the certificate that is to be judged
 abbrev pub tree_file : Asked → Option (List ℕ)
-tree_file (asked.Search file tree all workers quiet) = None
-tree_file (asked.Run file faults) = None
-tree_file (asked.Check file tree quiet) = Some (string_bytes tree)
-tree_file (asked.Answer file quiet) = None
+tree_file (asked.Search file tree all workers quiet protocol) = None
+tree_file (asked.Run file faults rules protocol) = None
+tree_file (asked.Check file tree quiet protocol) = Some (string_bytes tree)
+tree_file (asked.Answer file quiet protocol) = None
 tree_file (asked.Protocol file) = None
 
--- what is asked for comes to this, by the texts of the scenario, or of the protocol, and of the certificate that is to be judged
-abbrev pub IsDone : Asked → List ℕ → List ℕ → List ℕ → Certified → Type 0
-IsDone (asked.Search file tree all workers quiet) text certificate reply ended =
-    IsSearchFor (written_to (asked.Search file tree all workers quiet)) (wanted_of all) text reply ended × MayWork workers text
-IsDone (asked.Run file faults) text certificate reply ended =
-    IsRunReply (string_bytes faults) text reply ended.status × (certificate_of ended ≡ None)
-IsDone (asked.Check file tree quiet) text certificate reply ended =
-    IsCheckReply text certificate reply ended.status × (certificate_of ended ≡ None)
-IsDone (asked.Answer file quiet) text certificate reply ended = IsAnswerReply text reply ended.status × (certificate_of ended ≡ None)
-IsDone (asked.Protocol file) text certificate reply ended = IsProtocolReply text reply ended.status × (certificate_of ended ≡ None)
+-- the rules that nodes took are told where there is a protocol file that has some
+abbrev pub tells_rules : Option Declared → Bool → Bool
+tells_rules None rules = false
+tells_rules (Some file) rules = rules
 
--- for this cause workers give no answer
-abbrev pub IsCauseFor : Asked → List ℕ → ℕ → Type 0
-IsCauseFor (asked.Search file tree all workers quiet) text number = IsCauseAt workers text number
-IsCauseFor (asked.Run file faults) text number = ⊥
-IsCauseFor (asked.Check file tree quiet) text number = ⊥
-IsCauseFor (asked.Answer file quiet) text number = ⊥
-IsCauseFor (asked.Protocol file) text number = ⊥
+module _ (known : Option Declared) where
+  -- a search's reply, with a certificate where a file is named for it
+  abbrev pub IsSearchFor : Option (List ℕ) → Wanted → List ℕ → List ℕ → Certified → Type 0
+  IsSearchFor None wanted text reply ended = IsUncertified known (reports_of wanted) text reply ended
+  IsSearchFor (Some file) wanted text reply ended = IsCertified known (reports_of wanted) text reply ended
+
+  -- the reply of a check to the text of a certificate, which has to be there
+  abbrev pub IsCheckOf : List ℕ → Option (List ℕ) → List ℕ → ℕ → Type 0
+  IsCheckOf text None reply status = ⊥
+  IsCheckOf text (Some certificate) reply status = IsCheckReply known text certificate reply status
+
+  -- what is asked for comes to this, by the text of the scenario, or of the protocol where that is all that is asked about, and by that of
+  -- the certificate that is to be judged
+  abbrev pub IsDoneFor : Asked → List ℕ → Option (List ℕ) → List ℕ → Certified → Type 0
+  IsDoneFor (asked.Search file tree all workers quiet protocol) text certificate reply ended =
+      IsSearchFor (written_to (asked.Search file tree all workers quiet protocol)) (wanted_of all) text reply ended × MayWork known workers text
+  IsDoneFor (asked.Run file faults rules protocol) text certificate reply ended =
+      IsRunReply known (tells_rules known rules) (string_bytes faults) text reply ended.status × (certificate_of ended ≡ None)
+  IsDoneFor (asked.Check file tree quiet protocol) text certificate reply ended =
+      IsCheckOf text certificate reply ended.status × (certificate_of ended ≡ None)
+  IsDoneFor (asked.Answer file quiet protocol) text certificate reply ended =
+      IsAnswerReply known text reply ended.status × (certificate_of ended ≡ None)
+  IsDoneFor (asked.Protocol file) text certificate reply ended = IsProtocolReply text reply ended.status × (certificate_of ended ≡ None)
+
+  -- for this cause workers give no answer
+  abbrev pub IsCauseFor : Asked → List ℕ → ℕ → Type 0
+  IsCauseFor (asked.Search file tree all workers quiet protocol) text number = IsCauseAt known workers text number
+  IsCauseFor (asked.Run file faults rules protocol) text number = ⊥
+  IsCauseFor (asked.Check file tree quiet protocol) text number = ⊥
+  IsCauseFor (asked.Answer file quiet protocol) text number = ⊥
+  IsCauseFor (asked.Protocol file) text number = ⊥
+
+-- the file of the protocol is refused: that is the reply, whatever else is asked for
+abbrev pub IsNoProtocol : List ℕ → List ℕ → Certified → Type 0
+IsNoProtocol protocol reply ended = RepliesProtocolRefusal protocol reply ended.status × (certificate_of ended ≡ None)
+
+-- the same, by the text of the protocol file too, where one is named
+abbrev pub IsDone : Asked → Option (List ℕ) → List ℕ → Option (List ℕ) → List ℕ → Certified → Type 0
+IsDone a None text certificate reply ended = IsDoneFor None a text certificate reply ended
+IsDone a (Some protocol) text certificate reply ended =
+    IsNoProtocol protocol reply ended ⊎ ((file : Declared) × files.IsText file protocol × IsDoneFor (Some file) a text certificate reply ended)
+
+abbrev pub IsCause : Asked → Option (List ℕ) → List ℕ → ℕ → Type 0
+IsCause a None text number = IsCauseFor None a text number
+IsCause a (Some protocol) text number = (file : Declared) × files.IsText file protocol × IsCauseFor (Some file) a text number

@@ -1,6 +1,6 @@
 -- What every engine promises.
 use Rattle.std.specs.Prelude.{◌≡◌, ◌≢◌, ℕ, ◌+◌, ◌<◌, ◌≤◌, ◌||◌, Bool, true, false, List, length, take, drop, string_bytes}
-use Rattle.std.specs.Prelude.{◌⊎◌, Option, Some, Result, Ok, Err, IfOk, IfErr, IfSome, MatchResult}
+use Rattle.std.specs.Prelude.{◌⊎◌, Option, None, Some, Result, Ok, Err, IfOk, IfErr, IfSome, MatchResult}
 use Rattle.std.specs.Io.KnownBytes.{Appends}
 use Rattle.lf_scenario.specs.Limits.{longest}
 use Rattle.lf_tree.specs.Texts.{most_bytes}
@@ -92,6 +92,25 @@ module _ {R S : Type 0} (left : R → Option (List ℕ)) (has_failed : R → Boo
       (λ number. OfHeld (λ text. IsCause text number) (left old)) (has_failed new || has_failed_too new_too)
       (TookAtMost (longest + 1) (left old) (left new) × TookAtMost (most_bytes + 1) (left_too old_too) (left_too new_too))
 
+-- what is said of a text that is asked for is true of what a source held; and else it is said of none
+abbrev pub OfAsked : Bool → (Option (List ℕ) → Type 0) → Option (List ℕ) → Type 0
+OfAsked false Says held = Says None
+OfAsked true Says held = OfHeld (λ text. Says (Some text)) held
+
+-- of three sources, a protocol file's, a scenario's and a tree's: whether the first and the last are asked for, and then the same
+module _ {P R S : Type 0} (left : P → Option (List ℕ)) (has_failed : P → Bool) (left_too : R → Option (List ℕ)) (has_failed_too : R → Bool)
+    (left_last : S → Option (List ℕ)) (has_failed_last : S → Bool) where
+  abbrev pub IsMadeOfAll : {Y : Type 0} → Bool → Bool → (Option (List ℕ) → List ℕ → Option (List ℕ) → Y → Type 0)
+      → (Option (List ℕ) → List ℕ → ℕ → Type 0) → P → P → R → R → S → S → Result Y BytesFault → Type 0
+  IsMadeOfAll named judged IsOne IsCause old new old_too new_too old_last new_last =
+      IsMade
+      (λ y. OfAsked named (λ protocol. OfHeld (λ text. OfAsked judged (λ certificate. IsOne protocol text certificate y) (left_last old_last))
+      (left_too old_too)) (left old))
+      (λ number. OfAsked named (λ protocol. OfHeld (λ text. IsCause protocol text number) (left_too old_too)) (left old))
+      (has_failed new || (has_failed_too new_too || has_failed_last new_last))
+      (TookAtMost (longest + 1) (left old) (left new) × TookAtMost (longest + 1) (left_too old_too) (left_too new_too)
+      × TookAtMost (most_bytes + 1) (left_last old_last) (left_last new_last))
+
 -- no worker is asked, so none gives no answer
 abbrev pub NoCause : List ℕ → ℕ → Type 0
 NoCause text number = ⊥
@@ -103,6 +122,13 @@ OfReply IsReply text r = IsReply text (string_bytes r.text) r.value
 -- the bytes were read at the front of a source, no more than one past so many
 abbrev pub IsFront : ℕ → Option (List ℕ) → List ℕ → Type 0
 IsFront most held bytes = IfSome held (λ h. bytes ≡ take (most + 1) h)
+
+-- and where a text is asked for, so it is with its bytes, and else there are none
+abbrev pub IsFrontOf : Bool → ℕ → Option (List ℕ) → Option (List ℕ) → Type 0
+IsFrontOf false most held None = Unit {0}
+IsFrontOf false most held (Some bytes) = ⊥
+IsFrontOf true most held None = ⊥
+IsFrontOf true most held (Some bytes) = IsFront most held bytes
 
 -- a reply that was made was written, or a part of it, or nothing
 abbrev pub WasWritten : {X W : Type 0} → (W → Option (List ℕ)) → (W → Bool) → Reply X → W → W → Result X BytesFault → Type 0

@@ -1,5 +1,6 @@
 pub mod Answers
 pub mod Reports
+pub mod Known
 pub mod Replies
 pub mod Searches
 pub mod Engines

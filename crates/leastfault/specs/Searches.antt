@@ -1,8 +1,9 @@
 -- What a search for a scenario comes to, before it is written.
-use Rattle.std.specs.Prelude.{◌≡◌, ◌⊎◌, ℕ, List, None, Some, Result, string_bytes}
+use Rattle.std.specs.Prelude.{◌≡◌, ◌⊎◌, ℕ, List, Option, None, Some, Result, string_bytes}
 use Rattle.lf_pool.specs.Solved.{AreWorkers}
 use Rattle.lf_scenario.specs.declared.scenario.Scenario.{Scenario}
 use Rattle.lf_tree.specs.declared.tree.Tree.{Tree}
+use Rattle.lf_written.specs.declared.declared.Declared.{Declared}
 use Rattle.leastfault.specs.declared.answering.Wanted.{Wanted}
 use Rattle.leastfault.specs.declared.fault.BytesFault.{BytesFault}
 use Rattle.leastfault.specs.declared.reply.Reply.{Reply}
@@ -23,5 +24,6 @@ abbrev pub IsEndFor : Wanted → ℕ → Scenario → Result (Reply Searched) By
 IsEndFor wanted workers s = IsMadeHere (λ found. IsFoundFor wanted s found × AreWorkers workers) (IsCauseOf workers)
 
 -- and for a text to this
-abbrev pub IsEndIn : Wanted → ℕ → List ℕ → Result (Reply Searched) BytesFault → Type 0
-IsEndIn wanted workers text = IsMadeHere (OfReply (IsSharedWith (reports_of wanted) workers) text) (IsPoolCause workers text)
+abbrev pub IsEndIn : Option Declared → Wanted → ℕ → List ℕ → Result (Reply Searched) BytesFault → Type 0
+IsEndIn known wanted workers text =
+    IsMadeHere (OfReply (IsSharedWith known (reports_of wanted) workers) text) (IsPoolCause known workers text)

@@ -1,6 +1,6 @@
 //! The replies of the engines, before they are written.
 
-ghost use Rattle.std.specs.Prelude.{◌≡◌, ◌≢◌, ◌↔◌, List, Some, true, string_bytes, IfOk};
+ghost use Rattle.std.specs.Prelude.{◌≡◌, ◌≢◌, ◌↔◌, List, Some, true, false, string_bytes, IfOk};
 ghost use Rattle.lf_alone.specs.Ends.{IsNeverFull};
 ghost use Rattle.lf_book.specs.Books.{scenario_of, state_of};
 ghost use Rattle.lf_faults.specs.declared.fault.Parts.{Parts};
@@ -9,20 +9,23 @@ ghost use Rattle.lf_sim.specs.Settings.{world_of};
 ghost use Rattle.lf_trace.specs.Namings.{Names};
 ghost use Rattle.lf_trace.specs.Traces.{trace};
 ghost use Rattle.leastfault.specs.Answers.{AreLeastSets, reaches_in};
+ghost use Rattle.leastfault.specs.Known.{known_of};
 ghost use Rattle.leastfault.specs.Replies.{IsAnswerReply, IsRunReply, IsSearchedWith, RepliesAll, RepliesAnswer, RepliesReport, reports_of};
 ghost use Rattle.leastfault.specs.Searches.{IsFoundFor};
 ghost use Rattle.leastfault.specs.Reports.{full_line, no_set_line, refusal, run_status, search_status};
 
+use crate::known::read_known;
 use crate::reply::{Reply, Searched, without_tree};
 use crate::{all_report, full_line, merged_watched, refusal, report};
 use lf_alone::{Ended, solve_watched};
 use lf_book::Book;
 use lf_faults::{FaultSet, admits};
 use lf_outcome::holds;
-use lf_scenario::{Scenario, ScenarioError, read};
+use lf_scenario::{Scenario, ScenarioError};
 use lf_sim::run;
 use lf_trace::{read_faults, trace};
 use lf_watch::Watch;
+use lf_written::ProtocolFile;
 use std::alloc::{AllocError, Global};
 use std::sync::Arc;
 
@@ -38,13 +41,14 @@ pub enum Wanted {
 /// The reply of a search to a scenario's text.
 pub(crate) fn search_reply<V: Watch>(
     alloc: Global,
+    known: Option<&ProtocolFile>,
     wanted: Wanted,
     text: &[u8],
     watch: &V,
 ) -> Result<Reply<Searched>, AllocError>
-    ensures { IfOk result (λ found. IsSearchedWith (reports_of wanted) text.now (string_bytes found.text) found.value) }
+    ensures { IfOk result (λ found. IsSearchedWith (known_of known.entry) (reports_of wanted) text.now (string_bytes found.text) found.value) }
 {
-    match read(alloc, text) {
+    match read_known(alloc, text, known) {
         Ok(scenario) => searched(alloc, wanted, scenario, watch),
         Err(error) => {
             let refusal = refused(alloc, error)?;
@@ -151,12 +155,13 @@ fn least_sets(book: &Book) -> Result<Vec<FaultSet>, AllocError>
 /// The reply that tells the answer to a scenario's text.
 pub(crate) fn answer_reply<V: Watch>(
     alloc: Global,
+    known: Option<&ProtocolFile>,
     text: &[u8],
     watch: &V,
 ) -> Result<Reply<u8>, AllocError>
-    ensures { IfOk result (λ reply. IsAnswerReply text.now (string_bytes reply.text) reply.value) }
+    ensures { IfOk result (λ reply. IsAnswerReply (known_of known.entry) text.now (string_bytes reply.text) reply.value) }
 {
-    match read(alloc, text) {
+    match read_known(alloc, text, known) {
         Ok(scenario) => answered(alloc, &scenario, watch),
         Err(why) => refused(alloc, why),
     }
@@ -188,10 +193,15 @@ pub(crate) fn full(alloc: Global, level: u32, count: u64) -> Result<Reply<u8>, A
 }
 
 /// The reply of a run to a scenario's text and the words that name a set of faults.
-pub(crate) fn run_reply(alloc: Global, text: &[u8], faults: &str) -> Result<Reply<u8>, AllocError>
-    ensures { IfOk result (λ reply. IsRunReply faults.now text.now (string_bytes reply.text) reply.value) }
+pub(crate) fn run_reply(
+    alloc: Global,
+    known: Option<&ProtocolFile>,
+    text: &[u8],
+    faults: &str,
+) -> Result<Reply<u8>, AllocError>
+    ensures { IfOk result (λ reply. IsRunReply (known_of known.entry) false faults.now text.now (string_bytes reply.text) reply.value) }
 {
-    match read(alloc, text) {
+    match read_known(alloc, text, known) {
         Ok(scenario) => match allowed_set(&scenario, faults) {
             Some(set) => traced(alloc, &scenario, &set),
             None => no_set(alloc),
@@ -201,7 +211,7 @@ pub(crate) fn run_reply(alloc: Global, text: &[u8], faults: &str) -> Result<Repl
 }
 
 /// The set that the words name. None where they name none, or the scenario doesn't allow it.
-fn allowed_set(scenario: &Scenario, faults: &str) -> Option<FaultSet>
+pub(crate) fn allowed_set(scenario: &Scenario, faults: &str) -> Option<FaultSet>
     ensures { (set : List Parts) → ((result ≡ Some set)
         ↔ (Names faults.now set × IsAllowed scenario.now.setting.spec set)) }
 {
@@ -229,7 +239,7 @@ fn traced(alloc: Global, scenario: &Scenario, set: &FaultSet) -> Result<Reply<u8
 }
 
 /// The reply to words that name no allowed set.
-fn no_set(alloc: Global) -> Result<Reply<u8>, AllocError>
+pub(crate) fn no_set(alloc: Global) -> Result<Reply<u8>, AllocError>
     ensures { IfOk result (λ reply. (string_bytes reply.text ≡ no_set_line) × (reply.value ≡ 2)) }
 {
     let mut text = String::new(alloc);
@@ -252,7 +262,7 @@ pub(crate) fn refused(alloc: Global, error: ScenarioError) -> Result<Reply<u8>, 
 }
 
 /// The status of a run: 0 where it reaches the outcome, 1 where it misses.
-fn run_status(reaches: bool) -> u8
+pub(crate) fn run_status(reaches: bool) -> u8
     ensures { result ≡ run_status reaches }
 {
     if reaches { 0 } else { 1 }

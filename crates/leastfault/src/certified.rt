@@ -1,18 +1,22 @@
 //! Searches with the certificate of their answer.
 
-ghost use Rattle.std.specs.Prelude.{◌≡◌, false, string_bytes, IfOk};
+ghost use Rattle.std.specs.Prelude.{◌≡◌, false, string_bytes, IfOk, None};
 ghost use Rattle.leastfault.specs.Commands.{GetsCertified, IsCauseAt, IsCertifiedBy, IsWritten};
-ghost use Rattle.leastfault.specs.Engines.{IsMadeOfOne, OfReply, Remakes};
+ghost use Rattle.leastfault.specs.Engines.{IsMadeHere, IsMadeOfOne, OfReply, Remakes};
+ghost use Rattle.leastfault.specs.Known.{known_of};
 ghost use Rattle.leastfault.specs.Replies.{IsSharedWith, reports_of};
 
-use crate::answering::Wanted;
+use crate::answering::{Wanted, search_reply};
 use crate::checking::tree_refused;
 use crate::fault::BytesFault;
-use crate::made::{search_made, shared_made};
+use crate::reading::read_text;
 use crate::reply::{Certified, Reply, Searched, without_certificate};
+use crate::workers::shared_reply;
+use lf_scenario::LONGEST;
 use lf_streams::Source;
 use lf_tree::{Tree, to_text, types_are_kept};
 use lf_watch::Watch;
+use lf_written::ProtocolFile;
 use std::alloc::{AllocError, Global};
 use std::rt::Clock;
 use std::sync::Wait;
@@ -33,27 +37,62 @@ pub fn search_certified<T: Threads + Wait + Clock + Sync, R: Source, V: Watch>(
     watch: &V,
 ) -> Result<Reply<Certified>, BytesFault>
     requires { R.has_failed reader.old ≡ false }
-    ensures { IsMadeOfOne R.left R.has_failed (OfReply (IsCertifiedBy wanted workers)) (IsCauseAt workers) reader.old reader.new result }
+    ensures { IsMadeOfOne R.left R.has_failed (OfReply (IsCertifiedBy None wanted workers)) (IsCauseAt None workers) reader.old reader.new result }
 {
-    let made = search_by(rt, alloc, wanted, workers, reader, watch);
-    certified(alloc, made)
+    certified_known(rt, alloc, None, wanted, workers, reader, watch)
 }
 
-/// The reply of a search by so many workers to what a source holds. One worker searches in this thread.
-pub(crate) fn search_by<T: Threads + Wait + Clock + Sync, R: Source, V: Watch>(
+/// The same as `search_certified`, where the protocol of a file may be known.
+pub fn certified_known<T: Threads + Wait + Clock + Sync, R: Source, V: Watch>(
     rt: &T,
     alloc: Global,
+    known: Option<&ProtocolFile>,
     wanted: Wanted,
     workers: u32,
     reader: &mut R,
     watch: &V,
-) -> Result<Reply<Searched>, BytesFault>
+) -> Result<Reply<Certified>, BytesFault>
     requires { R.has_failed reader.old ≡ false }
-    ensures { IsMadeOfOne R.left R.has_failed (OfReply (IsSharedWith (reports_of wanted) workers)) (IsCauseAt workers) reader.old reader.new result }
+    ensures { IsMadeOfOne R.left R.has_failed (OfReply (IsCertifiedBy (known_of known.entry) wanted workers)) (IsCauseAt (known_of known.entry) workers)
+        reader.old reader.new result }
+{
+    let text = read_text(alloc, reader, LONGEST)?;
+    certified_reply(rt, alloc, known, wanted, workers, text.as_slice(), watch)
+}
+
+/// The reply of a search by so many workers to a scenario's text, with the certificate's text.
+pub(crate) fn certified_reply<T: Threads + Wait + Clock + Sync, V: Watch>(
+    rt: &T,
+    alloc: Global,
+    known: Option<&ProtocolFile>,
+    wanted: Wanted,
+    workers: u32,
+    text: &[u8],
+    watch: &V,
+) -> Result<Reply<Certified>, BytesFault>
+    ensures { IsMadeHere (OfReply (IsCertifiedBy (known_of known.entry) wanted workers) text.now) (IsCauseAt (known_of known.entry) workers text.now) result }
+{
+    let made = reply_by(rt, alloc, known, wanted, workers, text, watch);
+    certified(alloc, made)
+}
+
+/// The reply of a search by so many workers to a scenario's text. One worker searches in this thread.
+pub(crate) fn reply_by<T: Threads + Wait + Clock + Sync, V: Watch>(
+    rt: &T,
+    alloc: Global,
+    known: Option<&ProtocolFile>,
+    wanted: Wanted,
+    workers: u32,
+    text: &[u8],
+    watch: &V,
+) -> Result<Reply<Searched>, BytesFault>
+    ensures { IsMadeHere (OfReply (IsSharedWith (known_of known.entry) (reports_of wanted) workers) text.now)
+        (IsCauseAt (known_of known.entry) workers text.now)
+        result }
 {
     match workers {
-        1 => search_made(alloc, wanted, reader, watch),
-        several => shared_made(rt, alloc, wanted, several, reader, watch),
+        1 => Ok(search_reply(alloc, known, wanted, text, watch)?),
+        several => shared_reply(rt, alloc, known, wanted, several, text, watch),
     }
 }
 

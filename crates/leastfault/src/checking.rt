@@ -1,21 +1,25 @@
 //! The replies of a check, before they are written.
 
-ghost use Rattle.std.specs.Prelude.{◌≡◌, ◌≢◌, ℕ, List, string_bytes, IfOk};
+ghost use Rattle.std.specs.Prelude.{◌≡◌, ◌≢◌, ℕ, List, Option, string_bytes, IfOk};
 ghost use Rattle.lf_check.specs.Verdicts.{IsVerdict};
-ghost use Rattle.lf_scenario.specs.Scenarios.{IsText};
 ghost use Rattle.lf_sim.specs.Settings.{world_of};
+ghost use Rattle.lf_written.specs.declared.declared.Declared.{Declared};
 ghost use Rattle.leastfault.specs.Checks.{IsGiven, IsReplyTo};
 ghost use Rattle.leastfault.specs.Engines.{Remakes};
+ghost use Rattle.leastfault.specs.Known.{IsTextOf, known_of};
+ghost use Rattle.leastfault.specs.Replies.{IsCheckReply};
 ghost use Rattle.leastfault.specs.Reports.{check_status, judgement, tree_refusal};
 
 use crate::answering::refused;
 use crate::fault::BytesFault;
+use crate::known::read_known;
 use crate::reply::Reply;
 use crate::{judgement, tree_refusal};
 use lf_check::{Verdict, check, check_rows_watched};
-use lf_scenario::{Scenario, read};
+use lf_scenario::Scenario;
 use lf_tree::{Tree, TreeFault, read_tree, types_are_kept};
 use lf_watch::Watch;
+use lf_written::ProtocolFile;
 use std::alloc::{AllocError, Global};
 use std::thread::Threads;
 
@@ -36,12 +40,13 @@ pub(crate) enum Given {
 /// What the texts of a scenario and of a tree give to be judged.
 pub(crate) fn texts_given(
     alloc: Global,
+    known: Option<&ProtocolFile>,
     text: &[u8],
     certificate: &[u8],
 ) -> Result<Given, AllocError>
-    ensures { IfOk result (IsGiven text.now certificate.now) }
+    ensures { IfOk result (IsGiven (known_of known.entry) text.now certificate.now) }
 {
-    match read(alloc, text) {
+    match read_known(alloc, text, known) {
         Ok(scenario) => given_for(alloc, scenario, certificate),
         Err(error) => Ok(Given::Refused(refused(alloc, error)?)),
     }
@@ -49,7 +54,7 @@ pub(crate) fn texts_given(
 
 /// What a scenario and the text of a tree give to be judged.
 fn given_for(alloc: Global, scenario: Scenario, certificate: &[u8]) -> Result<Given, AllocError>
-    ensures { (text : List ℕ) → IsText scenario text → IfOk result (IsGiven text certificate.now) }
+    ensures { (known : Option Declared) (text : List ℕ) → IsTextOf known scenario text → IfOk result (IsGiven known text certificate.now) }
 {
     match read_tree(alloc, certificate) {
         Ok(tree) => {
@@ -85,13 +90,40 @@ pub(crate) fn judged_in_rows<T: Threads + Sync, V: Watch>(
 ) -> Result<Reply<u8>, BytesFault>
     ensures { Remakes IsReplyTo given result }
 {
-    match given? {
+    Ok(replied_in_rows(rt, alloc, given?, watch)?)
+}
+
+/// The same of what is given.
+fn replied_in_rows<T: Threads + Sync, V: Watch>(
+    rt: &T,
+    alloc: Global,
+    given: Given,
+    watch: &V,
+) -> Result<Reply<u8>, AllocError>
+    ensures { IfOk result (IsReplyTo given) }
+{
+    match given {
         Given::Refused(reply) => Ok(reply),
         Given::Both { scenario, tree } => {
             let verdict = check_rows_watched(rt, alloc, &scenario, &tree, watch)?;
             Ok(judged(alloc, &verdict)?)
         }
     }
+}
+
+/// The reply of a check to the texts of a scenario and of a tree, judged in as many threads as there are processors.
+pub(crate) fn check_reply<T: Threads + Sync, V: Watch>(
+    rt: &T,
+    alloc: Global,
+    known: Option<&ProtocolFile>,
+    text: &[u8],
+    certificate: &[u8],
+    watch: &V,
+) -> Result<Reply<u8>, AllocError>
+    ensures { IfOk result (λ reply. IsCheckReply (known_of known.entry) text.now certificate.now (string_bytes reply.text) reply.value) }
+{
+    let given = texts_given(alloc, known, text, certificate)?;
+    replied_in_rows(rt, alloc, given, watch)
 }
 
 /// The reply that tells a verdict.

@@ -1,6 +1,6 @@
 //! Engines: bytes in, bytes out.
 
-ghost use Rattle.std.specs.Prelude.{◌≡◌, false};
+ghost use Rattle.std.specs.Prelude.{◌≡◌, false, None};
 ghost use Rattle.leastfault.specs.Engines.{IsEngine, IsEngineOfBoth, NoCause};
 ghost use Rattle.leastfault.specs.Protocols.{IsProtocolReply};
 ghost use Rattle.leastfault.specs.Replies.{IsAnswerReply, IsCheckReply, IsPoolCause, IsRunReply};
@@ -9,7 +9,8 @@ ghost use Rattle.leastfault.specs.Replies.{IsSearched, IsSearchedAll, IsShared, 
 use crate::answering::Wanted;
 use crate::checking::judged_alone;
 use crate::fault::BytesFault;
-use crate::made::{given_made, protocol_made, run_made};
+use crate::known::run_known;
+use crate::made::{given_made, protocol_made};
 use crate::reply::Searched;
 use crate::sending::send;
 use crate::watched::{answer_watched, check_watched, search_watched, shared_watched};
@@ -33,7 +34,7 @@ pub fn search_bytes<R: Source, W: Sink>(
 ) -> Result<Searched, BytesFault>
     requires reader { R.has_failed reader.old ≡ false }
     requires writer { W.has_failed writer.old ≡ false }
-    ensures { IsEngine R.left R.has_failed IsSearched NoCause reader.old reader.new W.written W.has_failed writer.old writer.new result }
+    ensures { IsEngine R.left R.has_failed (IsSearched None) NoCause reader.old reader.new W.written W.has_failed writer.old writer.new result }
 {
     search_watched(alloc, Wanted::Answer, reader, writer, &NoWatch)
 }
@@ -48,7 +49,7 @@ pub fn all_bytes<R: Source, W: Sink>(
 ) -> Result<Searched, BytesFault>
     requires reader { R.has_failed reader.old ≡ false }
     requires writer { W.has_failed writer.old ≡ false }
-    ensures { IsEngine R.left R.has_failed IsSearchedAll NoCause reader.old reader.new W.written W.has_failed writer.old writer.new result }
+    ensures { IsEngine R.left R.has_failed (IsSearchedAll None) NoCause reader.old reader.new W.written W.has_failed writer.old writer.new result }
 {
     search_watched(alloc, Wanted::AllLeast, reader, writer, &NoWatch)
 }
@@ -65,7 +66,8 @@ pub fn search_shared<T: Threads + Wait + Clock + Sync, R: Source, W: Sink>(
 ) -> Result<Searched, BytesFault>
     requires reader { R.has_failed reader.old ≡ false }
     requires writer { W.has_failed writer.old ≡ false }
-    ensures { IsEngine R.left R.has_failed (IsShared workers) (IsPoolCause workers) reader.old reader.new W.written W.has_failed writer.old writer.new result }
+    ensures { IsEngine R.left R.has_failed (IsShared None workers) (IsPoolCause None workers) reader.old reader.new W.written W.has_failed writer.old
+        writer.new result }
 {
     shared_watched(rt, alloc, Wanted::Answer, workers, reader, writer, &NoWatch)
 }
@@ -80,7 +82,7 @@ pub fn all_shared<T: Threads + Wait + Clock + Sync, R: Source, W: Sink>(
 ) -> Result<Searched, BytesFault>
     requires reader { R.has_failed reader.old ≡ false }
     requires writer { W.has_failed writer.old ≡ false }
-    ensures { IsEngine R.left R.has_failed (IsSharedAll workers) (IsPoolCause workers) reader.old reader.new
+    ensures { IsEngine R.left R.has_failed (IsSharedAll None workers) (IsPoolCause None workers) reader.old reader.new
         W.written W.has_failed writer.old writer.new result }
 {
     shared_watched(
@@ -109,7 +111,7 @@ pub fn answer_bytes<R: Source, W: Sink>(
 ) -> Result<u8, BytesFault>
     requires reader { R.has_failed reader.old ≡ false }
     requires writer { W.has_failed writer.old ≡ false }
-    ensures { IsEngine R.left R.has_failed IsAnswerReply NoCause reader.old reader.new W.written W.has_failed writer.old writer.new result }
+    ensures { IsEngine R.left R.has_failed (IsAnswerReply None) NoCause reader.old reader.new W.written W.has_failed writer.old writer.new result }
 {
     answer_watched(alloc, reader, writer, &NoWatch)
 }
@@ -131,10 +133,10 @@ pub fn run_bytes<R: Source, W: Sink>(
 ) -> Result<u8, BytesFault>
     requires reader { R.has_failed reader.old ≡ false }
     requires writer { W.has_failed writer.old ≡ false }
-    ensures { IsEngine R.left R.has_failed (IsRunReply faults.now) NoCause reader.old reader.new W.written W.has_failed writer.old writer.new result }
+    ensures { IsEngine R.left R.has_failed (IsRunReply None false faults.now) NoCause reader.old reader.new W.written W.has_failed writer.old writer.new
+        result }
 {
-    let made = run_made(alloc, reader, faults);
-    send(writer, made)
+    run_known(alloc, None, reader, faults, writer)
 }
 
 /// Reads a scenario and the text of a tree, judges the tree for the scenario, and writes the line of the verdict: `yes`, or
@@ -155,10 +157,10 @@ pub fn check_bytes<R: Source, S: Source, W: Sink>(
     requires scenario { R.has_failed scenario_reader.old ≡ false }
     requires tree { S.has_failed tree_reader.old ≡ false }
     requires writer { W.has_failed writer.old ≡ false }
-    ensures { IsEngineOfBoth R.left R.has_failed S.left S.has_failed IsCheckReply NoCause
+    ensures { IsEngineOfBoth R.left R.has_failed S.left S.has_failed (IsCheckReply None) NoCause
         scenario_reader.old scenario_reader.new tree_reader.old tree_reader.new W.written W.has_failed writer.old writer.new result }
 {
-    let given = given_made(alloc, scenario_reader, tree_reader);
+    let given = given_made(alloc, None, scenario_reader, tree_reader);
     send(writer, judged_alone(alloc, given))
 }
 
@@ -173,7 +175,7 @@ pub fn check_bytes_rows<R: Source, S: Source, W: Sink>(
     requires scenario { R.has_failed scenario_reader.old ≡ false }
     requires tree { S.has_failed tree_reader.old ≡ false }
     requires writer { W.has_failed writer.old ≡ false }
-    ensures { IsEngineOfBoth R.left R.has_failed S.left S.has_failed IsCheckReply NoCause
+    ensures { IsEngineOfBoth R.left R.has_failed S.left S.has_failed (IsCheckReply None) NoCause
         scenario_reader.old scenario_reader.new tree_reader.old tree_reader.new W.written W.has_failed writer.old writer.new result }
 {
     check_watched(rt, alloc, scenario_reader, tree_reader, writer, &NoWatch)

@@ -1,12 +1,13 @@
 //! What the definitions of this crate promise, for every scenario and every text: calls whose contracts are the laws.
 
 ghost use Rattle.lf_alone.specs.Ends.{IsFull};
-ghost use Rattle.std.specs.Prelude.{◌≡◌, ◌⊎◌, ℕ, List, Option, length, slice_get};
+ghost use Rattle.std.specs.Prelude.{◌≡◌, ◌⊎◌, ℕ, Bool, List, Option, length, slice_get};
+ghost use Rattle.lf_written.specs.declared.declared.Declared.{Declared};
+ghost use Rattle.leastfault.specs.Known.{IsTextOf};
 ghost use Rattle.std.specs.List.{Contains};
 ghost use Rattle.lf_faults.specs.Allowed.{IsInLimits};
 ghost use Rattle.lf_faults.specs.declared.fault.Parts.{Parts};
 ghost use Rattle.lf_scenario.specs.declared.scenario.Scenario.{Scenario};
-ghost use Rattle.lf_scenario.specs.Scenarios.{IsText};
 ghost use Rattle.lf_tree.specs.declared.tree.Tree.{Tree};
 ghost use Rattle.leastfault.specs.Answers.{AreLeastSets, IsAnswer, IsLeast};
 ghost use Rattle.leastfault.specs.Commands.{HasOneEnd, IsCertified};
@@ -41,18 +42,20 @@ pub fn least_sets_are_one()
 
 /// A text has at most one reply of a search that reports the answer, and one of a search that reports all least sets, both with one
 /// status and one tree that is handed out, and each one with a certificate, which is one too; one that tells the answer alone, which is
-/// that of the search unless a level of it is too full; and with these words at most one of a run.
+/// that of the search unless a level of it is too full; and with these words at most one of a run. So it is whichever protocol is known
+/// besides the shipped ones.
 pub fn replies_are_one(faults: &str)
-    ensures search { (text : List ℕ) → HasOneReply (IsSearchReply text) }
-    ensures all { (text : List ℕ) → HasOneReply (IsAllReply text) }
-    ensures answer { (text : List ℕ) → HasOneReply (IsAnswerReply text) }
-    ensures agree { (text one other : List ℕ) (m n : ℕ) → IsSearchReply text one m → IsAnswerReply text other n →
-        ((one ≡ other) × (m ≡ n)) ⊎ ((s : Scenario) × (level : ℕ) × (count : ℕ) × IsText s text × IsFull s level count) }
-    ensures status { (text one other : List ℕ) (m n : ℕ) → IsSearchReply text one m → IsAllReply text other n → m ≡ n }
-    ensures tree { (text : List ℕ) (status : ℕ) (one other : Option Tree) → HandsOut text one status → HandsOut text other status → one ≡ other }
-    ensures certified { (text : List ℕ) → HasOneEnd (IsCertified RepliesReport text) }
-    ensures certified_all { (text : List ℕ) → HasOneEnd (IsCertified RepliesAll text) }
-    ensures run { (text : List ℕ) → HasOneReply (IsRunReply faults.now text) }
+    ensures search { (known : Option Declared) (text : List ℕ) → HasOneReply (IsSearchReply known text) }
+    ensures all { (known : Option Declared) (text : List ℕ) → HasOneReply (IsAllReply known text) }
+    ensures answer { (known : Option Declared) (text : List ℕ) → HasOneReply (IsAnswerReply known text) }
+    ensures agree { (known : Option Declared) (text one other : List ℕ) (m n : ℕ) → IsSearchReply known text one m → IsAnswerReply known text other n →
+        ((one ≡ other) × (m ≡ n)) ⊎ ((s : Scenario) × (level : ℕ) × (count : ℕ) × IsTextOf known s text × IsFull s level count) }
+    ensures status { (known : Option Declared) (text one other : List ℕ) (m n : ℕ) → IsSearchReply known text one m → IsAllReply known text other n → m ≡ n }
+    ensures tree { (known : Option Declared) (text : List ℕ) (status : ℕ) (one other : Option Tree) → HandsOut known text one status →
+        HandsOut known text other status → one ≡ other }
+    ensures certified { (known : Option Declared) (text : List ℕ) → HasOneEnd (IsCertified known RepliesReport text) }
+    ensures certified_all { (known : Option Declared) (text : List ℕ) → HasOneEnd (IsCertified known RepliesAll text) }
+    ensures run { (known : Option Declared) (rules : Bool) (text : List ℕ) → HasOneReply (IsRunReply known rules faults.now text) }
 {
     orders_are_total();
     names_are_one(faults);
@@ -60,7 +63,7 @@ pub fn replies_are_one(faults: &str)
 
 /// The texts of a scenario and of a tree have at most one reply of a check, with one status.
 pub fn check_replies_are_one()
-    ensures { (text certificate : List ℕ) → HasOneReply (IsCheckReply text certificate) }
+    ensures { (known : Option Declared) (text certificate : List ℕ) → HasOneReply (IsCheckReply known text certificate) }
 {
     texts_are_json();
 }
@@ -76,10 +79,10 @@ pub fn protocol_replies_are_one()
 /// the answer to the scenario: it is allowed, its run misses the outcome, and every allowed set with fewer faults reaches it;
 /// or it is none, and every allowed set reaches. The status 0 says the same.
 pub fn yes_is_the_answer()
-    ensures yes { (text certificate : List ℕ) (status : ℕ) → IsCheckReply text certificate yes_line status →
-        (s : Scenario) × (tree : Tree) × IsText s text × IsTreeText tree certificate
+    ensures yes { (known : Option Declared) (text certificate : List ℕ) (status : ℕ) → IsCheckReply known text certificate yes_line status →
+        (s : Scenario) × (tree : Tree) × IsTextOf known s text × IsTreeText tree certificate
         × IsAnswer s tree.answer × IsLeast s tree.answer }
-    ensures zero { (text certificate reply : List ℕ) → IsCheckReply text certificate reply 0 → reply ≡ yes_line }
+    ensures zero { (known : Option Declared) (text certificate reply : List ℕ) → IsCheckReply known text certificate reply 0 → reply ≡ yes_line }
 {}
 
 /// Bounds keep their limits. Their type says so, and a call of this tells it to the prover.

@@ -2,7 +2,7 @@
 //!
 //! An engine reads a scenario's text and writes a reply: the fewest faults that defeat the scenario's outcome, or all sets with so few,
 //! or that no allowed set of faults does, with a certificate of that; or the trace of one run; or, of a certificate's text beside it,
-//! whether it is right.
+//! whether it is right. A scenario may name one of the shipped protocols, or the protocol of a file that is given beside it.
 #![tactic(auto)]
 
 mod answer;
@@ -12,6 +12,7 @@ mod checking;
 mod commands;
 mod engine;
 mod fault;
+mod known;
 mod laws;
 mod least;
 mod made;
@@ -19,6 +20,7 @@ mod protocol;
 mod reading;
 mod replies;
 mod reply;
+mod ruled;
 mod sending;
 mod telling;
 mod watched;
@@ -26,13 +28,16 @@ mod workers;
 
 pub use answer::{merged_answer, merged_watched, plain_answer};
 pub use answering::Wanted;
-pub use certified::search_certified;
+pub use certified::{certified_known, search_certified};
 pub use commands::{certificate_file, execute, tree_file};
 pub use engine::{
     all_bytes, all_shared, answer_bytes, check_bytes, check_bytes_rows, protocol_bytes, run_bytes,
     search_bytes, search_shared,
 };
 pub use fault::BytesFault;
+pub use known::{
+    answer_known, check_known, read_known, run_known, run_rules, search_known, shared_known,
+};
 pub use laws::{
     answers_are_one, check_replies_are_one, least_sets_are_one, protocol_replies_are_one,
     replies_are_one, yes_is_the_answer,

@@ -22,7 +22,10 @@ pub(crate) fn protocol_reply(alloc: Global, text: &[u8]) -> Result<Reply<u8>, Al
 }
 
 /// The reply to a text that is refused. The error is that memory has run out, here or in the reading.
-fn protocol_refused(alloc: Global, error: &ProtocolError) -> Result<Reply<u8>, AllocError>
+pub(crate) fn protocol_refused(
+    alloc: Global,
+    error: &ProtocolError,
+) -> Result<Reply<u8>, AllocError>
     ensures { IfOk result (λ reply. (error.now ≢ ProtocolError.Memory)
         × (string_bytes reply.text ≡ protocol_refusal error.now) × (reply.value ≡ 2)) }
 {

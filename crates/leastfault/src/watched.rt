@@ -1,15 +1,13 @@
 //! The engines, with a watch: each is the same as one without, and tells how far it has come.
 
-ghost use Rattle.std.specs.Prelude.{◌≡◌, false};
+ghost use Rattle.std.specs.Prelude.{◌≡◌, false, None};
 ghost use Rattle.leastfault.specs.Engines.{IsEngine, IsEngineOfBoth, NoCause};
 ghost use Rattle.leastfault.specs.Replies.{IsAnswerReply, IsCheckReply, IsPoolCause, IsSearchedWith, IsSharedWith, reports_of};
 
 use crate::answering::Wanted;
-use crate::checking::judged_in_rows;
 use crate::fault::BytesFault;
-use crate::made::{answer_made, given_made, search_made, shared_made};
+use crate::known::{answer_known, check_known, search_known, shared_known};
 use crate::reply::Searched;
-use crate::sending::send;
 use lf_streams::{Sink, Source};
 use lf_watch::Watch;
 use std::alloc::Global;
@@ -28,11 +26,10 @@ pub fn search_watched<R: Source, W: Sink, V: Watch>(
 ) -> Result<Searched, BytesFault>
     requires reader { R.has_failed reader.old ≡ false }
     requires writer { W.has_failed writer.old ≡ false }
-    ensures { IsEngine R.left R.has_failed (IsSearchedWith (reports_of wanted)) NoCause reader.old reader.new
+    ensures { IsEngine R.left R.has_failed (IsSearchedWith None (reports_of wanted)) NoCause reader.old reader.new
         W.written W.has_failed writer.old writer.new result }
 {
-    let made = search_made(alloc, wanted, reader, watch);
-    send(writer, made)
+    search_known(alloc, None, wanted, reader, writer, watch)
 }
 
 /// The same as `search_shared` where the answer is wanted, and as `all_shared` where all least sets are, with a watch that is told how
@@ -48,11 +45,10 @@ pub fn shared_watched<T: Threads + Wait + Clock + Sync, R: Source, W: Sink, V: W
 ) -> Result<Searched, BytesFault>
     requires reader { R.has_failed reader.old ≡ false }
     requires writer { W.has_failed writer.old ≡ false }
-    ensures { IsEngine R.left R.has_failed (IsSharedWith (reports_of wanted) workers) (IsPoolCause workers) reader.old reader.new
+    ensures { IsEngine R.left R.has_failed (IsSharedWith None (reports_of wanted) workers) (IsPoolCause None workers) reader.old reader.new
         W.written W.has_failed writer.old writer.new result }
 {
-    let made = shared_made(rt, alloc, wanted, workers, reader, watch);
-    send(writer, made)
+    shared_known(rt, alloc, None, wanted, workers, reader, writer, watch)
 }
 
 /// The same as `answer_bytes`, with a watch that is told how far the answer has come.
@@ -64,10 +60,9 @@ pub fn answer_watched<R: Source, W: Sink, V: Watch>(
 ) -> Result<u8, BytesFault>
     requires reader { R.has_failed reader.old ≡ false }
     requires writer { W.has_failed writer.old ≡ false }
-    ensures { IsEngine R.left R.has_failed IsAnswerReply NoCause reader.old reader.new W.written W.has_failed writer.old writer.new result }
+    ensures { IsEngine R.left R.has_failed (IsAnswerReply None) NoCause reader.old reader.new W.written W.has_failed writer.old writer.new result }
 {
-    let made = answer_made(alloc, reader, watch);
-    send(writer, made)
+    answer_known(alloc, None, reader, writer, watch)
 }
 
 /// The same as `check_bytes_rows`, with a watch that is told how far the check has come.
@@ -82,9 +77,8 @@ pub fn check_watched<T: Threads + Sync, R: Source, S: Source, W: Sink, V: Watch>
     requires scenario { R.has_failed scenario_reader.old ≡ false }
     requires tree { S.has_failed tree_reader.old ≡ false }
     requires writer { W.has_failed writer.old ≡ false }
-    ensures { IsEngineOfBoth R.left R.has_failed S.left S.has_failed IsCheckReply NoCause
+    ensures { IsEngineOfBoth R.left R.has_failed S.left S.has_failed (IsCheckReply None) NoCause
         scenario_reader.old scenario_reader.new tree_reader.old tree_reader.new W.written W.has_failed writer.old writer.new result }
 {
-    let given = given_made(alloc, scenario_reader, tree_reader);
-    send(writer, judged_in_rows(rt, alloc, given, watch))
+    check_known(rt, alloc, None, scenario_reader, tree_reader, writer, watch)
 }

@@ -6,10 +6,12 @@ ghost use Rattle.lf_pool.specs.Solved.{AreFoundIn, IsFoundIn, IsFullBook, IsRefu
 ghost use Rattle.lf_scenario.specs.declared.scenario.Scenario.{Scenario};
 ghost use Rattle.leastfault.specs.declared.answering.Wanted.{Wanted};
 ghost use Rattle.leastfault.specs.declared.answering.Wanted.TheVariants as wanted;
+ghost use Rattle.leastfault.specs.Known.{known_of};
 ghost use Rattle.leastfault.specs.Searches.{IsEndFor, IsEndIn, IsFoundFor};
 
 use crate::answering::{Wanted, full, refused, search_status};
 use crate::fault::BytesFault;
+use crate::known::read_known;
 use crate::laws::limits_are_kept;
 use crate::reply::{Reply, Searched, without_tree};
 use crate::telling::Told;
@@ -17,9 +19,10 @@ use crate::{all_report, report};
 use lf_book::Book;
 use lf_faults::FaultSet;
 use lf_pool::{PoolError, Solved, SolvedAll};
-use lf_scenario::{Scenario, read};
+use lf_scenario::Scenario;
 use lf_tree::Tree;
 use lf_watch::Watch;
+use lf_written::ProtocolFile;
 use std::alloc::{AllocError, Global};
 use std::rt::Clock;
 use std::sync::{Arc, Wait};
@@ -29,14 +32,15 @@ use std::thread::Threads;
 pub(crate) fn shared_reply<R: Threads + Wait + Clock + Sync, V: Watch>(
     rt: &R,
     alloc: Global,
+    known: Option<&ProtocolFile>,
     wanted: Wanted,
     workers: u32,
     text: &[u8],
     watch: &V,
 ) -> Result<Reply<Searched>, BytesFault>
-    ensures { IsEndIn wanted workers text.now result }
+    ensures { IsEndIn (known_of known.entry) wanted workers text.now result }
 {
-    match read(alloc, text) {
+    match read_known(alloc, text, known) {
         Ok(scenario) => searched(rt, alloc, wanted, workers, scenario, watch),
         Err(error) => {
             let refusal = refused(alloc, error)?;

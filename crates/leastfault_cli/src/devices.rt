@@ -45,12 +45,28 @@ pub(crate) fn opened(rt: &HostRuntime, file: Option<&str>) -> Result<Text, Stop>
     let input = match file {
         None => Input::Nothing,
         Some("-") => Input::Standard(rt.stdin()),
-        Some(file) => match File::open(rt, file) {
-            Ok(file) => Input::File(file),
-            Err(error) => return Err(Stop::at(rt.alloc(), BytesFault::Read, file, &error)),
-        },
+        Some(file) => file_opened(rt, file)?,
     };
     Ok(Kept::new(rt.alloc(), FromRead::new(input)))
+}
+
+/// A file of this name that can be read, also where it is `-`, or nothing where none is named.
+pub(crate) fn opened_by_name(rt: &HostRuntime, file: Option<&str>) -> Result<Text, Stop>
+    ensures { IfOk result (λ text. ⟦<Text as Source>⟧.has_failed text ≡ false) }
+{
+    let input = match file {
+        None => Input::Nothing,
+        Some(file) => file_opened(rt, file)?,
+    };
+    Ok(Kept::new(rt.alloc(), FromRead::new(input)))
+}
+
+/// A file that can be read.
+fn file_opened(rt: &HostRuntime, file: &str) -> Result<Input, Stop> {
+    match File::open(rt, file) {
+        Ok(file) => Ok(Input::File(file)),
+        Err(error) => Err(Stop::at(rt.alloc(), BytesFault::Read, file, &error)),
+    }
 }
 
 /// Makes a file that has these bytes and no others.

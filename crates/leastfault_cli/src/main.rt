@@ -1,11 +1,13 @@
 //! The program `leastfault`: it reads a scenario and prints the fewest faults that defeat its outcome, or one run, or whether
 //! a certificate of its answer is right; or it reads a protocol file and prints whether it is one.
 //!
-//!     leastfault search FILE [--all] [--tree TREE] [--workers N] [--quiet]
-//!     leastfault answer FILE [--quiet]
-//!     leastfault run FILE FAULTS
-//!     leastfault check FILE TREE [--quiet]
+//!     leastfault search FILE [--protocol PROTOCOL] [--all] [--tree TREE] [--workers N] [--quiet]
+//!     leastfault answer FILE [--protocol PROTOCOL] [--quiet]
+//!     leastfault run FILE FAULTS [--protocol PROTOCOL [--rules]]
+//!     leastfault check FILE TREE [--protocol PROTOCOL] [--quiet]
 //!     leastfault protocol FILE
+//!
+//! PROTOCOL is the file of a protocol that the scenario names besides the shipped ones, always a file's name, also where it is `-`.
 //!
 //! FILE is a scenario, or for `protocol` a protocol file, and `-` is standard input. FAULTS are faults joined by single commas, and the
 //! empty word is none. TREE is a certificate, and `-` is standard input; it can't be that of FILE and of TREE at once. With no words it is
@@ -14,6 +16,9 @@
 //!
 //! `answer` prints what `search` does, by another way: it keeps configurations of the cluster and no sets, so no level can be too full, and
 //! it makes no certificate.
+//!
+//! With `--protocol` the scenario may name the protocol of that file, and give its constants anew; `run --rules` prints under each step which
+//! of its rules each node took.
 //!
 //! `protocol` prints `ok` where the file is a protocol file, and else `refused protocol NUMBER PLACE`, without the place where the file as
 //! a whole is refused.
@@ -25,7 +30,8 @@
 //! with the device on the next line, or `pool NUMBER`.
 //!
 //! Where the status is 2, standard error says in words what is wrong with what was refused. Where a protocol file is one, it says what the
-//! file has, and what in it looks like a slip. Else it stays empty where all is well. But where it is a terminal, a search, an answer or a
+//! file has, and what in it looks like a slip. Of a search and a run with `--protocol` it says where the run without faults passes a range or
+//! replaces a note. Else it stays empty where all is well. But where it is a terminal, a search, an answer or a
 //! check that takes longer than a second says on one line there how far it has come, and erases that line before it replies. With
 //! `--quiet` it doesn't.
 #![tactic(auto)]
@@ -35,12 +41,16 @@ mod kept;
 mod line;
 mod stop;
 
-use devices::{Text, name_of, opened, print, put};
+use devices::{Text, name_of, opened, opened_by_name, print, put};
 use leastfault::{
-    Asked, BytesFault, Certified, Reply, TreeFault, Unasked, asked, certificate_file, execute,
-    read_protocol, tree_file,
+    Asked, BytesFault, Certified, ProtocolFile, Reply, TreeFault, Unasked, asked, certificate_file,
+    execute, read_known, read_protocol, tree_file,
 };
-use lf_hints::{all_hint, check_hint, run_hint, search_hint, see_hint, tree_hint, verdict_hint};
+use lf_hints::{
+    Wanted, all_hint, certificate_hint, check_hint, judged_hint, level_hint, run_hint, search_hint,
+    see_hint, set_hint, tree_hint, verdict_hint,
+};
+use lf_own_hints::{own_hint, run_notes};
 use lf_protocol_hints::{protocol_hint, protocol_notes};
 use line::Line;
 use std::alloc::{AllocError, Global};
@@ -102,24 +112,48 @@ fn told(rt: &HostRuntime, unasked: &Unasked) -> Result<u8, Stop> {
     Ok(unasked.status())
 }
 
+/// The files that a command reads.
+#[derive(Drop)]
+struct Files {
+    /// That of the protocol besides the shipped ones.
+    protocol: Text,
+    scenario: Text,
+    /// That of the certificate.
+    tree: Text,
+}
+
 /// Does what is asked with the files that are named. The answer is the status.
 fn done(
     rt: &HostRuntime,
     threads: &(impl Threads + Wait + Clock + Sync),
     asked: &Asked,
 ) -> Result<u8, Stop> {
+    let mut protocol = opened_by_name(rt, asked.protocol_file())?;
     let mut scenario = opened(rt, Some(asked.file()))?;
     let mut tree = opened(rt, tree_file(asked))?;
     let line = Line::new(rt, is_quiet(asked));
-    let ended = execute(threads, rt.alloc(), asked, &mut scenario, &mut tree, &line);
+    let ended = execute(
+        threads,
+        rt.alloc(),
+        asked,
+        &mut protocol,
+        &mut scenario,
+        &mut tree,
+        &line,
+    );
     line.erase();
+    let files = Files {
+        protocol,
+        scenario,
+        tree,
+    };
     match ended {
         Ok(reply) => {
             written(rt, asked, &reply)?;
-            hint(rt, asked, &reply, &scenario, &tree);
+            hint(rt, asked, &reply, &files);
             Ok(reply.value.status)
         }
-        Err(fault) => Err(stopped(rt.alloc(), fault, asked, &scenario, &tree)),
+        Err(fault) => Err(stopped(rt.alloc(), fault, asked, &files)),
     }
 }
 
@@ -134,16 +168,17 @@ fn is_quiet(asked: &Asked) -> bool {
 }
 
 /// Why what was asked for wasn't done: a fault, and the file that couldn't be read with the system's reason, where one couldn't.
-fn stopped(alloc: Global, fault: BytesFault, asked: &Asked, scenario: &Text, tree: &Text) -> Stop {
-    match (scenario.device().error(), tree.device().error()) {
-        (Some(error), _) => Stop::at(alloc, fault, name_of(asked.file()), error),
-        (None, Some(error)) => Stop::at(
-            alloc,
-            fault,
-            name_of(tree_file(asked).unwrap_or("-")),
-            error,
-        ),
-        (None, None) => Stop::from(fault),
+fn stopped(alloc: Global, fault: BytesFault, asked: &Asked, files: &Files) -> Stop {
+    let named = asked.protocol_file().unwrap_or("-");
+    let judged = tree_file(asked).unwrap_or("-");
+    if let Some(error) = files.protocol.device().error() {
+        Stop::at(alloc, fault, named, error)
+    } else if let Some(error) = files.scenario.device().error() {
+        Stop::at(alloc, fault, name_of(asked.file()), error)
+    } else if let Some(error) = files.tree.device().error() {
+        Stop::at(alloc, fault, name_of(judged), error)
+    } else {
+        Stop::from(fault)
     }
 }
 
@@ -157,35 +192,83 @@ fn written(rt: &HostRuntime, asked: &Asked, reply: &Reply<Certified>) -> Result<
 
 /// Says on standard error what is wrong with what was refused, or with a certificate, what a protocol file has, and on a terminal how to see
 /// what a set does that was found: as far as there is memory for it.
-fn hint(rt: &HostRuntime, asked: &Asked, reply: &Reply<Certified>, scenario: &Text, tree: &Text) {
-    let (Some(text), Some(certificate)) = (scenario.bytes(), tree.bytes()) else {
+fn hint(rt: &HostRuntime, asked: &Asked, reply: &Reply<Certified>, files: &Files) {
+    let (Some(protocol), Some(text), Some(certificate)) = (
+        files.protocol.bytes(),
+        files.scenario.bytes(),
+        files.tree.bytes(),
+    ) else {
         return;
     };
-    let words = match reply.value.status {
-        0 => read_hint(rt.alloc(), asked, text),
-        1 if rt.stderr().is_terminal() => found_hint(
-            rt.alloc(),
-            asked,
-            reply.text.as_str(),
-            text,
-            certificate,
-        ),
-        1 => wrong_hint(rt.alloc(), asked, reply.text.as_str(), text, certificate),
-        2 => refused_hint(rt.alloc(), asked, reply.text.as_str(), text, certificate),
-        _ => return,
+    let texts = Texts {
+        protocol,
+        scenario: text,
+        certificate,
     };
-    if let Ok(words) = words {
+    if let Ok(words) = words_of(rt, asked, reply, &texts) {
         if !words.is_empty() {
             let _told = eprintln!(rt; "{words}").is_ok();
         }
     }
 }
 
-/// What to say of a protocol file that was read, and of nothing else.
-fn read_hint(alloc: Global, asked: &Asked, text: &[u8]) -> Result<String, AllocError> {
-    match asked {
-        Asked::Protocol { .. } => protocol_words(alloc, text),
-        _ => Ok(String::new(alloc)),
+/// The texts that a command read.
+#[derive(Clone, Copy)]
+struct Texts<'a> {
+    protocol: &'a [u8],
+    scenario: &'a [u8],
+    certificate: &'a [u8],
+}
+
+/// What to say of a reply, in words; nothing where all is well.
+fn words_of(
+    rt: &HostRuntime,
+    asked: &Asked,
+    reply: &Reply<Certified>,
+    texts: &Texts<'_>,
+) -> Result<String, AllocError> {
+    let alloc = rt.alloc();
+    let told = reply.text.as_str();
+    if let Asked::Protocol { .. } = asked {
+        return protocol_words(alloc, texts.scenario);
+    }
+    let words = match reply.value.status {
+        1 if rt.stderr().is_terminal() => found_hint(alloc, asked, told, texts)?,
+        1 => wrong_hint(alloc, asked, told, texts)?,
+        2 => return refused_hint(alloc, asked, told, texts),
+        _ => String::new(alloc),
+    };
+    with_notes(alloc, asked, words, texts)
+}
+
+/// The words, behind what has to be said of the run without faults of a protocol file's scenario.
+fn with_notes(
+    alloc: Global,
+    asked: &Asked,
+    words: String,
+    texts: &Texts<'_>,
+) -> Result<String, AllocError> {
+    let mut notes = notes_of(alloc, asked, texts)?;
+    if !notes.is_empty() && !words.is_empty() {
+        notes.push('\n')?;
+    }
+    notes.push_str(words.as_str())?;
+    Ok(notes)
+}
+
+/// Where the run without faults passes a range or replaces a note: of a search or a run of a protocol file's scenario.
+fn notes_of(alloc: Global, asked: &Asked, texts: &Texts<'_>) -> Result<String, AllocError> {
+    if asked.protocol_file().is_none()
+        || !matches!(asked, Asked::Search { .. } | Asked::Run { .. })
+    {
+        return Ok(String::new(alloc));
+    }
+    let Ok(file) = read_protocol(alloc, texts.protocol) else {
+        return Ok(String::new(alloc));
+    };
+    match read_known(alloc, texts.scenario, Some(&file)) {
+        Ok(scenario) => run_notes(alloc, &scenario),
+        Err(_) => Ok(String::new(alloc)),
     }
 }
 
@@ -202,14 +285,18 @@ fn found_hint(
     alloc: Global,
     asked: &Asked,
     reply: &str,
-    text: &[u8],
-    certificate: &[u8],
+    texts: &Texts<'_>,
 ) -> Result<String, AllocError> {
     match asked {
         Asked::Search { file, .. } | Asked::Answer { file, .. } if file.as_str() != "-" => {
-            see_hint(alloc, file.as_str(), reply.as_bytes())
+            see_hint(
+                alloc,
+                file.as_str(),
+                asked.protocol_file(),
+                reply.as_bytes(),
+            )
         }
-        _ => wrong_hint(alloc, asked, reply, text, certificate),
+        _ => wrong_hint(alloc, asked, reply, texts),
     }
 }
 
@@ -218,11 +305,22 @@ fn wrong_hint(
     alloc: Global,
     asked: &Asked,
     reply: &str,
-    text: &[u8],
-    certificate: &[u8],
+    texts: &Texts<'_>,
 ) -> Result<String, AllocError> {
-    match asked {
-        Asked::Check { .. } => verdict_hint(alloc, text, certificate, reply.as_bytes()),
+    match (asked, asked.protocol_file()) {
+        (Asked::Check { .. }, None) => {
+            verdict_hint(alloc, texts.scenario, texts.certificate, reply.as_bytes())
+        }
+        (Asked::Check { .. }, Some(_)) => match read_protocol(alloc, texts.protocol) {
+            Ok(file) => own_verdict_hint(
+                alloc,
+                &file,
+                texts.scenario,
+                texts.certificate,
+                reply.as_bytes(),
+            ),
+            Err(_) => Ok(String::new(alloc)),
+        },
         _ => Ok(String::new(alloc)),
     }
 }
@@ -232,17 +330,77 @@ fn refused_hint(
     alloc: Global,
     asked: &Asked,
     reply: &str,
-    text: &[u8],
-    certificate: &[u8],
+    texts: &Texts<'_>,
 ) -> Result<String, AllocError> {
+    if asked.protocol_file().is_some() {
+        return match read_protocol(alloc, texts.protocol) {
+            Ok(file) => known_hint(alloc, asked, &file, reply, texts),
+            Err(error) => protocol_hint(alloc, texts.protocol, &error),
+        };
+    }
+    let text = texts.scenario;
+    let words = match asked {
+        Asked::Search { .. } if reply.starts_with("refused tree") => {
+            tree_hint(alloc, &[], TreeFault::TooLong)?
+        }
+        Asked::Search { all: true, .. } => all_hint(alloc, text, reply.as_bytes())?,
+        Asked::Search { .. } | Asked::Answer { .. } => search_hint(alloc, text, reply.as_bytes())?,
+        Asked::Run { faults, .. } => run_hint(alloc, text, faults.as_str())?,
+        Asked::Check { .. } => check_hint(alloc, text, texts.certificate)?,
+        Asked::Protocol { .. } => String::new(alloc),
+    };
+    with_option(alloc, reply, words)
+}
+
+/// The words, and that `--protocol` may have been forgotten, where the protocol is unknown or constants are given.
+fn with_option(alloc: Global, reply: &str, words: String) -> Result<String, AllocError> {
+    if reply.starts_with("refused 9 ") {
+        format!(in alloc; "{words}; the file of a protocol of your own is named by --protocol FILE")
+    } else if words.as_str().starts_with("\"given\"") {
+        format!(in alloc;
+            "{words}; scenarios of a protocol file have it: name the file by --protocol FILE"
+        )
+    } else {
+        Ok(words)
+    }
+}
+
+/// The same where the protocol of a file is known.
+fn known_hint(
+    alloc: Global,
+    asked: &Asked,
+    file: &ProtocolFile,
+    reply: &str,
+    texts: &Texts<'_>,
+) -> Result<String, AllocError> {
+    let scenario = match read_known(alloc, texts.scenario, Some(file)) {
+        Ok(scenario) => scenario,
+        Err(error) => return own_hint(alloc, texts.scenario, file, error),
+    };
     match asked {
         Asked::Search { .. } if reply.starts_with("refused tree") => {
             tree_hint(alloc, &[], TreeFault::TooLong)
         }
-        Asked::Search { all: true, .. } => all_hint(alloc, text, reply.as_bytes()),
-        Asked::Search { .. } | Asked::Answer { .. } => search_hint(alloc, text, reply.as_bytes()),
-        Asked::Run { faults, .. } => run_hint(alloc, text, faults.as_str()),
-        Asked::Check { .. } => check_hint(alloc, text, certificate),
-        Asked::Protocol { .. } => protocol_words(alloc, text),
+        Asked::Search { all: true, .. } => {
+            level_hint(alloc, &scenario, Wanted::AllLeast, reply.as_bytes())
+        }
+        Asked::Search { .. } => level_hint(alloc, &scenario, Wanted::Answer, reply.as_bytes()),
+        Asked::Run { faults, .. } => set_hint(alloc, &scenario, faults.as_str()),
+        Asked::Check { .. } => certificate_hint(alloc, texts.certificate),
+        Asked::Answer { .. } | Asked::Protocol { .. } => Ok(String::new(alloc)),
+    }
+}
+
+/// What is wrong with a certificate of a scenario of the file's protocol.
+fn own_verdict_hint(
+    alloc: Global,
+    file: &ProtocolFile,
+    text: &[u8],
+    certificate: &[u8],
+    reply: &[u8],
+) -> Result<String, AllocError> {
+    match read_known(alloc, text, Some(file)) {
+        Ok(scenario) => judged_hint(alloc, &scenario, certificate, reply),
+        Err(_) => Ok(String::new(alloc)),
     }
 }

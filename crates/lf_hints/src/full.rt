@@ -5,7 +5,7 @@ use lf_scenario::MOST_SETS;
 
 /// What a search was to tell.
 #[derive(Clone, Copy, Debug, PartialEq, Eq)]
-pub(crate) enum Wanted {
+pub enum Wanted {
     /// The answer.
     Answer,
     /// All least sets.

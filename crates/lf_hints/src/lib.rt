@@ -23,5 +23,10 @@ mod texts;
 mod tree;
 mod verdict;
 
-pub use texts::{all_hint, check_hint, run_hint, search_hint, see_hint, verdict_hint};
+pub use full::Wanted;
+pub use scenario::scenario_hint;
+pub use texts::{
+    all_hint, certificate_hint, check_hint, judged_hint, level_hint, run_hint, search_hint,
+    see_hint, set_hint, verdict_hint,
+};
 pub use tree::tree_hint;

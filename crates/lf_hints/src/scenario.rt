@@ -11,7 +11,7 @@ use std::alloc::{AllocError, Global};
 use toml::{Table, Value};
 
 /// What is wrong with a text that `lf_scenario`'s `read` refuses with this error. The error here is that memory has run out.
-pub(crate) fn scenario_hint(
+pub fn scenario_hint(
     alloc: Global,
     text: &[u8],
     error: ScenarioError,

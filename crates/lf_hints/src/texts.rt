@@ -7,8 +7,7 @@ use crate::scenario::scenario_hint;
 use crate::see::run_command;
 use crate::tree::tree_hint;
 use crate::verdict::verdict_hint as hint_of;
-use lf_faults::FaultSpec;
-use lf_scenario::{ScenarioError, read};
+use lf_scenario::{Scenario, ScenarioError, read};
 use lf_tree::{TreeFault, read_tree};
 use std::alloc::{AllocError, Global};
 
@@ -30,23 +29,38 @@ fn search_hint_for(
     wanted: Wanted,
     reply: &[u8],
 ) -> Result<String, AllocError> {
-    match limits(alloc, text) {
-        Ok((_spec, most)) => told(alloc, full_hint(most, wanted, reply)),
+    match read(alloc, text) {
+        Ok(scenario) => level_hint(alloc, &scenario, wanted, reply),
         Err(error) => scenario_hint(alloc, text, error),
     }
+}
+
+/// What to do where a level of a scenario's search had too many sets, by its reply. Nothing where the reply is another.
+pub fn level_hint(
+    alloc: Global,
+    scenario: &Scenario,
+    wanted: Wanted,
+    reply: &[u8],
+) -> Result<String, AllocError> {
+    told(alloc, full_hint(scenario.max_sets(), wanted, reply))
 }
 
 /// What is wrong with the text of a scenario, or else with the words for a set of faults.
 pub fn run_hint(alloc: Global, text: &[u8], faults: &str) -> Result<String, AllocError> {
-    match limits(alloc, text) {
-        Ok((spec, _most)) => told(alloc, faults_hint(&spec, faults)),
+    match read(alloc, text) {
+        Ok(scenario) => set_hint(alloc, &scenario, faults),
         Err(error) => scenario_hint(alloc, text, error),
     }
 }
 
+/// What is wrong with the words for a set of faults of a scenario.
+pub fn set_hint(alloc: Global, scenario: &Scenario, faults: &str) -> Result<String, AllocError> {
+    told(alloc, faults_hint(&scenario.setting().spec, faults))
+}
+
 /// What is wrong with the text of a scenario, or else with that of a certificate.
 pub fn check_hint(alloc: Global, text: &[u8], certificate: &[u8]) -> Result<String, AllocError> {
-    match limits(alloc, text) {
+    match read(alloc, text) {
         Ok(_) => certificate_hint(alloc, certificate),
         Err(error) => scenario_hint(alloc, text, error),
     }
@@ -60,32 +74,41 @@ pub fn verdict_hint(
     certificate: &[u8],
     reply: &[u8],
 ) -> Result<String, AllocError> {
-    let spec = match limits(alloc, text) {
-        Ok((spec, _most)) => spec,
-        Err(ScenarioError::Memory) => return Err(AllocError),
-        Err(_) => return Ok(String::new(alloc)),
-    };
+    match read(alloc, text) {
+        Ok(scenario) => judged_hint(alloc, &scenario, certificate, reply),
+        Err(ScenarioError::Memory) => Err(AllocError),
+        Err(_) => Ok(String::new(alloc)),
+    }
+}
+
+/// The same for a scenario and the text of a certificate.
+pub fn judged_hint(
+    alloc: Global,
+    scenario: &Scenario,
+    certificate: &[u8],
+    reply: &[u8],
+) -> Result<String, AllocError> {
     match read_tree(alloc, certificate) {
-        Ok(tree) => told(alloc, hint_of(&spec, &tree, reply)),
+        Ok(tree) => told(alloc, hint_of(&scenario.setting().spec, &tree, reply)),
         Err(TreeFault::Memory) => Err(AllocError),
         Err(_) => Ok(String::new(alloc)),
     }
 }
 
 /// How to see what the set of faults does that the reply of a search or of an answer tells, or the first of several: the command
-/// `leastfault run FILE FAULTS`, for the file of the scenario as a shell takes it. Nothing where the reply tells of no set.
-pub fn see_hint(alloc: Global, file: &str, reply: &[u8]) -> Result<String, AllocError> {
-    told(alloc, run_command(file, reply))
-}
-
-/// What bounds the faults of a text's scenario, and how many sets of one size its search keeps at most.
-fn limits(alloc: Global, text: &[u8]) -> Result<(FaultSpec, u32), ScenarioError> {
-    let scenario = read(alloc, text)?;
-    Ok((scenario.setting().spec, scenario.max_sets()))
+/// `leastfault run FILE FAULTS`, with `--protocol PROTOCOL` where a protocol's file is named, for files as a shell takes them. Nothing where
+/// the reply tells of no set.
+pub fn see_hint(
+    alloc: Global,
+    file: &str,
+    protocol: Option<&str>,
+    reply: &[u8],
+) -> Result<String, AllocError> {
+    told(alloc, run_command(file, protocol, reply))
 }
 
 /// What is wrong with the text of a certificate.
-fn certificate_hint(alloc: Global, certificate: &[u8]) -> Result<String, AllocError> {
+pub fn certificate_hint(alloc: Global, certificate: &[u8]) -> Result<String, AllocError> {
     match read_tree(alloc, certificate) {
         Ok(_) => Ok(String::new(alloc)),
         Err(fault) => tree_hint(alloc, certificate, fault),

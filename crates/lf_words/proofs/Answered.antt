@@ -1,5 +1,5 @@
 -- What an answer says, from what is known of it for all words.
-use Rattle.std.proofs.Common.{◌≡◌, ℕ, List, String, Global, map, true, codes, [], ◌∷◌, subst, sym, arith}
+use Rattle.std.proofs.Common.{◌≡◌, ℕ, List, String, Global, map, true, codes, [], ◌∷◌, inr, subst, sym, arith}
 use Rattle.std.specs.Prelude.{◌⊎◌, Option, None, Some, Result, Ok, Err, IfOk, MatchResult, IsErrAnd}
 use Rattle.std.specs.String.{string_bytes}
 use Rattle.clap.specs.Words.{Row, Text, first_of, subcommand_of}
@@ -27,7 +27,7 @@ bars_over a unasked.Memory over is = tt
 
 barred : (words : List Text) (a : Asked) (u : Unasked) → Asks words a → IsBarred a u → IsRefusal words u
 barred words a (unasked.Told text) asks bars = absurd bars
-barred words a (unasked.Wrong text) asks bars = absurd bars
+barred words a (unasked.Wrong text) asks bars = inr (inr (a, asks, bars))
 barred words a (unasked.Workers text) asks bars = absurd bars
 barred words a (unasked.Overwrites text) asks bars = (a, asks, bars)
 barred words a unasked.SharedInput asks bars = (a, asks, bars)
@@ -82,10 +82,10 @@ named_range (Some text) n is = is.2
 
 asked_range : (words : List Text) (o : Option (Text × List Row)) (a : Asked) → IsAskedIn words o a → IsWorkers (workers_of a)
 asked_range words None a h = elim h [ ]
-asked_range words (Some p) (asked.Search file tree all workers quiet) h = named_range (first_of (codes "workers") p.1) workers h.0.4
-asked_range words (Some p) (asked.Run file faults) h = (omega arith, omega arith)
-asked_range words (Some p) (asked.Check file tree quiet) h = (omega arith, omega arith)
-asked_range words (Some p) (asked.Answer file quiet) h = (omega arith, omega arith)
+asked_range words (Some p) (asked.Search file tree all workers quiet protocol) h = named_range (first_of (codes "workers") p.1) workers h.0.4
+asked_range words (Some p) (asked.Run file faults rules protocol) h = (omega arith, omega arith)
+asked_range words (Some p) (asked.Check file tree quiet protocol) h = (omega arith, omega arith)
+asked_range words (Some p) (asked.Answer file quiet protocol) h = (omega arith, omega arith)
 asked_range words (Some p) (asked.Protocol file) h = (omega arith, omega arith)
 
 pub range_of : (words : List Text) (r : Result Asked Unasked) → Answers words r → IfOk r (λ a. IsWorkers (workers_of a))

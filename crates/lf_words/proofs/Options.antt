@@ -1,5 +1,5 @@
 -- Searches with one option.
-use Rattle.std.proofs.Common.{◌≡◌, ◌&&◌, not, ◌∙◌, ℕ, List, [], ◌∷◌, Option, Some, None, String, Global, inl, inr, refl, sym, ap, subst}
+use Rattle.std.proofs.Common.{◌≡◌, ◌&&◌, ◌||◌, not, ◌∙◌, ℕ, List, [], ◌∷◌, Option, Some, None, String, Global, inl, inr, refl, sym, ap, subst}
 use Rattle.std.proofs.Common.{true, false, codes, map, option_map}
 use Rattle.std.specs.Prelude.{Bool}
 use Rattle.std.specs.Str.{bytes_eq}
@@ -10,7 +10,7 @@ use Rattle.clap.specs.Words.{Kinds, Row, Text, fault_of, subcommand_of}
 use Rattle.lf_words.specs.Commands.{program}
 use Rattle.lf_words.specs.Plain.{is_overwriting, is_plain}
 use Rattle.lf_words.specs.Words.{AreNamed, Asks, HasStatus, IsAskedIn, IsRefusal, IsUncounted, IsOfWorkers, IsOverwriting}
-use Rattle.lf_words.specs.Words.{is_input, overwrites, shares_input, workers_of}
+use Rattle.lf_words.specs.Words.{has_name, is_input, lacks_protocol, overwrites, shares_input, workers_of}
 use Rattle.lf_words.specs.declared.types.Asked.{Asked}
 use Rattle.lf_words.specs.declared.types.Asked.TheVariants as asked
 use Rattle.lf_words.specs.declared.unasked.Unasked.{Unasked}
@@ -19,57 +19,60 @@ use Rattle.lf_words.proofs.Plain.{counted_fault, counted_names, is_taken, named_
 use Rattle.lf_words.proofs.Plainly.{Search, answer_or_search, both, check_or_search, no_thing, protocol_or_search, run_or_search, some_is}
 use Rattle.lf_words.proofs.Reading.{no_truth}
 
--- a certificate for the scenario of a file would be written into it
-abbrev is_over : Text → Option Text → Bool
-is_over file None = false
-is_over file (Some tree) = not (is_input file) && bytes_eq file tree
+-- a certificate for the scenario of a file would be written into it, or into the file of its protocol
+abbrev is_over : Text → Option Text → Option Text → Bool
+is_over file None protocol = false
+is_over file (Some tree) protocol = (not (is_input file) && bytes_eq file tree) || has_name tree protocol
 
-over_is : (file : String Global) (tree : Option (String Global)) (all : Bool) (workers : ℕ) (quiet : Bool)
-    → overwrites (asked.Search file tree all workers quiet) ≡ is_over file.bytes.items (option_map (λ t. t.bytes.items) tree)
-over_is file None all workers quiet = refl
-over_is file (Some tree) all workers quiet = refl
+over_is : (file : String Global) (tree : Option (String Global)) (all : Bool) (workers : ℕ) (quiet : Bool) (protocol : Option (String Global))
+    → overwrites (asked.Search file tree all workers quiet protocol)
+    ≡ is_over file.bytes.items (option_map (λ t. t.bytes.items) tree) (option_map (λ t. t.bytes.items) protocol)
+over_is file None all workers quiet protocol = refl
+over_is file (Some tree) all workers quiet protocol = refl
 
--- what a search with these options is
+-- what a search of a shipped protocol with these options is
 record IsSearch (file : Text) (tree workers : Option Text) (a : Asked) : Type 0 where
-  over : overwrites a ≡ is_over file tree
+  over : overwrites a ≡ is_over file tree None
+  ruled : lacks_protocol a ≡ false
   apart : shares_input a ≡ false
   named : AreNamed workers (workers_of a)
 
 search_is : (words : List Text) (o : Option (Text × List Row)) (file : Text) (tree : Option Text) (all : Bool) (workers : Option Text) (quiet : Bool)
-    (a : Asked) → option_map named_search o ≡ Some (codes "search", Some file, tree, all, workers, quiet)
+    (a : Asked) → option_map named_search o ≡ Some (codes "search", Some file, tree, all, workers, quiet, None)
     → IsAskedIn words o a → IsSearch file tree workers a
 search_is words None file tree all workers quiet a names asked = elim asked [ ]
-search_is words (Some p) file tree all workers quiet (asked.Search own own_tree own_all own_workers own_quiet) names asked =
-    let found : named_search p ≡ (codes "search", Some file, tree, all, workers, quiet) = some_is _ _ names in
+search_is words (Some p) file tree all workers quiet (asked.Search own own_tree own_all own_workers own_quiet own_protocol) names asked =
+    let found : named_search p ≡ (codes "search", Some file, tree, all, workers, quiet, None) = some_is _ _ names in
     let same : own.bytes.items ≡ file = some_is _ _ (sym asked.0.1 ∙ ap (λ (q : Search). q.1) found) in
     let same_tree : option_map (λ t. t.bytes.items) own_tree ≡ tree = sym asked.0.2 ∙ ap (λ (q : Search). q.2) found in
+    let same_protocol : option_map (λ t. t.bytes.items) own_protocol ≡ None = sym asked.0.6 ∙ ap (λ (q : Search). q.6) found in
     record {
-      over = over_is own own_tree own_all own_workers own_quiet ∙ (ap (λ f. is_over f (option_map (λ t. t.bytes.items) own_tree)) same
-          ∙ ap (is_over file) same_tree);
+      over = over_is own own_tree own_all own_workers own_quiet own_protocol ∙ rw (same, same_tree, same_protocol) refl;
+      ruled = refl;
       apart = refl;
       named = subst (λ o. AreNamed o own_workers) (ap (λ (q : Search). q.4) found) asked.0.4;
     }
-search_is words (Some p) file tree all workers quiet (asked.Run own faults) names asked =
-    let found : named_search p ≡ (codes "search", Some file, tree, all, workers, quiet) = some_is _ _ names in
+search_is words (Some p) file tree all workers quiet (asked.Run own faults rules protocol) names asked =
+    let found : named_search p ≡ (codes "search", Some file, tree, all, workers, quiet, None) = some_is _ _ names in
     absurd (run_or_search p.0 asked.0.0 (ap (λ (q : Search). q.0) found))
-search_is words (Some p) file tree all workers quiet (asked.Check own own_tree own_quiet) names asked =
-    let found : named_search p ≡ (codes "search", Some file, tree, all, workers, quiet) = some_is _ _ names in
+search_is words (Some p) file tree all workers quiet (asked.Check own own_tree own_quiet own_protocol) names asked =
+    let found : named_search p ≡ (codes "search", Some file, tree, all, workers, quiet, None) = some_is _ _ names in
     absurd (check_or_search p.0 asked.0.0 (ap (λ (q : Search). q.0) found))
-search_is words (Some p) file tree all workers quiet (asked.Answer own own_quiet) names asked =
-    let found : named_search p ≡ (codes "search", Some file, tree, all, workers, quiet) = some_is _ _ names in
+search_is words (Some p) file tree all workers quiet (asked.Answer own own_quiet own_protocol) names asked =
+    let found : named_search p ≡ (codes "search", Some file, tree, all, workers, quiet, None) = some_is _ _ names in
     absurd (answer_or_search p.0 asked.0.0 (ap (λ (q : Search). q.0) found))
 search_is words (Some p) file tree all workers quiet (asked.Protocol own) names asked =
-    let found : named_search p ≡ (codes "search", Some file, tree, all, workers, quiet) = some_is _ _ names in
+    let found : named_search p ≡ (codes "search", Some file, tree, all, workers, quiet, None) = some_is _ _ names in
     absurd (protocol_or_search p.0 asked.0.0 (ap (λ (q : Search). q.0) found))
 
 -- search FILE --workers N
 
 uncounted_is : (o : Option (Text × List Row)) (file number : Text)
-    → option_map named_search o ≡ Some (codes "search", Some file, None, false, Some number, false)
+    → option_map named_search o ≡ Some (codes "search", Some file, None, false, Some number, false, None)
     → ((n : ℕ) → AreNamed (Some number) n → ⊥) → IsUncounted o
 uncounted_is None file number names none = absurd (no_thing _ names)
 uncounted_is (Some p) file number names none =
-    let found : named_search p ≡ (codes "search", Some file, None, false, Some number, false) = some_is _ _ names in (
+    let found : named_search p ≡ (codes "search", Some file, None, false, Some number, false, None) = some_is _ _ names in (
       ap (λ (q : Search). q.0) found,
       λ n named. none n (subst (λ o. AreNamed o n) (ap (λ (q : Search). q.4) found) named),
     )
@@ -94,9 +97,11 @@ only_workers file number (unasked.Told text) plain plain_too none refusal =
     absurd (subst (λ (kinds : Kinds). HasStatus kinds 0) (counted_fault file number (is_taken file plain) (is_taken number plain_too)) refusal)
 only_workers file number (unasked.Wrong text) plain plain_too none (inl kind) =
     absurd (subst (λ (kinds : Kinds). HasStatus kinds 2) (counted_fault file number (is_taken file plain) (is_taken number plain_too)) kind)
-only_workers file number (unasked.Wrong text) plain plain_too none (inr nothing) =
+only_workers file number (unasked.Wrong text) plain plain_too none (inr (inl nothing)) =
     absurd (nothing.2 (uncounted_is (subcommand_of program (with_workers file number)) file number
     (counted_names file number (is_taken file plain) (is_taken number plain_too)) none))
+only_workers file number (unasked.Wrong text) plain plain_too none (inr (inr lacking)) =
+    absurd (no_truth (sym (workers_search file number lacking.0 plain plain_too lacking.1).ruled ∙ lacking.2))
 only_workers file number (unasked.Workers text) plain plain_too none refusal = tt
 only_workers file number (unasked.Overwrites text) plain plain_too none over =
     absurd (none (workers_of over.0) (workers_search file number over.0 plain plain_too over.1).named)
@@ -118,7 +123,7 @@ record IsOver (command file name tree : Text) : Type 0 where
   searches : command ≡ codes "search"
   writes : name ≡ codes "--tree"
   plain : is_plain file ≡ true
-  over : is_over file (Some tree) ≡ true
+  over : is_over file (Some tree) None ≡ true
   same : file ≡ tree
 
 over_words : (command file name tree : Text) → is_overwriting (command ∷ file ∷ name ∷ tree ∷ []) ≡ true → IsOver command file name tree
@@ -142,11 +147,11 @@ tree_search file tree a plain plain_too asks =
     (written_names file tree (is_taken file plain) (is_taken tree plain_too)) asks.1
 
 asks_tree : (o : Option (Text × List Row)) (file tree : String Global)
-    → option_map named_search o ≡ Some (codes "search", Some (string_bytes file), Some (string_bytes tree), false, None, false)
-    → IsAskedIn (with_tree (string_bytes file) (string_bytes tree)) o (asked.Search file (Some tree) false 1 false)
+    → option_map named_search o ≡ Some (codes "search", Some (string_bytes file), Some (string_bytes tree), false, None, false, None)
+    → IsAskedIn (with_tree (string_bytes file) (string_bytes tree)) o (asked.Search file (Some tree) false 1 false None)
 asks_tree None file tree names = absurd (no_thing _ names)
 asks_tree (Some p) file tree names =
-    let found : named_search p ≡ (codes "search", Some (string_bytes file), Some (string_bytes tree), false, None, false) = some_is _ _ names in (
+    let found : named_search p ≡ (codes "search", Some (string_bytes file), Some (string_bytes tree), false, None, false, None) = some_is _ _ names in (
       (
         ap (λ (q : Search). q.0) found,
         ap (λ (q : Search). q.1) found,
@@ -154,15 +159,16 @@ asks_tree (Some p) file tree names =
         ap (λ (q : Search). q.3) found,
         subst (λ o. AreNamed o 1) (sym (ap (λ (q : Search). q.4) found)) refl,
         ap (λ (q : Search). q.5) found,
+        ap (λ (q : Search). q.6) found,
       ),
       inl (refl, inl (refl, tt)),
     )
 
 uncounted_not : (o : Option (Text × List Row)) (file tree : Text)
-    → option_map named_search o ≡ Some (codes "search", Some file, Some tree, false, None, false) → IsUncounted o → ⊥
+    → option_map named_search o ≡ Some (codes "search", Some file, Some tree, false, None, false, None) → IsUncounted o → ⊥
 uncounted_not None file tree names uncounted = elim uncounted [ ]
 uncounted_not (Some p) file tree names uncounted =
-    let found : named_search p ≡ (codes "search", Some file, Some tree, false, None, false) = some_is _ _ names in
+    let found : named_search p ≡ (codes "search", Some file, Some tree, false, None, false, None) = some_is _ _ names in
     uncounted.1 1 (subst (λ o. AreNamed o 1) (sym (ap (λ (q : Search). q.4) found)) refl)
 
 module _ (file tree : String Global) (plain : is_plain (string_bytes file) ≡ true) (plain_too : is_plain (string_bytes tree) ≡ true) where
@@ -173,15 +179,17 @@ module _ (file tree : String Global) (plain : is_plain (string_bytes file) ≡ t
   fault_is = written_fault (string_bytes file) (string_bytes tree) (is_taken (string_bytes file) plain) (is_taken (string_bytes tree) plain_too)
 
   names_are : option_map named_search (subcommand_of program tree_words)
-      ≡ Some (codes "search", Some (string_bytes file), Some (string_bytes tree), false, None, false)
+      ≡ Some (codes "search", Some (string_bytes file), Some (string_bytes tree), false, None, false, None)
   names_are = written_names (string_bytes file) (string_bytes tree) (is_taken (string_bytes file) plain) (is_taken (string_bytes tree) plain_too)
 
   only_over : (u : Unasked) → IsRefusal tree_words u → IsOverwriting u
   only_over (unasked.Told text) refusal = absurd (subst (λ (kinds : Kinds). HasStatus kinds 0) fault_is refusal)
   only_over (unasked.Wrong text) (inl kind) = absurd (subst (λ (kinds : Kinds). HasStatus kinds 2) fault_is kind)
-  only_over (unasked.Wrong text) (inr nothing) =
-      absurd (nothing.1 (asked.Search file (Some tree) false 1 false)
+  only_over (unasked.Wrong text) (inr (inl nothing)) =
+      absurd (nothing.1 (asked.Search file (Some tree) false 1 false None)
       (fault_is, asks_tree (subcommand_of program tree_words) file tree names_are))
+  only_over (unasked.Wrong text) (inr (inr lacking)) =
+      absurd (no_truth (sym (tree_search (string_bytes file) (string_bytes tree) lacking.0 plain plain_too lacking.1).ruled ∙ lacking.2))
   only_over (unasked.Workers text) refusal =
       absurd (uncounted_not (subcommand_of program tree_words) (string_bytes file) (string_bytes tree) names_are refusal.1)
   only_over (unasked.Overwrites text) over = tt

@@ -40,9 +40,13 @@ is_taken [] plain = record { no_end = refl; no_long = refl; no_short = refl }
 is_taken (x ∷ []) plain = taken_one x (x == 45) refl
 is_taken (x ∷ y ∷ rest) plain = taken_other x (y ∷ rest) (not-true (x == 45) plain)
 
--- a command's name, its file, and the value of another argument
-abbrev pub named_both : Text → Text × List Row → Text × Option Text × Option Text
-named_both key p = (p.0, first_of (codes "file") p.1, first_of key p.1)
+-- the file of a protocol
+abbrev named_known : Text × List Row → Option Text
+named_known p = first_of (codes "protocol") p.1
+
+-- a run's name, its file, its faults, its flag, and the file of a protocol
+abbrev pub named_run : Text × List Row → Text × Option Text × Option Text × Bool × Option Text
+named_run p = (p.0, first_of (codes "file") p.1, first_of (codes "faults") p.1, is_set (first_of (codes "rules") p.1), named_known p)
 
 -- whether nothing is to be told on the way
 abbrev named_quiet : Text × List Row → Bool
@@ -52,16 +56,16 @@ named_quiet p = is_set (first_of (codes "quiet") p.1)
 abbrev pub named_alone : Text × List Row → Text × Option Text
 named_alone p = (p.0, first_of (codes "file") p.1)
 
--- a command's name, its file, and its flag
-abbrev pub named_one : Text × List Row → Text × Option Text × Bool
-named_one p = (p.0, first_of (codes "file") p.1, named_quiet p)
+-- a command's name, its file, its flag, and the file of a protocol
+abbrev pub named_one : Text × List Row → Text × Option Text × Bool × Option Text
+named_one p = (p.0, first_of (codes "file") p.1, named_quiet p, named_known p)
 
 -- the same of a check, with its tree
-abbrev pub named_check : Text × List Row → Text × Option Text × Option Text × Bool
-named_check p = (p.0, first_of (codes "file") p.1, first_of (codes "tree") p.1, named_quiet p)
+abbrev pub named_check : Text × List Row → Text × Option Text × Option Text × Bool × Option Text
+named_check p = (p.0, first_of (codes "file") p.1, first_of (codes "tree") p.1, named_quiet p, named_known p)
 
 -- the same of a search, with its tree, its flags and its workers
-abbrev pub named_search : Text × List Row → Text × Option Text × Option Text × Bool × Option Text × Bool
+abbrev pub named_search : Text × List Row → Text × Option Text × Option Text × Bool × Option Text × Bool × Option Text
 named_search p = (
   p.0,
   first_of (codes "file") p.1,
@@ -69,6 +73,7 @@ named_search p = (
   is_set (first_of (codes "all") p.1),
   first_of (codes "workers") p.1,
   named_quiet p,
+  named_known p,
 )
 
 pub search_fault : (file : Text) → IsTaken file → fault_of program (codes "search" ∷ file ∷ []) ≡ []
@@ -76,7 +81,7 @@ unfolding clap_on_literals
 search_fault file taken = rw (taken.no_end, taken.no_long, taken.no_short) refl
 
 pub search_names : (file : Text) → IsTaken file
-    → option_map named_search (subcommand_of program (codes "search" ∷ file ∷ [])) ≡ Some (codes "search", Some file, None, false, None, false)
+    → option_map named_search (subcommand_of program (codes "search" ∷ file ∷ [])) ≡ Some (codes "search", Some file, None, false, None, false, None)
 unfolding clap_on_literals
 search_names file taken = rw (taken.no_end, taken.no_long, taken.no_short) refl
 
@@ -87,7 +92,7 @@ written_fault file tree taken taken_too = rw (taken.no_end, taken.no_long, taken
 
 pub written_names : (file tree : Text) → IsTaken file → IsTaken tree
     → option_map named_search (subcommand_of program (codes "search" ∷ file ∷ codes "--tree" ∷ tree ∷ []))
-    ≡ Some (codes "search", Some file, Some tree, false, None, false)
+    ≡ Some (codes "search", Some file, Some tree, false, None, false, None)
 unfolding clap_on_literals
 written_names file tree taken taken_too = rw (taken.no_end, taken.no_long, taken.no_short, taken_too.no_end, taken_too.no_long, taken_too.no_short) refl
 
@@ -99,7 +104,7 @@ counted_fault file number taken taken_too = rw (taken.no_end, taken.no_long, tak
 
 pub counted_names : (file number : Text) → IsTaken file → IsTaken number
     → option_map named_search (subcommand_of program (codes "search" ∷ file ∷ codes "--workers" ∷ number ∷ []))
-    ≡ Some (codes "search", Some file, None, false, Some number, false)
+    ≡ Some (codes "search", Some file, None, false, Some number, false, None)
 unfolding clap_on_literals
 counted_names file number taken taken_too = rw (taken.no_end, taken.no_long, taken.no_short, taken_too.no_end, taken_too.no_long, taken_too.no_short) refl
 
@@ -108,8 +113,7 @@ unfolding clap_on_literals
 run_fault file faults taken taken_too = rw (taken.no_end, taken.no_long, taken.no_short, taken_too.no_end, taken_too.no_long, taken_too.no_short) refl
 
 pub run_names : (file faults : Text) → IsTaken file → IsTaken faults
-    → option_map (named_both (codes "faults")) (subcommand_of program (codes "run" ∷ file ∷ faults ∷ []))
-    ≡ Some (codes "run", Some file, Some faults)
+    → option_map named_run (subcommand_of program (codes "run" ∷ file ∷ faults ∷ [])) ≡ Some (codes "run", Some file, Some faults, false, None)
 unfolding clap_on_literals
 run_names file faults taken taken_too = rw (taken.no_end, taken.no_long, taken.no_short, taken_too.no_end, taken_too.no_long, taken_too.no_short) refl
 
@@ -119,7 +123,7 @@ check_fault file tree taken taken_too = rw (taken.no_end, taken.no_long, taken.n
 
 pub check_names : (file tree : Text) → IsTaken file → IsTaken tree
     → option_map named_check (subcommand_of program (codes "check" ∷ file ∷ tree ∷ []))
-    ≡ Some (codes "check", Some file, Some tree, false)
+    ≡ Some (codes "check", Some file, Some tree, false, None)
 unfolding clap_on_literals
 check_names file tree taken taken_too = rw (taken.no_end, taken.no_long, taken.no_short, taken_too.no_end, taken_too.no_long, taken_too.no_short) refl
 
@@ -128,7 +132,7 @@ unfolding clap_on_literals
 answer_fault file taken = rw (taken.no_end, taken.no_long, taken.no_short) refl
 
 pub answer_names : (file : Text) → IsTaken file
-    → option_map named_one (subcommand_of program (codes "answer" ∷ file ∷ [])) ≡ Some (codes "answer", Some file, false)
+    → option_map named_one (subcommand_of program (codes "answer" ∷ file ∷ [])) ≡ Some (codes "answer", Some file, false, None)
 unfolding clap_on_literals
 answer_names file taken = rw (taken.no_end, taken.no_long, taken.no_short) refl
 

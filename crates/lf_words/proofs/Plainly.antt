@@ -13,30 +13,30 @@ use Rattle.lf_words.specs.Commands.{program}
 use Rattle.lf_words.specs.Plain.{asks_help, asks_version, is_plain, is_plain_command, is_unknown, takes_one, takes_two}
 use Rattle.lf_words.specs.Statuses.{exit_status, status_of}
 use Rattle.lf_words.specs.Words.{AreNamed, Asks, CanBeDone, HasStatus, IsAskedIn, IsPlainly, IsRefusal, IsUncounted}
-use Rattle.lf_words.specs.Words.{is_input, overwrites, shares_input, texts_of, written_to}
+use Rattle.lf_words.specs.Words.{is_input, lacks_protocol, overwrites, shares_input, texts_of, written_to}
 use Rattle.lf_words.specs.declared.types.Asked.{Asked}
 use Rattle.lf_words.specs.declared.types.Asked.TheVariants as asked
 use Rattle.lf_words.specs.declared.unasked.Unasked.{Unasked}
 use Rattle.lf_words.specs.declared.unasked.Unasked.TheVariants as unasked
-use Rattle.lf_words.proofs.Plain.{IsTaken, is_taken, named_alone, named_both, named_check, named_one, named_search}
+use Rattle.lf_words.proofs.Plain.{IsTaken, is_taken, named_alone, named_check, named_one, named_run, named_search}
 use Rattle.lf_words.proofs.Plain.{answer_fault, answer_names, check_fault, check_names, run_fault, run_names, search_fault, search_names}
 use Rattle.lf_words.proofs.Plain.{help_fault, protocol_fault, protocol_names, short_help_fault, short_version_fault, unknown_fault, version_fault}
 use Rattle.lf_words.proofs.Reading.{apart, no_truth}
 
-abbrev Both : Type 0
-Both = Text × Option Text × Option Text
+abbrev Run : Type 0
+Run = Text × Option Text × Option Text × Bool × Option Text
 
 abbrev Check : Type 0
-Check = Text × Option Text × Option Text × Bool
+Check = Text × Option Text × Option Text × Bool × Option Text
 
 abbrev One : Type 0
-One = Text × Option Text × Bool
+One = Text × Option Text × Bool × Option Text
 
 abbrev Alone : Type 0
 Alone = Text × Option Text
 
 abbrev pub Search : Type 0
-Search = Text × Option Text × Option Text × Bool × Option Text × Bool
+Search = Text × Option Text × Option Text × Bool × Option Text × Bool × Option Text
 
 pub both : (x y : Bool) → (x && y) ≡ true → (x ≡ true) × (y ≡ true)
 both true y h = (refl, h)
@@ -91,11 +91,11 @@ protocol_or_answer : (name : Text) → name ≡ codes "protocol" → name ≡ co
 protocol_or_answer name is_protocol is_answer = apart 97 112 (omega arith) (ap first (sym is_answer ∙ is_protocol))
 
 search_of : (words : List Text) (o : Option (Text × List Row)) (file : Text) (a : Asked)
-    → option_map named_search o ≡ Some (codes "search", Some file, None, false, None, false)
+    → option_map named_search o ≡ Some (codes "search", Some file, None, false, None, false, None)
     → IsAskedIn words o a → IsPlainly (codes "search" ∷ file ∷ []) a
 search_of words None file a names asked = elim asked [ ]
-search_of words (Some p) file (asked.Search own tree all workers quiet) names asked =
-    let found : named_search p ≡ (codes "search", Some file, None, false, None, false) = some_is _ _ names in
+search_of words (Some p) file (asked.Search own tree all workers quiet protocol) names asked =
+    let found : named_search p ≡ (codes "search", Some file, None, false, None, false, None) = some_is _ _ names in
     let same : own.bytes.items ≡ file = some_is _ _ (sym asked.0.1 ∙ ap (λ (q : Search). q.1) found) in
     record {
       texts = ap (λ x. codes "search" ∷ x ∷ []) same;
@@ -103,26 +103,28 @@ search_of words (Some p) file (asked.Search own tree all workers quiet) names as
       one = sym asked.0.3 ∙ ap (λ (q : Search). q.3) found;
       alone = subst (λ o. AreNamed o workers) (ap (λ (q : Search). q.4) found) asked.0.4;
       told = sym asked.0.5 ∙ ap (λ (q : Search). q.5) found;
+      shipped = sym asked.0.6 ∙ ap (λ (q : Search). q.6) found;
+      short = refl;
     }
-search_of words (Some p) file (asked.Run own faults) names asked =
-    let found : named_search p ≡ (codes "search", Some file, None, false, None, false) = some_is _ _ names in
+search_of words (Some p) file (asked.Run own faults rules protocol) names asked =
+    let found : named_search p ≡ (codes "search", Some file, None, false, None, false, None) = some_is _ _ names in
     absurd (run_or_search p.0 asked.0.0 (ap (λ (q : Search). q.0) found))
-search_of words (Some p) file (asked.Check own tree quiet) names asked =
-    let found : named_search p ≡ (codes "search", Some file, None, false, None, false) = some_is _ _ names in
+search_of words (Some p) file (asked.Check own tree quiet protocol) names asked =
+    let found : named_search p ≡ (codes "search", Some file, None, false, None, false, None) = some_is _ _ names in
     absurd (check_or_search p.0 asked.0.0 (ap (λ (q : Search). q.0) found))
-search_of words (Some p) file (asked.Answer own quiet) names asked =
-    let found : named_search p ≡ (codes "search", Some file, None, false, None, false) = some_is _ _ names in
+search_of words (Some p) file (asked.Answer own quiet protocol) names asked =
+    let found : named_search p ≡ (codes "search", Some file, None, false, None, false, None) = some_is _ _ names in
     absurd (answer_or_search p.0 asked.0.0 (ap (λ (q : Search). q.0) found))
 search_of words (Some p) file (asked.Protocol own) names asked =
-    let found : named_search p ≡ (codes "search", Some file, None, false, None, false) = some_is _ _ names in
+    let found : named_search p ≡ (codes "search", Some file, None, false, None, false, None) = some_is _ _ names in
     absurd (protocol_or_search p.0 asked.0.0 (ap (λ (q : Search). q.0) found))
 
 asks_search : (words : List Text) (o : Option (Text × List Row)) (file : String Global)
-    → option_map named_search o ≡ Some (codes "search", Some (string_bytes file), None, false, None, false)
-    → words ≡ codes "search" ∷ string_bytes file ∷ [] → IsAskedIn words o (asked.Search file None false 1 false)
+    → option_map named_search o ≡ Some (codes "search", Some (string_bytes file), None, false, None, false, None)
+    → words ≡ codes "search" ∷ string_bytes file ∷ [] → IsAskedIn words o (asked.Search file None false 1 false None)
 asks_search words None file names is = absurd (no_thing _ names)
 asks_search words (Some p) file names is =
-    let found : named_search p ≡ (codes "search", Some (string_bytes file), None, false, None, false) = some_is _ _ names in (
+    let found : named_search p ≡ (codes "search", Some (string_bytes file), None, false, None, false, None) = some_is _ _ names in (
       (
         ap (λ (q : Search). q.0) found,
         ap (λ (q : Search). q.1) found,
@@ -130,52 +132,69 @@ asks_search words (Some p) file names is =
         ap (λ (q : Search). q.3) found,
         subst (λ o. AreNamed o 1) (sym (ap (λ (q : Search). q.4) found)) refl,
         ap (λ (q : Search). q.5) found,
+        ap (λ (q : Search). q.6) found,
       ),
       rw (is) (inl (refl, inl (refl, tt))),
     )
 
 run_of : (words : List Text) (o : Option (Text × List Row)) (file faults : Text) (a : Asked)
-    → option_map (named_both (codes "faults")) o ≡ Some (codes "run", Some file, Some faults)
+    → option_map named_run o ≡ Some (codes "run", Some file, Some faults, false, None)
     → IsAskedIn words o a → IsPlainly (codes "run" ∷ file ∷ faults ∷ []) a
 run_of words None file faults a names asked = elim asked [ ]
-run_of words (Some p) file faults (asked.Search own tree all workers quiet) names asked =
-    let pair : named_both (codes "faults") p ≡ (codes "run", Some file, Some faults) = some_is _ _ names in
-    absurd (run_or_search p.0 (ap (λ (q : Both). q.0) pair) asked.0.0)
-run_of words (Some p) file faults (asked.Run own own_faults) names asked =
-    let pair : named_both (codes "faults") p ≡ (codes "run", Some file, Some faults) = some_is _ _ names in
-    let same : own.bytes.items ≡ file = some_is _ _ (sym asked.0.1 ∙ ap (λ (q : Both). q.1) pair) in
-    let same_too : own_faults.bytes.items ≡ faults = some_is _ _ (sym asked.0.2 ∙ ap (λ (q : Both). q.2) pair) in
-    record { texts = rw (same, same_too) refl; unwritten = refl; one = refl; alone = refl; told = refl }
-run_of words (Some p) file faults (asked.Check own tree quiet) names asked =
-    let pair : named_both (codes "faults") p ≡ (codes "run", Some file, Some faults) = some_is _ _ names in
-    absurd (check_or_run p.0 asked.0.0 (ap (λ (q : Both). q.0) pair))
-run_of words (Some p) file faults (asked.Answer own quiet) names asked =
-    let pair : named_both (codes "faults") p ≡ (codes "run", Some file, Some faults) = some_is _ _ names in
-    absurd (answer_or_run p.0 asked.0.0 (ap (λ (q : Both). q.0) pair))
+run_of words (Some p) file faults (asked.Search own tree all workers quiet protocol) names asked =
+    let pair : named_run p ≡ (codes "run", Some file, Some faults, false, None) = some_is _ _ names in
+    absurd (run_or_search p.0 (ap (λ (q : Run). q.0) pair) asked.0.0)
+run_of words (Some p) file faults (asked.Run own own_faults rules protocol) names asked =
+    let pair : named_run p ≡ (codes "run", Some file, Some faults, false, None) = some_is _ _ names in
+    let same : own.bytes.items ≡ file = some_is _ _ (sym asked.0.1 ∙ ap (λ (q : Run). q.1) pair) in
+    let same_too : own_faults.bytes.items ≡ faults = some_is _ _ (sym asked.0.2 ∙ ap (λ (q : Run). q.2) pair) in
+    record {
+      texts = rw (same, same_too) refl;
+      unwritten = refl;
+      one = refl;
+      alone = refl;
+      told = refl;
+      shipped = sym asked.0.4 ∙ ap (λ (q : Run). q.4) pair;
+      short = sym asked.0.3 ∙ ap (λ (q : Run). q.3) pair;
+    }
+run_of words (Some p) file faults (asked.Check own tree quiet protocol) names asked =
+    let pair : named_run p ≡ (codes "run", Some file, Some faults, false, None) = some_is _ _ names in
+    absurd (check_or_run p.0 asked.0.0 (ap (λ (q : Run). q.0) pair))
+run_of words (Some p) file faults (asked.Answer own quiet protocol) names asked =
+    let pair : named_run p ≡ (codes "run", Some file, Some faults, false, None) = some_is _ _ names in
+    absurd (answer_or_run p.0 asked.0.0 (ap (λ (q : Run). q.0) pair))
 run_of words (Some p) file faults (asked.Protocol own) names asked =
-    let pair : named_both (codes "faults") p ≡ (codes "run", Some file, Some faults) = some_is _ _ names in
-    absurd (protocol_or_run p.0 asked.0.0 (ap (λ (q : Both). q.0) pair))
+    let pair : named_run p ≡ (codes "run", Some file, Some faults, false, None) = some_is _ _ names in
+    absurd (protocol_or_run p.0 asked.0.0 (ap (λ (q : Run). q.0) pair))
 
 asks_run : (words : List Text) (o : Option (Text × List Row)) (file faults : String Global)
-    → option_map (named_both (codes "faults")) o ≡ Some (codes "run", Some (string_bytes file), Some (string_bytes faults))
-    → words ≡ codes "run" ∷ string_bytes file ∷ string_bytes faults ∷ [] → IsAskedIn words o (asked.Run file faults)
+    → option_map named_run o ≡ Some (codes "run", Some (string_bytes file), Some (string_bytes faults), false, None)
+    → words ≡ codes "run" ∷ string_bytes file ∷ string_bytes faults ∷ [] → IsAskedIn words o (asked.Run file faults false None)
 asks_run words None file faults names is = absurd (no_thing _ names)
 asks_run words (Some p) file faults names is =
-    let pair : named_both (codes "faults") p ≡ (codes "run", Some (string_bytes file), Some (string_bytes faults)) = some_is _ _ names in
-    ((ap (λ (q : Both). q.0) pair, ap (λ (q : Both). q.1) pair, ap (λ (q : Both). q.2) pair), rw (is) (inl (refl, inl (refl, inl (refl, tt)))))
+    let pair : named_run p ≡ (codes "run", Some (string_bytes file), Some (string_bytes faults), false, None) = some_is _ _ names in (
+      (
+        ap (λ (q : Run). q.0) pair,
+        ap (λ (q : Run). q.1) pair,
+        ap (λ (q : Run). q.2) pair,
+        ap (λ (q : Run). q.3) pair,
+        ap (λ (q : Run). q.4) pair,
+      ),
+      rw (is) (inl (refl, inl (refl, inl (refl, tt)))),
+    )
 
 check_of : (words : List Text) (o : Option (Text × List Row)) (file tree : Text) (a : Asked)
-    → option_map named_check o ≡ Some (codes "check", Some file, Some tree, false)
+    → option_map named_check o ≡ Some (codes "check", Some file, Some tree, false, None)
     → IsAskedIn words o a → IsPlainly (codes "check" ∷ file ∷ tree ∷ []) a
 check_of words None file tree a names asked = elim asked [ ]
-check_of words (Some p) file tree (asked.Search own written all workers quiet) names asked =
-    let pair : named_check p ≡ (codes "check", Some file, Some tree, false) = some_is _ _ names in
+check_of words (Some p) file tree (asked.Search own written all workers quiet protocol) names asked =
+    let pair : named_check p ≡ (codes "check", Some file, Some tree, false, None) = some_is _ _ names in
     absurd (check_or_search p.0 (ap (λ (q : Check). q.0) pair) asked.0.0)
-check_of words (Some p) file tree (asked.Run own faults) names asked =
-    let pair : named_check p ≡ (codes "check", Some file, Some tree, false) = some_is _ _ names in
+check_of words (Some p) file tree (asked.Run own faults rules protocol) names asked =
+    let pair : named_check p ≡ (codes "check", Some file, Some tree, false, None) = some_is _ _ names in
     absurd (check_or_run p.0 (ap (λ (q : Check). q.0) pair) asked.0.0)
-check_of words (Some p) file tree (asked.Check own own_tree quiet) names asked =
-    let pair : named_check p ≡ (codes "check", Some file, Some tree, false) = some_is _ _ names in
+check_of words (Some p) file tree (asked.Check own own_tree quiet protocol) names asked =
+    let pair : named_check p ≡ (codes "check", Some file, Some tree, false, None) = some_is _ _ names in
     let same : own.bytes.items ≡ file = some_is _ _ (sym asked.0.1 ∙ ap (λ (q : Check). q.1) pair) in
     let same_too : own_tree.bytes.items ≡ tree = some_is _ _ (sym asked.0.2 ∙ ap (λ (q : Check). q.2) pair) in
     record {
@@ -184,38 +203,46 @@ check_of words (Some p) file tree (asked.Check own own_tree quiet) names asked =
       one = refl;
       alone = refl;
       told = sym asked.0.3 ∙ ap (λ (q : Check). q.3) pair;
+      shipped = sym asked.0.4 ∙ ap (λ (q : Check). q.4) pair;
+      short = refl;
     }
-check_of words (Some p) file tree (asked.Answer own quiet) names asked =
-    let pair : named_check p ≡ (codes "check", Some file, Some tree, false) = some_is _ _ names in
+check_of words (Some p) file tree (asked.Answer own quiet protocol) names asked =
+    let pair : named_check p ≡ (codes "check", Some file, Some tree, false, None) = some_is _ _ names in
     absurd (answer_or_check p.0 asked.0.0 (ap (λ (q : Check). q.0) pair))
 check_of words (Some p) file tree (asked.Protocol own) names asked =
-    let pair : named_check p ≡ (codes "check", Some file, Some tree, false) = some_is _ _ names in
+    let pair : named_check p ≡ (codes "check", Some file, Some tree, false, None) = some_is _ _ names in
     absurd (protocol_or_check p.0 asked.0.0 (ap (λ (q : Check). q.0) pair))
 
 asks_check : (words : List Text) (o : Option (Text × List Row)) (file tree : String Global)
-    → option_map named_check o ≡ Some (codes "check", Some (string_bytes file), Some (string_bytes tree), false)
-    → words ≡ codes "check" ∷ string_bytes file ∷ string_bytes tree ∷ [] → IsAskedIn words o (asked.Check file tree false)
+    → option_map named_check o ≡ Some (codes "check", Some (string_bytes file), Some (string_bytes tree), false, None)
+    → words ≡ codes "check" ∷ string_bytes file ∷ string_bytes tree ∷ [] → IsAskedIn words o (asked.Check file tree false None)
 asks_check words None file tree names is = absurd (no_thing _ names)
 asks_check words (Some p) file tree names is =
-    let pair : named_check p ≡ (codes "check", Some (string_bytes file), Some (string_bytes tree), false) = some_is _ _ names in (
-      (ap (λ (q : Check). q.0) pair, ap (λ (q : Check). q.1) pair, ap (λ (q : Check). q.2) pair, ap (λ (q : Check). q.3) pair),
+    let pair : named_check p ≡ (codes "check", Some (string_bytes file), Some (string_bytes tree), false, None) = some_is _ _ names in (
+      (
+        ap (λ (q : Check). q.0) pair,
+        ap (λ (q : Check). q.1) pair,
+        ap (λ (q : Check). q.2) pair,
+        ap (λ (q : Check). q.3) pair,
+        ap (λ (q : Check). q.4) pair,
+      ),
       rw (is) (inl (refl, inl (refl, inl (refl, tt)))),
     )
 
 answer_of : (words : List Text) (o : Option (Text × List Row)) (file : Text) (a : Asked)
-    → option_map named_one o ≡ Some (codes "answer", Some file, false) → IsAskedIn words o a → IsPlainly (codes "answer" ∷ file ∷ []) a
+    → option_map named_one o ≡ Some (codes "answer", Some file, false, None) → IsAskedIn words o a → IsPlainly (codes "answer" ∷ file ∷ []) a
 answer_of words None file a names asked = elim asked [ ]
-answer_of words (Some p) file (asked.Search own tree all workers quiet) names asked =
-    let found : named_one p ≡ (codes "answer", Some file, false) = some_is _ _ names in
+answer_of words (Some p) file (asked.Search own tree all workers quiet protocol) names asked =
+    let found : named_one p ≡ (codes "answer", Some file, false, None) = some_is _ _ names in
     absurd (answer_or_search p.0 (ap (λ (q : One). q.0) found) asked.0.0)
-answer_of words (Some p) file (asked.Run own faults) names asked =
-    let found : named_one p ≡ (codes "answer", Some file, false) = some_is _ _ names in
+answer_of words (Some p) file (asked.Run own faults rules protocol) names asked =
+    let found : named_one p ≡ (codes "answer", Some file, false, None) = some_is _ _ names in
     absurd (answer_or_run p.0 (ap (λ (q : One). q.0) found) asked.0.0)
-answer_of words (Some p) file (asked.Check own tree quiet) names asked =
-    let found : named_one p ≡ (codes "answer", Some file, false) = some_is _ _ names in
+answer_of words (Some p) file (asked.Check own tree quiet protocol) names asked =
+    let found : named_one p ≡ (codes "answer", Some file, false, None) = some_is _ _ names in
     absurd (answer_or_check p.0 (ap (λ (q : One). q.0) found) asked.0.0)
-answer_of words (Some p) file (asked.Answer own quiet) names asked =
-    let found : named_one p ≡ (codes "answer", Some file, false) = some_is _ _ names in
+answer_of words (Some p) file (asked.Answer own quiet protocol) names asked =
+    let found : named_one p ≡ (codes "answer", Some file, false, None) = some_is _ _ names in
     let same : own.bytes.items ≡ file = some_is _ _ (sym asked.0.1 ∙ ap (λ (q : One). q.1) found) in
     record {
       texts = rw (same) refl;
@@ -223,38 +250,42 @@ answer_of words (Some p) file (asked.Answer own quiet) names asked =
       one = refl;
       alone = refl;
       told = sym asked.0.2 ∙ ap (λ (q : One). q.2) found;
+      shipped = sym asked.0.3 ∙ ap (λ (q : One). q.3) found;
+      short = refl;
     }
 answer_of words (Some p) file (asked.Protocol own) names asked =
-    let found : named_one p ≡ (codes "answer", Some file, false) = some_is _ _ names in
+    let found : named_one p ≡ (codes "answer", Some file, false, None) = some_is _ _ names in
     absurd (protocol_or_answer p.0 asked.0.0 (ap (λ (q : One). q.0) found))
 
 asks_answer : (words : List Text) (o : Option (Text × List Row)) (file : String Global)
-    → option_map named_one o ≡ Some (codes "answer", Some (string_bytes file), false)
-    → words ≡ codes "answer" ∷ string_bytes file ∷ [] → IsAskedIn words o (asked.Answer file false)
+    → option_map named_one o ≡ Some (codes "answer", Some (string_bytes file), false, None)
+    → words ≡ codes "answer" ∷ string_bytes file ∷ [] → IsAskedIn words o (asked.Answer file false None)
 asks_answer words None file names is = absurd (no_thing _ names)
 asks_answer words (Some p) file names is =
-    let found : named_one p ≡ (codes "answer", Some (string_bytes file), false) = some_is _ _ names in
-    ((ap (λ (q : One). q.0) found, ap (λ (q : One). q.1) found, ap (λ (q : One). q.2) found), rw (is) (inl (refl, inl (refl, tt))))
+    let found : named_one p ≡ (codes "answer", Some (string_bytes file), false, None) = some_is _ _ names in (
+      (ap (λ (q : One). q.0) found, ap (λ (q : One). q.1) found, ap (λ (q : One). q.2) found, ap (λ (q : One). q.3) found),
+      rw (is) (inl (refl, inl (refl, tt))),
+    )
 
 protocol_of : (words : List Text) (o : Option (Text × List Row)) (file : Text) (a : Asked)
     → option_map named_alone o ≡ Some (codes "protocol", Some file) → IsAskedIn words o a → IsPlainly (codes "protocol" ∷ file ∷ []) a
 protocol_of words None file a names asked = elim asked [ ]
-protocol_of words (Some p) file (asked.Search own tree all workers quiet) names asked =
+protocol_of words (Some p) file (asked.Search own tree all workers quiet protocol) names asked =
     let found : named_alone p ≡ (codes "protocol", Some file) = some_is _ _ names in
     absurd (protocol_or_search p.0 (ap (λ (q : Alone). q.0) found) asked.0.0)
-protocol_of words (Some p) file (asked.Run own faults) names asked =
+protocol_of words (Some p) file (asked.Run own faults rules protocol) names asked =
     let found : named_alone p ≡ (codes "protocol", Some file) = some_is _ _ names in
     absurd (protocol_or_run p.0 (ap (λ (q : Alone). q.0) found) asked.0.0)
-protocol_of words (Some p) file (asked.Check own tree quiet) names asked =
+protocol_of words (Some p) file (asked.Check own tree quiet protocol) names asked =
     let found : named_alone p ≡ (codes "protocol", Some file) = some_is _ _ names in
     absurd (protocol_or_check p.0 (ap (λ (q : Alone). q.0) found) asked.0.0)
-protocol_of words (Some p) file (asked.Answer own quiet) names asked =
+protocol_of words (Some p) file (asked.Answer own quiet protocol) names asked =
     let found : named_alone p ≡ (codes "protocol", Some file) = some_is _ _ names in
     absurd (protocol_or_answer p.0 (ap (λ (q : Alone). q.0) found) asked.0.0)
 protocol_of words (Some p) file (asked.Protocol own) names asked =
     let found : named_alone p ≡ (codes "protocol", Some file) = some_is _ _ names in
     let same : own.bytes.items ≡ file = some_is _ _ (sym asked.0.1 ∙ ap (λ (q : Alone). q.1) found) in
-    record { texts = rw (same) refl; unwritten = refl; one = refl; alone = refl; told = refl }
+    record { texts = rw (same) refl; unwritten = refl; one = refl; alone = refl; told = refl; shipped = refl; short = refl }
 
 asks_protocol : (words : List Text) (o : Option (Text × List Row)) (file : String Global)
     → option_map named_alone o ≡ Some (codes "protocol", Some (string_bytes file))
@@ -267,10 +298,10 @@ asks_protocol words (Some p) file names is =
 -- what is asked for by some number of workers isn't asked for by none
 pub counted : (words : List Text) (o : Option (Text × List Row)) (a : Asked) → IsAskedIn words o a → IsUncounted o → ⊥
 counted words None a asked uncounted = elim asked [ ]
-counted words (Some p) (asked.Search file tree all workers quiet) asked uncounted = uncounted.1 workers asked.0.4
-counted words (Some p) (asked.Run file faults) asked uncounted = run_or_search p.0 asked.0.0 uncounted.0
-counted words (Some p) (asked.Check file tree quiet) asked uncounted = check_or_search p.0 asked.0.0 uncounted.0
-counted words (Some p) (asked.Answer file quiet) asked uncounted = answer_or_search p.0 asked.0.0 uncounted.0
+counted words (Some p) (asked.Search file tree all workers quiet protocol) asked uncounted = uncounted.1 workers asked.0.4
+counted words (Some p) (asked.Run file faults rules protocol) asked uncounted = run_or_search p.0 asked.0.0 uncounted.0
+counted words (Some p) (asked.Check file tree quiet protocol) asked uncounted = check_or_search p.0 asked.0.0 uncounted.0
+counted words (Some p) (asked.Answer file quiet protocol) asked uncounted = answer_or_search p.0 asked.0.0 uncounted.0
 counted words (Some p) (asked.Protocol file) asked uncounted = protocol_or_search p.0 asked.0.0 uncounted.0
 
 -- words that are taken, and ask for something that can be done, are refused for want of memory alone
@@ -278,7 +309,8 @@ only_memory : (words : List Text) (a : Asked) (u : Unasked) → Asks words a →
     → IsRefusal words u → u ≡ unasked.Memory
 only_memory words a (unasked.Told text) asks possible refusal = absurd (subst (λ (kinds : Kinds). HasStatus kinds 0) asks.0 refusal)
 only_memory words a (unasked.Wrong text) asks possible (inl kind) = absurd (subst (λ (kinds : Kinds). HasStatus kinds 2) asks.0 kind)
-only_memory words a (unasked.Wrong text) asks possible (inr nothing) = absurd (nothing.1 a asks)
+only_memory words a (unasked.Wrong text) asks possible (inr (inl nothing)) = absurd (nothing.1 a asks)
+only_memory words a (unasked.Wrong text) asks possible (inr (inr lacking)) = absurd (no_truth (sym (possible lacking.0 lacking.1).ruled ∙ lacking.2))
 only_memory words a (unasked.Workers text) asks possible refusal = absurd (counted words (subcommand_of program words) a asks.1 refusal.1)
 only_memory words a (unasked.Overwrites text) asks possible over = absurd (no_truth (sym (possible over.0 over.1).kept ∙ over.2))
 only_memory words a unasked.SharedInput asks possible shared = absurd (no_truth (sym (possible shared.0 shared.1).apart ∙ shared.2))
@@ -347,23 +379,23 @@ asks_plainly (command ∷ one ∷ other ∷ more ∷ rest) a plain asks = absurd
 -- what shares standard input isn't asked for by plain words
 shared_not_plain : (a : Asked) (shared : Bool) → shares_input a ≡ shared → is_plain_command (texts_of a) ≡ true → shares_input a ≡ false
 shared_not_plain a false is plain = is
-shared_not_plain (asked.Search file tree all workers quiet) true is plain = absurd (no_truth is)
-shared_not_plain (asked.Run file faults) true is plain = absurd (no_truth is)
-shared_not_plain (asked.Check file tree quiet) true is plain =
+shared_not_plain (asked.Search file tree all workers quiet protocol) true is plain = absurd (no_truth is)
+shared_not_plain (asked.Run file faults rules protocol) true is plain = absurd (no_truth is)
+shared_not_plain (asked.Check file tree quiet protocol) true is plain =
     elim (two_are (codes "check") file.bytes.items tree.bytes.items plain).0 [
       | inl run ↦ absurd (check_or_run (codes "check") refl run)
       | inr check ↦ absurd (no_truth (sym (not-true _ check.1) ∙ is))
     ]
-shared_not_plain (asked.Answer file quiet) true is plain = absurd (no_truth is)
+shared_not_plain (asked.Answer file quiet protocol) true is plain = absurd (no_truth is)
 shared_not_plain (asked.Protocol file) true is plain = absurd (no_truth is)
 
 -- nor a certificate
 unwritten_is_kept : (a : Asked) → written_to a ≡ None → overwrites a ≡ false
-unwritten_is_kept (asked.Search file None all workers quiet) unwritten = refl
-unwritten_is_kept (asked.Search file (Some tree) all workers quiet) unwritten = absurd (no_thing _ (sym unwritten))
-unwritten_is_kept (asked.Run file faults) unwritten = refl
-unwritten_is_kept (asked.Check file tree quiet) unwritten = refl
-unwritten_is_kept (asked.Answer file quiet) unwritten = refl
+unwritten_is_kept (asked.Search file None all workers quiet protocol) unwritten = refl
+unwritten_is_kept (asked.Search file (Some tree) all workers quiet protocol) unwritten = absurd (no_thing _ (sym unwritten))
+unwritten_is_kept (asked.Run file faults rules protocol) unwritten = refl
+unwritten_is_kept (asked.Check file tree quiet protocol) unwritten = refl
+unwritten_is_kept (asked.Answer file quiet protocol) unwritten = refl
 unwritten_is_kept (asked.Protocol file) unwritten = refl
 
 can_be_done : (words : List Text) → is_plain_command words ≡ true → (a : Asked) → Asks words a → CanBeDone a
@@ -372,6 +404,7 @@ can_be_done words plain a asks =
     record {
       apart = shared_not_plain a (shares_input a) refl (subst (λ ws. is_plain_command ws ≡ true) (sym plainly.texts) plain);
       kept = unwritten_is_kept a plainly.unwritten;
+      ruled = rw (plainly.short) refl;
     }
 
 asks_some : (ws : List (String Global)) → is_plain_command (map string_bytes ws) ≡ true → (a : Asked) × Asks (map string_bytes ws) a
@@ -383,7 +416,7 @@ asks_some (command ∷ file ∷ []) plain =
       | inl search ↦
           let words = codes "search" ∷ string_bytes file ∷ [] in
           subst (λ c. (a : Asked) × Asks (c ∷ string_bytes file ∷ []) a) (sym search) (
-            asked.Search file None false 1 false,
+            asked.Search file None false 1 false None,
             (
               search_fault (string_bytes file) is.1,
               asks_search words (subcommand_of program words) file (search_names (string_bytes file) is.1) refl,
@@ -392,7 +425,7 @@ asks_some (command ∷ file ∷ []) plain =
       | inr (inl answer) ↦
           let words = codes "answer" ∷ string_bytes file ∷ [] in
           subst (λ c. (a : Asked) × Asks (c ∷ string_bytes file ∷ []) a) (sym answer) (
-            asked.Answer file false,
+            asked.Answer file false None,
             (
               answer_fault (string_bytes file) is.1,
               asks_answer words (subcommand_of program words) file (answer_names (string_bytes file) is.1) refl,
@@ -414,7 +447,7 @@ asks_some (command ∷ one ∷ other ∷ []) plain =
       | inl run ↦
           let words = codes "run" ∷ string_bytes one ∷ string_bytes other ∷ [] in
           subst (λ c. (a : Asked) × Asks (c ∷ string_bytes one ∷ string_bytes other ∷ []) a) (sym run) (
-            asked.Run one other,
+            asked.Run one other false None,
             (
               run_fault (string_bytes one) (string_bytes other) is.1 is.2,
               asks_run words (subcommand_of program words) one other (run_names (string_bytes one) (string_bytes other) is.1 is.2) refl,
@@ -423,7 +456,7 @@ asks_some (command ∷ one ∷ other ∷ []) plain =
       | inr check ↦
           let words = codes "check" ∷ string_bytes one ∷ string_bytes other ∷ [] in
           subst (λ c. (a : Asked) × Asks (c ∷ string_bytes one ∷ string_bytes other ∷ []) a) (sym check.0) (
-            asked.Check one other false,
+            asked.Check one other false None,
             (
               check_fault (string_bytes one) (string_bytes other) is.1 is.2,
               asks_check words (subcommand_of program words) one other (check_names (string_bytes one) (string_bytes other) is.1 is.2) refl,
@@ -465,13 +498,13 @@ size (x ∷ y ∷ z ∷ []) = 3
 size (x ∷ y ∷ z ∷ more ∷ rest) = 4
 
 shared_is : (a : Asked) → texts_of a ≡ shared_words → shares_input a ≡ true
-shared_is (asked.Search file tree all workers quiet) is = absurd (apart 2 3 (omega arith) (ap size is))
-shared_is (asked.Run file faults) is = absurd (check_or_run (codes "check") refl (sym (ap head is)))
-shared_is (asked.Check file tree quiet) is =
+shared_is (asked.Search file tree all workers quiet protocol) is = absurd (apart 2 3 (omega arith) (ap size is))
+shared_is (asked.Run file faults rules protocol) is = absurd (check_or_run (codes "check") refl (sym (ap head is)))
+shared_is (asked.Check file tree quiet protocol) is =
     let one : is_input file.bytes.items ≡ true = (bytes_eq-Decides file.bytes.items (codes "-")).1 (ap second is) in
     let other : is_input tree.bytes.items ≡ true = (bytes_eq-Decides tree.bytes.items (codes "-")).1 (ap third is) in
     rw (one, other) refl
-shared_is (asked.Answer file quiet) is = absurd (apart 2 3 (omega arith) (ap size is))
+shared_is (asked.Answer file quiet protocol) is = absurd (apart 2 3 (omega arith) (ap size is))
 shared_is (asked.Protocol file) is = absurd (apart 2 3 (omega arith) (ap size is))
 
 shared_plainly : (a : Asked) → Asks shared_words a → IsPlainly shared_words a
@@ -485,7 +518,10 @@ shared_is_refused words a is asks possible =
 only_shared : (a : Asked) (u : Unasked) → Asks shared_words a → IsRefusal shared_words u → (u ≡ unasked.SharedInput) ⊎ (u ≡ unasked.Memory)
 only_shared a (unasked.Told text) asks refusal = absurd (subst (λ (kinds : Kinds). HasStatus kinds 0) asks.0 refusal)
 only_shared a (unasked.Wrong text) asks (inl kind) = absurd (subst (λ (kinds : Kinds). HasStatus kinds 2) asks.0 kind)
-only_shared a (unasked.Wrong text) asks (inr nothing) = absurd (nothing.1 a asks)
+only_shared a (unasked.Wrong text) asks (inr (inl nothing)) = absurd (nothing.1 a asks)
+only_shared a (unasked.Wrong text) asks (inr (inr lacking)) =
+    let none : lacks_protocol lacking.0 ≡ false = rw ((shared_plainly lacking.0 lacking.1).short) refl in
+    absurd (no_truth (sym none ∙ lacking.2))
 only_shared a (unasked.Workers text) asks refusal = absurd (counted shared_words (subcommand_of program shared_words) a asks.1 refusal.1)
 only_shared a (unasked.Overwrites text) asks over =
     absurd (no_truth (sym (unwritten_is_kept over.0 (shared_plainly over.0 over.1).unwritten) ∙ over.2))
@@ -499,10 +535,10 @@ shared_refusal (command ∷ []) u is refusal = absurd (apart 1 3 (omega arith) (
 shared_refusal (command ∷ file ∷ []) u is refusal = absurd (apart 2 3 (omega arith) (ap size is))
 shared_refusal (command ∷ file ∷ tree ∷ []) u is refusal =
     let names : option_map named_check (subcommand_of program shared_words)
-    ≡ Some (codes "check", Some (string_bytes file), Some (string_bytes tree), false) =
+    ≡ Some (codes "check", Some (string_bytes file), Some (string_bytes tree), false, None) =
     rw (ap second is, ap third is) (check_names (codes "-") (codes "-") minus_is_taken minus_is_taken) in
     let words : shared_words ≡ codes "check" ∷ string_bytes file ∷ string_bytes tree ∷ [] = rw (ap second is, ap third is) refl in
-    only_shared (asked.Check file tree false) u (
+    only_shared (asked.Check file tree false None) u (
       check_fault (codes "-") (codes "-") minus_is_taken minus_is_taken,
       asks_check shared_words (subcommand_of program shared_words) file tree names words,
     )
@@ -561,7 +597,8 @@ has_one : (words : List Text) (k : ErrorKind) (ks : Kinds) (status : ℕ) (u : U
     → IsRefusal words u → (exit_status u ≡ status) ⊎ (u ≡ unasked.Memory)
 has_one words k ks status (unasked.Told text) are one refusal = inl (one 0 (subst (λ (kinds : Kinds). HasStatus kinds 0) are refusal))
 has_one words k ks status (unasked.Wrong text) are one (inl kind) = inl (one 2 (subst (λ (kinds : Kinds). HasStatus kinds 2) are kind))
-has_one words k ks status (unasked.Wrong text) are one (inr nothing) = absurd (takes_none _ _ _ are nothing.0)
+has_one words k ks status (unasked.Wrong text) are one (inr (inl nothing)) = absurd (takes_none _ _ _ are nothing.0)
+has_one words k ks status (unasked.Wrong text) are one (inr (inr lacking)) = absurd (takes_none _ _ _ are lacking.1.0)
 has_one words k ks status (unasked.Workers text) are one refusal = absurd (takes_none _ _ _ are refusal.0)
 has_one words k ks status (unasked.Overwrites text) are one over = absurd (takes_none _ _ _ are over.1.0)
 has_one words k ks status unasked.SharedInput are one shared = absurd (takes_none _ _ _ are shared.1.0)

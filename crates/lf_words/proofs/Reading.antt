@@ -60,7 +60,7 @@ is_refused words k (Err e) told among = tt
 pub is_unread : (words : List Text) (u : Unasked) → IsUnread (subcommand_of program words) u → fault_of program words ≡ []
     → ((a : Asked) → Asks words a → ⊥) → IsRefusal words u
 is_unread words (unasked.Told text) unread taken nothing = absurd unread
-is_unread words (unasked.Wrong text) unread taken nothing = inr (taken, nothing, unread)
+is_unread words (unasked.Wrong text) unread taken nothing = inr (inl (taken, nothing, unread))
 is_unread words (unasked.Workers text) unread taken nothing = (taken, unread)
 is_unread words (unasked.Overwrites text) unread taken nothing = absurd unread
 is_unread words unasked.SharedInput unread taken nothing = absurd unread

@@ -38,6 +38,14 @@ workers = option (codes "workers")
 abbrev pub quiet : Rule
 quiet = flag (codes "quiet")
 
+-- the option --protocol PROTOCOL
+abbrev pub known : Rule
+known = option (codes "protocol")
+
+-- the flag --rules
+abbrev pub rules : Rule
+rules = flag (codes "rules")
+
 -- a command with this name and the argument FILE
 abbrev pub of_file : Text → App
 of_file name = with_rule (new_app name) file
@@ -50,37 +58,57 @@ written_search = with_rule (of_file (codes "search")) written
 abbrev pub alone_search : App
 alone_search = with_rule written_search each
 
--- search FILE, with all but its last flag
+-- search FILE, with --tree TREE, --all and --workers N
 abbrev pub loud_search : App
 loud_search = with_rule alone_search workers
 
+-- search FILE, without --protocol
+abbrev pub shipped_search : App
+shipped_search = with_rule loud_search quiet
+
 -- search FILE
 abbrev pub search : App
-search = with_rule loud_search quiet
+search = with_rule shipped_search known
 
 -- the argument FAULTS
 abbrev pub faults : Rule
 faults = positional (codes "faults")
 
+-- run FILE FAULTS, without its options
+abbrev pub bare_run : App
+bare_run = with_rule (of_file (codes "run")) faults
+
+-- run FILE FAULTS, with --rules alone
+abbrev pub shipped_run : App
+shipped_run = with_rule bare_run rules
+
 -- run FILE FAULTS
 abbrev pub run : App
-run = with_rule (of_file (codes "run")) faults
+run = with_rule shipped_run known
 
 -- the argument TREE
 abbrev pub tree : Rule
 tree = positional (codes "tree")
 
--- check FILE TREE, without its flag
+-- check FILE TREE, without its options
 abbrev pub loud_check : App
 loud_check = with_rule (of_file (codes "check")) tree
 
+-- check FILE TREE, without --protocol
+abbrev pub shipped_check : App
+shipped_check = with_rule loud_check quiet
+
 -- check FILE TREE
 abbrev pub check : App
-check = with_rule loud_check quiet
+check = with_rule shipped_check known
+
+-- answer FILE, without --protocol
+abbrev pub shipped_answer : App
+shipped_answer = with_rule (of_file (codes "answer")) quiet
 
 -- answer FILE
 abbrev pub answer : App
-answer = with_rule (of_file (codes "answer")) quiet
+answer = with_rule shipped_answer known
 
 -- protocol FILE
 abbrev pub protocol : App

@@ -1,5 +1,6 @@
 -- What words ask for.
-use Rattle.std.specs.Prelude.{◌≡◌, ◌≤◌, ◌⊎◌, ◌&&◌, ⊤, Bool, true, false, not, ℕ, List, [], ◌∷◌, Option, Some, None, IsSomeAnd, MatchResult, Result, codes}
+use Rattle.std.specs.Prelude.{◌≡◌, ◌≤◌, ◌⊎◌, ◌&&◌, ◌||◌, ⊤, Bool, true, false, not, ℕ, List, [], ◌∷◌, Option, Some, None, is_none, IsSomeAnd, MatchResult}
+use Rattle.std.specs.Prelude.{Result, codes}
 use Rattle.std.specs.Option.{option_map}
 use Rattle.std.specs.Str.{bytes_eq}
 use Rattle.std.specs.Str.Parse.{IsNumeral, digits_value, without_leading_plus}
@@ -20,51 +21,67 @@ IsPartOf (text ∷ texts) (word ∷ words) = ((text ≡ word) × IsPartOf texts 
 
 -- the file of the scenario, or of the protocol
 abbrev pub file_of : Asked → Text
-file_of (asked.Search file tree all workers quiet) = file.bytes.items
-file_of (asked.Run file faults) = file.bytes.items
-file_of (asked.Check file tree quiet) = file.bytes.items
-file_of (asked.Answer file quiet) = file.bytes.items
+file_of (asked.Search file tree all workers quiet protocol) = file.bytes.items
+file_of (asked.Run file faults rules protocol) = file.bytes.items
+file_of (asked.Check file tree quiet protocol) = file.bytes.items
+file_of (asked.Answer file quiet protocol) = file.bytes.items
 file_of (asked.Protocol file) = file.bytes.items
 
 -- the command, and what it requires
 abbrev pub texts_of : Asked → List Text
-texts_of (asked.Search file tree all workers quiet) = codes "search" ∷ file.bytes.items ∷ []
-texts_of (asked.Run file faults) = codes "run" ∷ file.bytes.items ∷ faults.bytes.items ∷ []
-texts_of (asked.Check file tree quiet) = codes "check" ∷ file.bytes.items ∷ tree.bytes.items ∷ []
-texts_of (asked.Answer file quiet) = codes "answer" ∷ file.bytes.items ∷ []
+texts_of (asked.Search file tree all workers quiet protocol) = codes "search" ∷ file.bytes.items ∷ []
+texts_of (asked.Run file faults rules protocol) = codes "run" ∷ file.bytes.items ∷ faults.bytes.items ∷ []
+texts_of (asked.Check file tree quiet protocol) = codes "check" ∷ file.bytes.items ∷ tree.bytes.items ∷ []
+texts_of (asked.Answer file quiet protocol) = codes "answer" ∷ file.bytes.items ∷ []
 texts_of (asked.Protocol file) = codes "protocol" ∷ file.bytes.items ∷ []
 
 -- the file for a certificate that is to be written
 abbrev pub written_to : Asked → Option Text
-written_to (asked.Search file tree all workers quiet) = option_map (λ t. t.bytes.items) tree
-written_to (asked.Run file faults) = None
-written_to (asked.Check file tree quiet) = None
-written_to (asked.Answer file quiet) = None
+written_to (asked.Search file tree all workers quiet protocol) = option_map (λ t. t.bytes.items) tree
+written_to (asked.Run file faults rules protocol) = None
+written_to (asked.Check file tree quiet protocol) = None
+written_to (asked.Answer file quiet protocol) = None
 written_to (asked.Protocol file) = None
 
 -- all least sets are to be told
 abbrev pub wants_all : Asked → Bool
-wants_all (asked.Search file tree all workers quiet) = all
-wants_all (asked.Run file faults) = false
-wants_all (asked.Check file tree quiet) = false
-wants_all (asked.Answer file quiet) = false
+wants_all (asked.Search file tree all workers quiet protocol) = all
+wants_all (asked.Run file faults rules protocol) = false
+wants_all (asked.Check file tree quiet protocol) = false
+wants_all (asked.Answer file quiet protocol) = false
 wants_all (asked.Protocol file) = false
 
 -- how many workers are to do it
 abbrev pub workers_of : Asked → ℕ
-workers_of (asked.Search file tree all workers quiet) = workers
-workers_of (asked.Run file faults) = 1
-workers_of (asked.Check file tree quiet) = 1
-workers_of (asked.Answer file quiet) = 1
+workers_of (asked.Search file tree all workers quiet protocol) = workers
+workers_of (asked.Run file faults rules protocol) = 1
+workers_of (asked.Check file tree quiet protocol) = 1
+workers_of (asked.Answer file quiet protocol) = 1
 workers_of (asked.Protocol file) = 1
 
 -- nothing is to be told on the way
 abbrev pub is_quiet : Asked → Bool
-is_quiet (asked.Search file tree all workers quiet) = quiet
-is_quiet (asked.Run file faults) = false
-is_quiet (asked.Check file tree quiet) = quiet
-is_quiet (asked.Answer file quiet) = quiet
+is_quiet (asked.Search file tree all workers quiet protocol) = quiet
+is_quiet (asked.Run file faults rules protocol) = false
+is_quiet (asked.Check file tree quiet protocol) = quiet
+is_quiet (asked.Answer file quiet protocol) = quiet
 is_quiet (asked.Protocol file) = false
+
+-- the file of the protocol that the scenario may name besides the shipped ones
+abbrev pub protocol_file : Asked → Option Text
+protocol_file (asked.Search file tree all workers quiet protocol) = option_map (λ t. t.bytes.items) protocol
+protocol_file (asked.Run file faults rules protocol) = option_map (λ t. t.bytes.items) protocol
+protocol_file (asked.Check file tree quiet protocol) = option_map (λ t. t.bytes.items) protocol
+protocol_file (asked.Answer file quiet protocol) = option_map (λ t. t.bytes.items) protocol
+protocol_file (asked.Protocol file) = None
+
+-- the rules that were taken are to be told
+abbrev pub shows_rules : Asked → Bool
+shows_rules (asked.Search file tree all workers quiet protocol) = false
+shows_rules (asked.Run file faults rules protocol) = rules
+shows_rules (asked.Check file tree quiet protocol) = false
+shows_rules (asked.Answer file quiet protocol) = false
+shows_rules (asked.Protocol file) = false
 
 -- just these words are asked for, and no option
 pub record IsPlainly (words : List Text) (a : Asked) : Type 0 where
@@ -73,6 +90,8 @@ pub record IsPlainly (words : List Text) (a : Asked) : Type 0 where
   pub one : wants_all a ≡ false
   pub alone : workers_of a ≡ 1
   pub told : is_quiet a ≡ false
+  pub shipped : protocol_file a ≡ None
+  pub short : shows_rules a ≡ false
 
 -- the file is standard input
 abbrev pub is_input : Text → Bool
@@ -80,27 +99,38 @@ is_input file = bytes_eq file (codes "-")
 
 -- two texts are to be read from standard input
 abbrev pub shares_input : Asked → Bool
-shares_input (asked.Search file tree all workers quiet) = false
-shares_input (asked.Run file faults) = false
-shares_input (asked.Check file tree quiet) = is_input file.bytes.items && is_input tree.bytes.items
-shares_input (asked.Answer file quiet) = false
+shares_input (asked.Search file tree all workers quiet protocol) = false
+shares_input (asked.Run file faults rules protocol) = false
+shares_input (asked.Check file tree quiet protocol) = is_input file.bytes.items && is_input tree.bytes.items
+shares_input (asked.Answer file quiet protocol) = false
 shares_input (asked.Protocol file) = false
 
--- the certificate would be written into the file of the scenario, by the same name. `-` is standard input for a scenario, and for a
--- certificate that is to be written a file of that name
+-- a file has this name
+abbrev pub has_name : Text → Option Text → Bool
+has_name name None = false
+has_name name (Some file) = bytes_eq file name
+
+-- the certificate would be written into the file of the scenario or of the protocol, by the same name. `-` is standard input for a
+-- scenario, and elsewhere a file of that name
 abbrev pub overwrites : Asked → Bool
-overwrites (asked.Search file None all workers quiet) = false
-overwrites (asked.Search file (Some tree) all workers quiet) =
-    not (is_input file.bytes.items) && bytes_eq file.bytes.items tree.bytes.items
-overwrites (asked.Run file faults) = false
-overwrites (asked.Check file tree quiet) = false
-overwrites (asked.Answer file quiet) = false
+overwrites (asked.Search file None all workers quiet protocol) = false
+overwrites (asked.Search file (Some tree) all workers quiet protocol) =
+    (not (is_input file.bytes.items) && bytes_eq file.bytes.items tree.bytes.items)
+    || has_name tree.bytes.items (option_map (λ t. t.bytes.items) protocol)
+overwrites (asked.Run file faults rules protocol) = false
+overwrites (asked.Check file tree quiet protocol) = false
+overwrites (asked.Answer file quiet protocol) = false
 overwrites (asked.Protocol file) = false
+
+-- rules are to be told, and there is no protocol file that has some
+abbrev pub lacks_protocol : Asked → Bool
+lacks_protocol a = shows_rules a && is_none (protocol_file a)
 
 -- what is asked for can be done
 pub record CanBeDone (a : Asked) : Type 0 where
   pub apart : shares_input a ≡ false
   pub kept : overwrites a ≡ false
+  pub ruled : lacks_protocol a ≡ false
 
 -- what `clap` has of a flag, which is on where it is among the words
 abbrev pub is_set : Option Text → Bool
@@ -119,15 +149,18 @@ AreNamed (Some text) n =
 
 -- the command of this name with these matches asks for this
 abbrev pub IsMatched : Text → List Row → Asked → Type 0
-IsMatched name rows (asked.Search file tree all workers quiet) = (name ≡ codes "search") × (first_of (codes "file") rows ≡ Some file.bytes.items)
+IsMatched name rows (asked.Search file tree all workers quiet protocol) = (name ≡ codes "search") × (first_of (codes "file") rows ≡ Some file.bytes.items)
     × (first_of (codes "tree") rows ≡ option_map (λ t. t.bytes.items) tree) × (is_set (first_of (codes "all") rows) ≡ all)
     × AreNamed (first_of (codes "workers") rows) workers × (is_set (first_of (codes "quiet") rows) ≡ quiet)
-IsMatched name rows (asked.Run file faults) = (name ≡ codes "run") × (first_of (codes "file") rows ≡ Some file.bytes.items)
-    × (first_of (codes "faults") rows ≡ Some faults.bytes.items)
-IsMatched name rows (asked.Check file tree quiet) = (name ≡ codes "check") × (first_of (codes "file") rows ≡ Some file.bytes.items)
+    × (first_of (codes "protocol") rows ≡ option_map (λ t. t.bytes.items) protocol)
+IsMatched name rows (asked.Run file faults rules protocol) = (name ≡ codes "run") × (first_of (codes "file") rows ≡ Some file.bytes.items)
+    × (first_of (codes "faults") rows ≡ Some faults.bytes.items) × (is_set (first_of (codes "rules") rows) ≡ rules)
+    × (first_of (codes "protocol") rows ≡ option_map (λ t. t.bytes.items) protocol)
+IsMatched name rows (asked.Check file tree quiet protocol) = (name ≡ codes "check") × (first_of (codes "file") rows ≡ Some file.bytes.items)
     × (first_of (codes "tree") rows ≡ Some tree.bytes.items) × (is_set (first_of (codes "quiet") rows) ≡ quiet)
-IsMatched name rows (asked.Answer file quiet) = (name ≡ codes "answer") × (first_of (codes "file") rows ≡ Some file.bytes.items)
-    × (is_set (first_of (codes "quiet") rows) ≡ quiet)
+    × (first_of (codes "protocol") rows ≡ option_map (λ t. t.bytes.items) protocol)
+IsMatched name rows (asked.Answer file quiet protocol) = (name ≡ codes "answer") × (first_of (codes "file") rows ≡ Some file.bytes.items)
+    × (is_set (first_of (codes "quiet") rows) ≡ quiet) × (first_of (codes "protocol") rows ≡ option_map (λ t. t.bytes.items) protocol)
 IsMatched name rows (asked.Protocol file) = (name ≡ codes "protocol") × (first_of (codes "file") rows ≡ Some file.bytes.items)
 
 -- it asks for this, and of words that are there
@@ -178,7 +211,7 @@ IsUnread command unasked.Memory = ⊥
 -- what is asked for and can't be done is told like this. Memory may be wanting for it
 abbrev pub IsBarred : Asked → Unasked → Type 0
 IsBarred a (unasked.Told text) = ⊥
-IsBarred a (unasked.Wrong text) = ⊥
+IsBarred a (unasked.Wrong text) = lacks_protocol a ≡ true
 IsBarred a (unasked.Workers text) = ⊥
 IsBarred a (unasked.Overwrites text) = overwrites a ≡ true
 IsBarred a unasked.SharedInput = shares_input a ≡ true
@@ -193,7 +226,7 @@ IsOfWorkers (unasked.Overwrites text) = ⊥
 IsOfWorkers unasked.SharedInput = ⊥
 IsOfWorkers unasked.Memory = ⊤
 
--- a certificate that would overwrite the scenario is refused, unless memory is wanting for it
+-- a certificate that would overwrite what is read is refused, unless memory is wanting for it
 abbrev pub IsOverwriting : Unasked → Type 0
 IsOverwriting (unasked.Told text) = ⊥
 IsOverwriting (unasked.Wrong text) = ⊥
@@ -203,13 +236,14 @@ IsOverwriting unasked.SharedInput = ⊥
 IsOverwriting unasked.Memory = ⊤
 
 -- why the words ask for nothing that can be done. `clap` refuses them so; or takes them and they ask for nothing, where they ask for a
--- search by no number of workers, or else; or they ask for two texts from standard input, or for a certificate in place of the
--- scenario. Memory may be wanting for any words
+-- search by no number of workers, or else; or they ask for the rules of no protocol, for two texts from standard input, or for a
+-- certificate in place of the scenario or the protocol. Memory may be wanting for any words
 abbrev pub IsRefusal : List Text → Unasked → Type 0
 IsRefusal words (unasked.Told text) = HasStatus (fault_of program words) 0
 IsRefusal words (unasked.Wrong text) =
     HasStatus (fault_of program words) 2
-    ⊎ ((fault_of program words ≡ []) × ((a : Asked) → Asks words a → ⊥) × (¬ IsUncounted (subcommand_of program words)))
+    ⊎ (((fault_of program words ≡ []) × ((a : Asked) → Asks words a → ⊥) × (¬ IsUncounted (subcommand_of program words)))
+    ⊎ ((a : Asked) × Asks words a × (lacks_protocol a ≡ true)))
 IsRefusal words (unasked.Workers text) = (fault_of program words ≡ []) × IsUncounted (subcommand_of program words)
 IsRefusal words (unasked.Overwrites text) = (a : Asked) × Asks words a × (overwrites a ≡ true)
 IsRefusal words unasked.SharedInput = (a : Asked) × Asks words a × (shares_input a ≡ true)

@@ -2,7 +2,7 @@
 
 ghost use Rattle.std.specs.Prelude.{◌≡◌, IfOk, false};
 ghost use Rattle.clap.specs.Words.{App, Rule, app_of, rule_of, with_rule, with_subcommand};
-ghost use Rattle.lf_words.specs.Commands.{IsBuilt, answer, check, flag, of_file, option, plain, positional, program, protocol, quiet, run, search};
+ghost use Rattle.lf_words.specs.Commands.{IsBuilt, answer, check, flag, known, of_file, option, plain, positional, program, protocol, quiet, run, search};
 
 use clap::{Arg, ArgAction, Command};
 use std::alloc::{AllocError, Global};
@@ -21,6 +21,8 @@ const NOTES: &str = "Arguments:
   FAULTS  faults joined by single commas: 'omit 0>1 @2,crash 2 @3'; '' is no fault
   TREE    a certificate, a JSON file; - is standard input, but not for FILE and TREE at once. After --tree it is the file to write
 
+A scenario may name a protocol of your own: --protocol PROTOCOL gives its file, for search, run, check and answer.
+
 Exit status:
   0  no allowed faults make the scenario miss its outcome, the run reaches it, or the certificate or the protocol file is right; also help
      and the version
@@ -31,7 +33,8 @@ Exit status:
 
 Examples:
   leastfault search commit.toml
-  leastfault run commit.toml 'crash 0 @2'";
+  leastfault run commit.toml 'crash 0 @2'
+  leastfault search election.toml --protocol raft.toml";
 
 /// An example of `search`, and its statuses.
 const SEARCH_NOTES: &str = "Example:
@@ -40,7 +43,7 @@ const SEARCH_NOTES: &str = "Example:
 Exit status:
   0  `none`: no allowed faults make the scenario miss its outcome
   1  faults that make it miss were found
-  2  the arguments or the scenario are refused, or a level of the search has too many sets (`full`)
+  2  the arguments, the protocol file or the scenario are refused, or a level of the search has too many sets (`full`)
   3  out of memory (`memory`), a file or stream failed (`read`, `write`), or the workers gave no answer (`pool NUMBER`)";
 
 /// An example of `run`, and its statuses.
@@ -50,7 +53,7 @@ const RUN_NOTES: &str = "Example:
 Exit status:
   0  the run reaches the outcome
   1  the run misses the outcome
-  2  the arguments, the scenario or the faults are refused
+  2  the arguments, the protocol file, the scenario or the faults are refused
   3  out of memory (`memory`), or a file or stream failed (`read`, `write`)";
 
 /// An example of `check`, and its statuses.
@@ -61,7 +64,7 @@ const CHECK_NOTES: &str = "Example:
 Exit status:
   0  `yes`: the certificate's answer is the scenario's answer
   1  `no`: the certificate is wrong
-  2  the arguments, the scenario or the certificate's text are refused
+  2  the arguments, the protocol file, the scenario or the certificate's text are refused
   3  out of memory (`memory`), or a file or stream failed (`read`, `write`)";
 
 /// An example of `answer`, and its statuses.
@@ -71,7 +74,7 @@ const ANSWER_NOTES: &str = "Example:
 Exit status:
   0  `none`: no allowed faults make the scenario miss its outcome
   1  faults that make it miss were found
-  2  the arguments or the scenario are refused
+  2  the arguments, the protocol file or the scenario are refused
   3  out of memory (`memory`), or a file or stream failed (`read`, `write`)";
 
 /// An example of `protocol`, and its statuses.
@@ -111,7 +114,7 @@ fn plain<'a>(alloc: Global) -> Result<Command<'a>, AllocError>
         .bin_name("leastfault")
 }
 
-/// The command `search FILE`, with the options `--tree TREE` and `--workers N` and the flags `--all` and `--quiet`.
+/// The command `search FILE`, with the options `--tree TREE`, `--workers N` and `--protocol PROTOCOL` and the flags `--all` and `--quiet`.
 fn search<'a>(alloc: Global) -> Result<Command<'a>, AllocError>
     ensures { IfOk result (IsBuilt search) }
 {
@@ -140,10 +143,11 @@ fn search<'a>(alloc: Global) -> Result<Command<'a>, AllocError>
         "Searches with N workers at once, 1 to 32; every N gives the same answer",
     );
     let command = with_argument(with_argument(command, tree), all);
-    with_argument(with_argument(command, workers), quiet(alloc))
+    let command = with_argument(with_argument(command, workers), quiet(alloc));
+    with_argument(command, known(alloc))
 }
 
-/// The command `run FILE FAULTS`.
+/// The command `run FILE FAULTS`, with the flag `--rules` and the option `--protocol PROTOCOL`.
 fn run<'a>(alloc: Global) -> Result<Command<'a>, AllocError>
     ensures { IfOk result (IsBuilt run) }
 {
@@ -160,10 +164,16 @@ fn run<'a>(alloc: Global) -> Result<Command<'a>, AllocError>
         "FAULTS",
         "Faults joined by single commas: 'omit 0>1 @2,crash 2 @3'; '' is no fault",
     );
-    with_argument(command, faults)
+    let rules = flag(
+        alloc,
+        "rules",
+        "Shows under each step which rules of the protocol file PROTOCOL each node took",
+    );
+    let command = with_argument(with_argument(command, faults), rules);
+    with_argument(command, known(alloc))
 }
 
-/// The command `check FILE TREE`, with the flag `--quiet`.
+/// The command `check FILE TREE`, with the flag `--quiet` and the option `--protocol PROTOCOL`.
 fn check<'a>(alloc: Global) -> Result<Command<'a>, AllocError>
     ensures { IfOk result (IsBuilt check) }
 {
@@ -180,10 +190,11 @@ fn check<'a>(alloc: Global) -> Result<Command<'a>, AllocError>
         "TREE",
         "A certificate, the file that `search --tree` wrote; - is standard input",
     );
-    with_argument(with_argument(command, tree), quiet(alloc))
+    let command = with_argument(with_argument(command, tree), quiet(alloc));
+    with_argument(command, known(alloc))
 }
 
-/// The command `answer FILE`, with the flag `--quiet`.
+/// The command `answer FILE`, with the flag `--quiet` and the option `--protocol PROTOCOL`.
 fn answer<'a>(alloc: Global) -> Result<Command<'a>, AllocError>
     ensures { IfOk result (IsBuilt answer) }
 {
@@ -195,7 +206,7 @@ fn answer<'a>(alloc: Global) -> Result<Command<'a>, AllocError>
 It has no limit on the number of sets and writes no certificate: use it where `search` says `full`.",
         ANSWER_NOTES,
     );
-    with_argument(command, quiet(alloc))
+    with_argument(with_argument(command, quiet(alloc)), known(alloc))
 }
 
 /// The command `protocol FILE`.
@@ -236,6 +247,18 @@ fn quiet<'a>(alloc: Global) -> Arg<'a>
         alloc,
         "quiet",
         "Shows no progress; without it, standard error shows it where that is a terminal",
+    )
+}
+
+/// The option `--protocol PROTOCOL`.
+fn known<'a>(alloc: Global) -> Arg<'a>
+    ensures { (rule_of result ≡ known) × (result.global ≡ false) }
+{
+    option(
+        alloc,
+        "protocol",
+        "PROTOCOL",
+        "Lets the scenario name the protocol of the file PROTOCOL, and give its constants anew",
     )
 }
 

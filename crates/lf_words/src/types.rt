@@ -1,10 +1,11 @@
 //! What a command line asks for.
 
 ghost use Rattle.std.specs.Prelude.{◌≡◌};
-ghost use Rattle.lf_words.specs.Words.{file_of, overwrites, shares_input};
+ghost use Rattle.std.specs.Option.{option_map};
+ghost use Rattle.lf_words.specs.Words.{file_of, has_name, lacks_protocol, overwrites, protocol_file, shares_input};
 
 /// What a command line asks for. A file stands here as it was written; `-` is standard input, but for a certificate that is to be
-/// written, which is a file of that name.
+/// written and for the protocol of a scenario, which are files of that name.
 #[derive(Debug, PartialEq, Eq, Drop)]
 pub enum Asked {
     /// To search for the fewest faults that make a scenario miss its outcome.
@@ -19,6 +20,8 @@ pub enum Asked {
         workers: u32,
         /// Whether nothing is to be told on the way.
         quiet: bool,
+        /// The file of the protocol that the scenario may name besides the shipped ones, if there is one.
+        protocol: Option<String>,
     },
     /// To run a scenario once, under faults that are given.
     Run {
@@ -26,6 +29,10 @@ pub enum Asked {
         file: String,
         /// The faults, as they were written.
         faults: String,
+        /// Whether the rules that the nodes took are to be told.
+        rules: bool,
+        /// The file of the protocol that the scenario may name besides the shipped ones, if there is one.
+        protocol: Option<String>,
     },
     /// To judge a certificate of a scenario's answer.
     Check {
@@ -35,6 +42,8 @@ pub enum Asked {
         tree: String,
         /// Whether nothing is to be told on the way.
         quiet: bool,
+        /// The file of the protocol that the scenario may name besides the shipped ones, if there is one.
+        protocol: Option<String>,
     },
     /// To tell the answer to a scenario alone, with no bound on how much a level keeps.
     Answer {
@@ -42,6 +51,8 @@ pub enum Asked {
         file: String,
         /// Whether nothing is to be told on the way.
         quiet: bool,
+        /// The file of the protocol that the scenario may name besides the shipped ones, if there is one.
+        protocol: Option<String>,
     },
     /// To tell whether a file is a protocol file.
     Protocol {
@@ -64,6 +75,36 @@ impl Asked {
         }
     }
 
+    /// The file of the protocol that the scenario may name besides the shipped ones, where one is given.
+    pub fn protocol_file(&self) -> Option<&str>
+        ensures { option_map (λ name. name.now) result ≡ protocol_file self.now }
+    {
+        match self {
+            Asked::Search { protocol, .. }
+            | Asked::Run { protocol, .. }
+            | Asked::Check { protocol, .. }
+            | Asked::Answer { protocol, .. } => protocol.as_deref(),
+            Asked::Protocol { .. } => None,
+        }
+    }
+
+    /// Whether rules are to be told, and there is no protocol file that has some.
+    pub(crate) fn lacks_protocol(&self) -> bool
+        ensures { result ≡ lacks_protocol self.now }
+    {
+        match self {
+            Asked::Run {
+                rules,
+                protocol,
+                ..
+            } => *rules && protocol.is_none(),
+            Asked::Search { .. }
+            | Asked::Check { .. }
+            | Asked::Answer { .. }
+            | Asked::Protocol { .. } => false,
+        }
+    }
+
     /// Whether two texts are to be read from standard input.
     pub(crate) fn shares_input(&self) -> bool
         ensures { result ≡ shares_input self.now }
@@ -77,7 +118,7 @@ impl Asked {
         }
     }
 
-    /// Whether the certificate is to be written into the file of the scenario, as far as their names show it.
+    /// Whether the certificate is to be written into the file of the scenario or of the protocol, as far as their names show it.
     pub(crate) fn overwrites(&self) -> bool
         ensures { result ≡ overwrites self.now }
     {
@@ -85,13 +126,39 @@ impl Asked {
             Asked::Search {
                 file,
                 tree: Some(tree),
+                protocol,
                 ..
-            } => file.as_str() != "-" && file.as_str() == tree.as_str(),
+            } => {
+                (file.as_str() != "-" && file.as_str() == tree.as_str())
+                    || has_name(protocol, tree.as_str())
+            }
             Asked::Search { .. }
             | Asked::Run { .. }
             | Asked::Check { .. }
             | Asked::Answer { .. }
             | Asked::Protocol { .. } => false,
         }
+    }
+
+    /// The file that a certificate would be written over, and what it has, for a person.
+    pub(crate) fn overwritten(&self) -> (&str, &str) {
+        match self {
+            Asked::Search {
+                tree: Some(tree),
+                protocol,
+                ..
+            } if has_name(protocol, tree.as_str()) => (tree.as_str(), "protocol file"),
+            _ => (self.file(), "scenario"),
+        }
+    }
+}
+
+/// Whether a file is there, and has this name.
+fn has_name(file: &Option<String>, name: &str) -> bool
+    ensures { result ≡ has_name name.now (option_map (λ f. f.bytes.items) file.now) }
+{
+    match file {
+        Some(file) => file.as_str() == name,
+        None => false,
     }
 }

@@ -18,7 +18,7 @@ pub enum Unasked {
     Wrong(String),
     /// What `--workers` names is no number in 1..=32: what to tell.
     Workers(String),
-    /// The certificate would overwrite the scenario: what to tell.
+    /// The certificate would overwrite the scenario or the protocol: what to tell.
     Overwrites(String),
     /// Both texts of a check were to come from standard input.
     SharedInput,
@@ -27,11 +27,12 @@ pub enum Unasked {
 }
 
 impl Unasked {
-    /// The refusal of a certificate that is to be written into this file, which has the scenario. `Memory` where memory ran out.
-    pub fn overwriting(alloc: Global, file: &str) -> Unasked
+    /// The refusal of a certificate that is to be written into this file, which has what is read: the scenario, or the protocol. `Memory`
+    /// where memory ran out.
+    pub fn overwriting(alloc: Global, file: &str, what: &str) -> Unasked
         ensures { IsOverwriting result }
     {
-        match format!(in alloc; "--tree = {file}: it would overwrite the scenario\n") {
+        match format!(in alloc; "--tree = {file}: it would overwrite the {what}\n") {
             Ok(text) => Unasked::Overwrites(text),
             Err(_) => Unasked::Memory,
         }

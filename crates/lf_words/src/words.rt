@@ -21,11 +21,16 @@ use std::alloc::{AllocError, Global};
 /// The most workers that can be asked for.
 pub const MOST_WORKERS: u32 = 32;
 
+/// What to tell where `--rules` stands without `--protocol`.
+const RULES_OF_NONE: &str =
+    "--rules: it tells the rules of a protocol file, which --protocol PROTOCOL gives\n";
+
 /// What the words after the program's name ask for. No words ask for `search -`.
 ///
 /// Plain words, which are `-` or don't begin with it, ask for just what they say; but `check - -`, which would have to read
 /// both its texts from standard input, is refused. Of other words, as where an option or `--` is among them, `clap` decides; but
-/// a certificate isn't to be written into the scenario's own file, and the workers are in 1..=32.
+/// a certificate isn't to be written into the scenario's own file or the protocol's, `--rules` stands with `--protocol` alone, and
+/// the workers are in 1..=32.
 /// `Memory` comes only where memory has run out.
 pub fn asked(alloc: Global, words: &[String]) -> Result<Asked, Unasked>
     ensures workers { IfOk result (λ a. IsWorkers (workers_of a)) }
@@ -91,6 +96,7 @@ fn search_of_input(alloc: Global) -> Result<Asked, Unasked>
         all: false,
         workers: 1,
         quiet: false,
+        protocol: None,
     })
 }
 
@@ -102,7 +108,11 @@ fn possible(alloc: Global, asked: Asked) -> Result<Asked, Unasked>
         return Err(Unasked::SharedInput);
     }
     if asked.overwrites() {
-        return Err(Unasked::overwriting(alloc, asked.file()));
+        let (file, what) = asked.overwritten();
+        return Err(Unasked::overwriting(alloc, file, what));
+    }
+    if asked.lacks_protocol() {
+        return Err(Unasked::Wrong(String::from_str(alloc, RULES_OF_NONE)?));
     }
     Ok(asked)
 }
@@ -147,16 +157,13 @@ fn search(
     let Some(workers) = workers(matches) else {
         return Ok(None);
     };
-    let tree = match value(matches, "tree") {
-        Some(tree) => Some(String::from_str(alloc, tree)?),
-        None => None,
-    };
     Ok(Some(Asked::Search {
         file: String::from_str(alloc, file)?,
-        tree,
+        tree: text(alloc, matches, "tree")?,
         all: is_set(matches, "all"),
         workers,
         quiet: is_set(matches, "quiet"),
+        protocol: text(alloc, matches, "protocol")?,
     }))
 }
 
@@ -203,6 +210,8 @@ fn run(
     Ok(Some(Asked::Run {
         file: String::from_str(alloc, file)?,
         faults: String::from_str(alloc, faults)?,
+        rules: is_set(matches, "rules"),
+        protocol: text(alloc, matches, "protocol")?,
     }))
 }
 
@@ -228,6 +237,7 @@ fn check(
         file: String::from_str(alloc, file)?,
         tree: String::from_str(alloc, tree)?,
         quiet: is_set(matches, "quiet"),
+        protocol: text(alloc, matches, "protocol")?,
     }))
 }
 
@@ -249,6 +259,7 @@ fn answer(
     Ok(Some(Asked::Answer {
         file: String::from_str(alloc, file)?,
         quiet: is_set(matches, "quiet"),
+        protocol: text(alloc, matches, "protocol")?,
     }))
 }
 
@@ -279,6 +290,20 @@ fn is_set(matches: &ArgMatches<'_>, flag: &str) -> bool
     match value(matches, flag) {
         Some(text) => text == "true",
         None => false,
+    }
+}
+
+/// The value of an argument, as a text of its own. The error is that memory has run out.
+fn text(
+    alloc: Global,
+    matches: &ArgMatches<'_>,
+    argument: &str,
+) -> Result<Option<String>, AllocError>
+    ensures { IfOk result (λ text. first_of argument.now (rows_of (found_of matches.now)) ≡ option_map (λ t. t.bytes.items) text) }
+{
+    match value(matches, argument) {
+        Some(text) => Ok(Some(String::from_str(alloc, text)?)),
+        None => Ok(None),
     }
 }
 

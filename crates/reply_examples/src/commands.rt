@@ -43,7 +43,16 @@ fn executed(
 ) -> Result<Reply<Certified>, BytesFault> {
     let mut source = FromRead::new(text);
     let mut tree = FromRead::new(LOST.as_bytes());
-    execute(rt, alloc, asked, &mut source, &mut tree, &NoWatch)
+    let mut protocol = FromRead::new("".as_bytes());
+    execute(
+        rt,
+        alloc,
+        asked,
+        &mut protocol,
+        &mut source,
+        &mut tree,
+        &NoWatch,
+    )
 }
 
 /// Whether a reply, its status and whether it has that certificate are those of a row.

@@ -10,6 +10,8 @@ mod commands;
 #[cfg(test)]
 mod devices;
 #[cfg(test)]
+mod known;
+#[cfg(test)]
 mod protocols;
 #[cfg(test)]
 mod runs;

@@ -1,6 +1,7 @@
 use Rattle.std.proofs.Common.{◌≡◌, ◌≢◌, inl, inr, string_bytes}
 use Rattle.std.proofs.lemmas.Result.{IfOk-weaker}
 use Rattle.lf_scenario.specs.declared.error.ScenarioError.{ScenarioError}
+use Rattle.leastfault.specs.Known.{known_of}
 use Rattle.leastfault.specs.Replies.{IsAnswerReply, RepliesAnswer}
 use Rattle.leastfault.specs.Reports.{refusal}
 use Rattle.leastfault.proofs.answering.answer_reply.Goals as goal
@@ -9,8 +10,8 @@ pub returns-in-Ok : goal.returns-in-Ok
 returns-in-Ok g c =
     let s = c.in-Ok.scenario in
     IfOk-weaker c.answered.result (λ reply. RepliesAnswer s (string_bytes reply.text) reply.value)
-    (λ reply. IsAnswerReply c.args.text.now (string_bytes reply.text) reply.value)
-    (λ reply told. inr (s, c.in-Ok.ensures.reading, told))
+    (λ reply. IsAnswerReply (known_of c.args.known) c.args.text.now (string_bytes reply.text) reply.value)
+    (λ reply told. inr (s, c.in-Ok.ensures, told))
     c.answered.ensures
 
 pub returns-in-Err : goal.returns-in-Err
@@ -18,6 +19,6 @@ returns-in-Err g c =
     let error = c.in-Err.why in
     IfOk-weaker c.refused.result
     (λ reply. (error ≢ ScenarioError.Memory) × (string_bytes reply.text ≡ refusal error) × (reply.value ≡ 2))
-    (λ reply. IsAnswerReply c.args.text.now (string_bytes reply.text) reply.value)
-    (λ reply told. inl (error, c.in-Err.ensures.reading told.0, told.1, told.2))
+    (λ reply. IsAnswerReply (known_of c.args.known) c.args.text.now (string_bytes reply.text) reply.value)
+    (λ reply told. inl (error, c.in-Err.ensures told.0, told.1, told.2))
     c.refused.ensures

@@ -1,9 +1,10 @@
-use Rattle.std.proofs.Common.{◌≡◌, ◌≢◌, inl, string_bytes}
+use Rattle.std.proofs.Common.{◌≡◌, ◌≢◌, false, inl, string_bytes}
 use Rattle.std.proofs.lemmas.Result.{IfOk-weaker}
 use Rattle.lf_sim.specs.Settings.{world_of}
 use Rattle.lf_scenario.specs.declared.error.ScenarioError.{ScenarioError}
 use Rattle.lf_trace.specs.Traces.{trace}
 use Rattle.leastfault.specs.Answers.{reaches_in}
+use Rattle.leastfault.specs.Known.{known_of}
 use Rattle.leastfault.specs.Replies.{IsRunReply}
 use Rattle.leastfault.specs.Reports.{no_set_line, refusal, run_status}
 use Rattle.leastfault.proofs.ReplyLemmas.{run_of_set, run_without_set}
@@ -17,8 +18,8 @@ returns-in-Some c =
     let set = c.in-Some.set in
     IfOk-weaker c.traced.result
     (λ reply. (string_bytes reply.text ≡ trace s.setting.machine (world_of s.setting) set s.formula) × (reply.value ≡ run_status (reaches_in s set)))
-    (λ reply. IsRunReply words text (string_bytes reply.text) reply.value)
-    (λ reply told. run_of_set words text (string_bytes reply.text) reply.value s set c.in-Ok.ensures.reading
+    (λ reply. IsRunReply (known_of c.args.known) false words text (string_bytes reply.text) reply.value)
+    (λ reply told. run_of_set (known_of c.args.known) false words text (string_bytes reply.text) reply.value s set c.in-Ok.ensures
     ((c.allowed_set.ensures set).0 c.in-Some.is) told.0 told.1)
     c.traced.ensures
 
@@ -27,9 +28,9 @@ returns-in-Ok c =
     let words = c.args.faults.now in
     let text = c.args.text.now in
     IfOk-weaker c.no_set.result (λ reply. (string_bytes reply.text ≡ no_set_line) × (reply.value ≡ 2))
-    (λ reply. IsRunReply words text (string_bytes reply.text) reply.value)
-    (λ reply told. run_without_set words text (string_bytes reply.text) reply.value c.in-Ok.scenario c.allowed_set.result
-    c.in-Ok.ensures.reading c.allowed_set.ensures c.in-None.is told.0 told.1)
+    (λ reply. IsRunReply (known_of c.args.known) false words text (string_bytes reply.text) reply.value)
+    (λ reply told. run_without_set (known_of c.args.known) false words text (string_bytes reply.text) reply.value c.in-Ok.scenario c.allowed_set.result
+    c.in-Ok.ensures c.allowed_set.ensures c.in-None.is told.0 told.1)
     c.no_set.ensures
 
 pub returns : goal.returns
@@ -37,6 +38,6 @@ returns c =
     let error = c.in-Err.error in
     IfOk-weaker c.refused.result
     (λ reply. (error ≢ ScenarioError.Memory) × (string_bytes reply.text ≡ refusal error) × (reply.value ≡ 2))
-    (λ reply. IsRunReply c.args.faults.now c.args.text.now (string_bytes reply.text) reply.value)
-    (λ reply told. inl (error, c.in-Err.ensures.reading told.0, told.1, told.2))
+    (λ reply. IsRunReply (known_of c.args.known) false c.args.faults.now c.args.text.now (string_bytes reply.text) reply.value)
+    (λ reply told. inl (error, c.in-Err.ensures told.0, told.1, told.2))
     c.refused.ensures

@@ -1,78 +1,43 @@
-use Rattle.std.proofs.Common.{◌≡◌, subst, sym}
-use Rattle.lf_words.specs.declared.types.Asked.TheVariants as asked
-use Rattle.leastfault.specs.Commands.{IsCauseFor, IsDone}
-use Rattle.leastfault.specs.Engines.{IsMadeOfBoth, IsMadeOfOne, NoCause, OfReply}
-use Rattle.leastfault.specs.Replies.{IsRunReply}
-use Rattle.leastfault.proofs.CommandLemmas.{done_answer, done_certified, done_check, done_protocol, done_run, done_uncertified, judged}
+use Rattle.std.proofs.Common.{rules, ◌≡◌, ◌∙◌, sym, subst, option_map, string_bytes}
+use Rattle.std.specs.Prelude.{is_some}
+use Rattle.lf_words.specs.Words.{protocol_file}
+use Rattle.leastfault.specs.declared.reading.CommandTexts.{CommandTexts}
+use Rattle.leastfault.specs.Commands.{IsCause, IsDone, tree_file}
+use Rattle.leastfault.specs.Engines.{IsMadeOfAll}
+use Rattle.leastfault.proofs.DoneLemmas.{cause_by_protocol, cause_by_text, done_by_front, done_by_protocol, done_by_tree}
+use Rattle.leastfault.proofs.EngineLemmas.{front_is_there, made_of_all}
+use Rattle.lf_tree.specs.Texts.{most_bytes}
 use Rattle.leastfault.proofs.commands.execute.Goals as goal
 
-pub returns-in-Some-clause-done : goal.returns-in-Some-clause-done
-returns-in-Some-clause-done g c =
-    let arm = c.in-Search in
-    let some = c.in-Some in
-    let is = subst (λ t. c.args.asked.now ≡ asked.Search arm.file t arm.all arm.workers arm.quiet) some.is arm.is in
-    let new = c.search_certified.new.reader in
-    let tree = c.args.tree_reader.now in
-    subst (λ a. IsMadeOfBoth g.R.Source.left g.R.Source.has_failed g.S.Source.left g.S.Source.has_failed (λ text. OfReply (IsDone a text)) (IsCauseFor a)
-    c.args.scenario_reader.now new tree tree c.search_certified.result) (sym is)
-    (done_certified g.R.Source.left g.R.Source.has_failed g.S.Source.left g.S.Source.has_failed c.args.scenario_reader.now new tree c.requires.tree
-    arm.file some.field-0 arm.all arm.workers arm.quiet c.wanted_of.result c.search_certified.result c.wanted_of.ensures
-    c.search_certified.ensures)
+pub reply_to-requires : goal.reply_to-requires
+reply_to-requires g c =
+    let texts = c.in_ok-texts.texts in
+    let same : is_some (option_map (λ bytes. bytes.items) texts.tree) ≡ is_some (tree_file c.args.asked.now) =
+    front_is_there c.judges_tree.result most_bytes (g.S.Source.left c.args.tree_reader.now) (option_map (λ bytes. bytes.items) texts.tree)
+    c.in_ok-texts.ensures.made.one.2 ∙ c.judges_tree.ensures in
+    search (rules, same)
 
-pub returns-in-None-clause-done : goal.returns-in-None-clause-done
-returns-in-None-clause-done g c =
-    let arm = c.in-Search in
-    let is = subst (λ t. c.args.asked.now ≡ asked.Search arm.file t arm.all arm.workers arm.quiet) c.in-None.is arm.is in
-    let wanted = c.wanted_of-in-None in
-    let new = c.search_by.new.reader in
-    let tree = c.args.tree_reader.now in
-    subst (λ a. IsMadeOfBoth g.R.Source.left g.R.Source.has_failed g.S.Source.left g.S.Source.has_failed (λ text. OfReply (IsDone a text)) (IsCauseFor a)
-    c.args.scenario_reader.now new tree tree c.uncertified.result) (sym is)
-    (done_uncertified g.R.Source.left g.R.Source.has_failed g.S.Source.left g.S.Source.has_failed c.args.scenario_reader.now new tree c.requires.tree
-    arm.file arm.all arm.workers arm.quiet wanted.result c.search_by.result c.uncertified.result wanted.ensures c.search_by.ensures c.uncertified.ensures)
-
-pub returns-in-Answer-clause-done : goal.returns-in-Answer-clause-done
-returns-in-Answer-clause-done g c =
-    let arm = c.in-Answer in
-    let new = c.answer_made.new.reader in
-    let tree = c.args.tree_reader.now in
-    subst (λ a. IsMadeOfBoth g.R.Source.left g.R.Source.has_failed g.S.Source.left g.S.Source.has_failed (λ text. OfReply (IsDone a text)) (IsCauseFor a)
-    c.args.scenario_reader.now new tree tree c.alone.result) (sym arm.is)
-    (done_answer g.R.Source.left g.R.Source.has_failed g.S.Source.left g.S.Source.has_failed c.args.scenario_reader.now new tree c.requires.tree
-    arm.file arm.quiet c.answer_made.result c.alone.result c.answer_made.ensures c.alone.ensures)
-
-pub returns-in-Run-clause-done : goal.returns-in-Run-clause-done
-returns-in-Run-clause-done g c =
-    let arm = c.in-Run in
-    let new = c.run_made.new.reader in
-    let tree = c.args.tree_reader.now in
-    subst (λ a. IsMadeOfBoth g.R.Source.left g.R.Source.has_failed g.S.Source.left g.S.Source.has_failed (λ text. OfReply (IsDone a text)) (IsCauseFor a)
-    c.args.scenario_reader.now new tree tree c.alone-in-Run.result) (sym arm.is)
-    (done_run g.R.Source.left g.R.Source.has_failed g.S.Source.left g.S.Source.has_failed c.args.scenario_reader.now new tree c.requires.tree
-    arm.file arm.faults c.run_made.result c.alone-in-Run.result
-    (subst (λ words. IsMadeOfOne g.R.Source.left g.R.Source.has_failed (OfReply (IsRunReply words)) NoCause c.args.scenario_reader.now new
-    c.run_made.result) c.as_str.ensures.value c.run_made.ensures) c.alone-in-Run.ensures)
-
-pub returns-in-Check-clause-done : goal.returns-in-Check-clause-done
-returns-in-Check-clause-done g c =
-    let arm = c.in-Check in
-    let old = c.args.scenario_reader.now in
-    let new = c.given_made-given.new.reader in
-    let old_too = c.args.tree_reader.now in
-    let new_too = c.given_made-given.new.tree_reader in
-    subst (λ a. IsMadeOfBoth g.R.Source.left g.R.Source.has_failed g.S.Source.left g.S.Source.has_failed (λ text. OfReply (IsDone a text)) (IsCauseFor a)
-    old new old_too new_too c.alone-in-Check.result) (sym arm.is)
-    (done_check g.R.Source.left g.R.Source.has_failed g.S.Source.left g.S.Source.has_failed old new old_too new_too arm.file arm.tree arm.quiet
-    c.judged_in_rows.result c.alone-in-Check.result
-    (judged g.R.Source.left g.R.Source.has_failed g.S.Source.left g.S.Source.has_failed old new old_too new_too c.given_made-given.result
-    c.judged_in_rows.result c.given_made-given.ensures c.judged_in_rows.ensures) c.alone-in-Check.ensures)
-
-pub returns-in-Protocol-clause-done : goal.returns-in-Protocol-clause-done
-returns-in-Protocol-clause-done g c =
-    let arm = c.in-Protocol in
-    let new = c.protocol_made.new.reader in
-    let tree = c.args.tree_reader.now in
-    subst (λ a. IsMadeOfBoth g.R.Source.left g.R.Source.has_failed g.S.Source.left g.S.Source.has_failed (λ text. OfReply (IsDone a text)) (IsCauseFor a)
-    c.args.scenario_reader.now new tree tree c.alone-in-Protocol.result) (sym arm.is)
-    (done_protocol g.R.Source.left g.R.Source.has_failed g.S.Source.left g.S.Source.has_failed c.args.scenario_reader.now new tree c.requires.tree
-    arm.file c.protocol_made.result c.alone-in-Protocol.result c.protocol_made.ensures c.alone-in-Protocol.ensures)
+pub returns-clause-done : goal.returns-clause-done
+returns-clause-done g c =
+    let a = c.args.asked.now in
+    let texts = c.in_ok-texts.texts in
+    let old = c.args.protocol_reader.now in
+    let new = c.read_command.new.protocol_reader in
+    let old_too = c.args.scenario_reader.now in
+    let new_too = c.read_command.new.reader in
+    let old_last = c.args.tree_reader.now in
+    let new_last = c.read_command.new.tree_reader in
+    let made = made_of_all g.P.Source.left g.P.Source.has_failed g.R.Source.left g.R.Source.has_failed g.S.Source.left g.S.Source.has_failed
+    c.names_protocol.result c.judges_tree.result old new old_too new_too old_last new_last
+    (λ protocol text certificate r. IsDone a protocol text certificate (string_bytes r.text) r.value) (IsCause a)
+    (λ text certificate r. done_by_protocol a text certificate (string_bytes r.text) r.value)
+    (λ protocol certificate r. done_by_front a protocol certificate (string_bytes r.text) r.value)
+    (λ protocol text r. done_by_tree a protocol text (string_bytes r.text) r.value) (cause_by_protocol a) (cause_by_text a)
+    (λ (t : CommandTexts). option_map (λ bytes. bytes.items) t.protocol) (λ (t : CommandTexts). t.scenario.items)
+    (λ (t : CommandTexts). option_map (λ bytes. bytes.items) t.tree) texts c.reply_to.result c.in_ok-texts.ensures.made c.reply_to.ensures in
+    subst (λ named. IsMadeOfAll g.P.Source.left g.P.Source.has_failed g.R.Source.left g.R.Source.has_failed g.S.Source.left g.S.Source.has_failed named
+    (is_some (tree_file a)) (λ protocol text certificate r. IsDone a protocol text certificate (string_bytes r.text) r.value) (IsCause a) old new old_too
+    new_too old_last new_last c.reply_to.result) c.names_protocol.ensures
+    (subst (λ judged. IsMadeOfAll g.P.Source.left g.P.Source.has_failed g.R.Source.left g.R.Source.has_failed g.S.Source.left g.S.Source.has_failed
+    c.names_protocol.result judged (λ protocol text certificate r. IsDone a protocol text certificate (string_bytes r.text) r.value) (IsCause a) old new
+    old_too new_too old_last new_last c.reply_to.result) c.judges_tree.ensures made)

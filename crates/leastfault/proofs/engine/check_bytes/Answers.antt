@@ -1,3 +1,4 @@
+use Rattle.std.specs.Prelude.{None}
 use Rattle.leastfault.specs.Engines.{NoCause}
 use Rattle.leastfault.specs.Replies.{IsCheckReply}
 use Rattle.leastfault.proofs.CommandLemmas.{judged}
@@ -11,6 +12,7 @@ returns g c =
     let old_too = c.args.tree_reader.now in
     let new_too = c.given_made-given.new.tree_reader in
     sent_of_both g.R.Source.left g.R.Source.has_failed old new g.W.Sink.written g.W.Sink.has_failed c.args.writer.now c.send.new.writer
-    c.requires.writer c.judged_alone.result c.send.result c.send.ensures g.S.Source.left g.S.Source.has_failed old_too new_too IsCheckReply NoCause
-    (judged g.R.Source.left g.R.Source.has_failed g.S.Source.left g.S.Source.has_failed old new old_too new_too c.given_made-given.result
+    c.requires.writer c.judged_alone.result c.send.result c.send.ensures g.S.Source.left g.S.Source.has_failed old_too new_too (IsCheckReply None)
+    NoCause
+    (judged g.R.Source.left g.R.Source.has_failed g.S.Source.left g.S.Source.has_failed old new old_too new_too None c.given_made-given.result
     c.judged_alone.result c.given_made-given.ensures c.judged_alone.ensures)

@@ -1,9 +1,4 @@
-use Rattle.leastfault.specs.Replies.{IsPoolCause, IsSharedWith, reports_of}
-use Rattle.leastfault.proofs.EngineLemmas.{sent_of_one}
 use Rattle.leastfault.proofs.watched.shared_watched.Goals as goal
 
 pub returns : goal.returns
-returns g c =
-    sent_of_one g.R.Source.left g.R.Source.has_failed c.args.reader.now c.shared_made-made.new.reader g.W.Sink.written g.W.Sink.has_failed
-    c.args.writer.now c.send.new.writer c.requires.writer c.shared_made-made.result c.send.result c.send.ensures
-    (IsSharedWith (reports_of c.args.wanted) c.args.workers) (IsPoolCause c.args.workers) c.shared_made-made.ensures
+returns g c = c.shared_known.ensures

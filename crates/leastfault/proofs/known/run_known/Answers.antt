@@ -1,0 +1,12 @@
+use Rattle.std.specs.Prelude.{false}
+use Rattle.leastfault.specs.Engines.{NoCause}
+use Rattle.leastfault.specs.Known.{known_of}
+use Rattle.leastfault.specs.Replies.{IsRunReply}
+use Rattle.leastfault.proofs.EngineLemmas.{sent_of_one}
+use Rattle.leastfault.proofs.known.run_known.Goals as goal
+
+pub returns : goal.returns
+returns g c =
+    sent_of_one g.R.Source.left g.R.Source.has_failed c.args.reader.now c.run_made-made.new.reader g.W.Sink.written g.W.Sink.has_failed
+    c.args.writer.now c.send.new.writer c.requires.writer c.run_made-made.result c.send.result c.send.ensures
+    (IsRunReply (known_of c.args.known) false c.args.faults.now) NoCause c.run_made-made.ensures

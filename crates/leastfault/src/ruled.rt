@@ -1,0 +1,53 @@
+//! The replies to runs that tell which rules nodes took.
+
+ghost use Rattle.std.specs.Prelude.{◌≡◌, Some, true, string_bytes, IfOk};
+ghost use Rattle.lf_sim.specs.Settings.{world_of};
+ghost use Rattle.lf_taken.specs.Points.{HasValues};
+ghost use Rattle.lf_rule_trace.specs.RuleTraces.{rule_trace};
+ghost use Rattle.leastfault.specs.Answers.{reaches_in};
+ghost use Rattle.leastfault.specs.Replies.{IsRunReply};
+ghost use Rattle.leastfault.specs.Reports.{run_status};
+
+use crate::answering::{allowed_set, no_set, refused, run_status};
+use crate::reply::Reply;
+use lf_faults::FaultSet;
+use lf_outcome::holds;
+use lf_own_scenario::{Valued, read_with_values};
+use lf_rule_trace::trace_with_rules;
+use lf_sim::run;
+use lf_written::ProtocolFile;
+use std::alloc::{AllocError, Global};
+
+/// The reply of a run, with the rules that nodes took, to the text of a scenario of a protocol file and the words that name a set of faults.
+pub(crate) fn rules_reply(
+    alloc: Global,
+    file: &ProtocolFile,
+    text: &[u8],
+    faults: &str,
+) -> Result<Reply<u8>, AllocError>
+    ensures { IfOk result (λ reply. IsRunReply (Some file.now) true faults.now text.now (string_bytes reply.text) reply.value) }
+{
+    match read_with_values(alloc, text, file) {
+        Ok(valued) => match allowed_set(&valued.scenario, faults) {
+            Some(set) => traced(alloc, &valued, &set),
+            None => no_set(alloc),
+        },
+        Err(error) => refused(alloc, error),
+    }
+}
+
+/// The reply that tells the run of a set of faults, with the rules that nodes took.
+fn traced(alloc: Global, valued: &Valued, set: &FaultSet) -> Result<Reply<u8>, AllocError>
+    requires { HasValues valued.now.scenario.setting.machine valued.now.values }
+    ensures { IfOk result (λ reply.
+        (string_bytes reply.text ≡ rule_trace valued.now.scenario.setting.machine (world_of valued.now.scenario.setting) set.now valued.now.scenario.formula)
+        × (reply.value ≡ run_status (reaches_in valued.now.scenario set.now))) }
+{
+    let setting = valued.scenario.setting();
+    let formula = valued.scenario.formula();
+    let played = run(alloc, setting, set)?;
+    Ok(Reply {
+        text: trace_with_rules(alloc, setting, &valued.values, formula, &played)?,
+        value: run_status(holds(setting, formula, &played)),
+    })
+}

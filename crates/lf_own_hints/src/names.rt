@@ -1,0 +1,63 @@
+//! Names of a protocol file, in words.
+
+use lf_near::nearest;
+use lf_written::ProtocolFile;
+use std::alloc::{AllocError, Global};
+use toml::{Table, Value};
+
+/// The value at a key.
+pub(crate) fn at<'a>(table: &'a Table, name: &str) -> Option<&'a Value> {
+    table.get(name)
+}
+
+/// The text at a key, and the empty one where none stands there.
+pub(crate) fn text_at<'a>(table: &'a Table, name: &str) -> &'a str {
+    match at(table, name) {
+        Some(Value::String(text)) => text.as_str(),
+        _ => "",
+    }
+}
+
+/// The names of a file's constants. The error, also below, is that memory has run out.
+pub(crate) fn constants<'a>(
+    alloc: Global,
+    file: &'a ProtocolFile,
+) -> Result<Vec<&'a str>, AllocError> {
+    let mut names = Vec::new(alloc);
+    for constant in file.definition().given.as_slice() {
+        names.push(constant.name.as_str())?;
+    }
+    Ok(names)
+}
+
+/// The names of a file's outcomes.
+pub(crate) fn outcomes<'a>(
+    alloc: Global,
+    file: &'a ProtocolFile,
+) -> Result<Vec<&'a str>, AllocError> {
+    let mut names = Vec::new(alloc);
+    for outcome in file.outcomes() {
+        names.push(outcome.name.as_str())?;
+    }
+    Ok(names)
+}
+
+/// The name that is meant by a word, as a question, or else all names; nothing where there is no name.
+pub(crate) fn meant(alloc: Global, word: &str, names: &[&str]) -> Result<String, AllocError> {
+    if let Some(near) = nearest(alloc, word, names)? {
+        return format!(in alloc; "; did you mean `{near}`?");
+    }
+    let mut text = String::new(alloc);
+    for name in names {
+        text.push_str(if text.is_empty() {
+            ": there are `"
+        } else {
+            "`, `"
+        })?;
+        text.push_str(name)?;
+    }
+    if !text.is_empty() {
+        text.push('`')?;
+    }
+    Ok(text)
+}

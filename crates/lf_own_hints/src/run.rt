@@ -1,0 +1,69 @@
+//! Where a run without faults passes a range or replaces a note.
+
+ghost use Rattle.lf_sim.specs.Settings.{IsRun, world_of};
+
+use lf_faults::FaultSet;
+use lf_outcome::{Formula, holds};
+use lf_protocols::{Fact, Protocol};
+use lf_scenario::Scenario;
+use lf_sim::{Run, Setting, run};
+use std::alloc::{AllocError, Global};
+
+/// Where, in the run without faults, a value first went past its range, and where a note first took another one's place, each on a line of
+/// its own, without the last line feed. Nothing where neither happened, or where the protocol is none of rules. The error, also below, is
+/// that memory has run out.
+pub fn run_notes(alloc: Global, scenario: &Scenario) -> Result<String, AllocError> {
+    let setting = scenario.setting();
+    let played = run(alloc, setting, &FaultSet::empty())?;
+    let mut text = String::new(alloc);
+    if let Some((step, node)) = first_shown(setting, &played, "clamped") {
+        write!(
+            &mut text,
+            "without faults, at step {step} node {node} has set a variable or a field past its range, and it was cut to the range (`clamped`)"
+        )?;
+    }
+    if let Some((step, node)) = first_shown(setting, &played, "replaced") {
+        if !text.is_empty() {
+            text.push('\n')?;
+        }
+        write!(
+            &mut text,
+            "without faults, at step {step} node {node} has sent two notes to one node in one step: the first was lost (`replaced`)"
+        )?;
+    }
+    Ok(text)
+}
+
+/// The first step, and its first node, at which a node shows the fact of this name.
+fn first_shown(
+    setting: &Setting<Protocol>,
+    played: &Run<Protocol>,
+    name: &str,
+) -> Option<(u32, u32)>
+    requires { IsRun (world_of setting.now) played.now }
+{
+    let fact = setting.machine.fact(name)?;
+    for step in 0..=played.horizon() {
+        if let Some(node) = shown_at(setting, played, fact, step) {
+            return Some((step, node));
+        }
+    }
+    None
+}
+
+/// The first node that shows the fact at a step.
+fn shown_at(
+    setting: &Setting<Protocol>,
+    played: &Run<Protocol>,
+    fact: Fact,
+    step: u32,
+) -> Option<u32>
+    requires { IsRun (world_of setting.now) played.now }
+{
+    for node in 0..played.nodes() {
+        if holds(setting, &Formula::Shows { node, step, fact }, played) {
+            return Some(node);
+        }
+    }
+    None
+}

@@ -1,0 +1,123 @@
+//! What is wrong with the text of a scenario of a protocol file.
+
+use crate::given::given_hint;
+use crate::names::{meant, outcomes, text_at};
+use lf_hints::scenario_hint;
+use lf_scenario::{Key, ScenarioError};
+use lf_written::ProtocolFile;
+use std::alloc::{AllocError, Global};
+use toml::Table;
+
+/// All keys of a scenario of a protocol file.
+const KEYS: [&str; 15] = [
+    "nodes",
+    "horizon",
+    "last_omission",
+    "crashes",
+    "budget",
+    "pauses",
+    "pause_length",
+    "max_sets",
+    "seed",
+    "least",
+    "spread",
+    "protocol",
+    "given",
+    "outcome",
+    "links",
+];
+
+/// What is wrong with a text that `lf_own_scenario`'s `read_with` refuses with this error. The error here, also below, is that memory has
+/// run out.
+pub fn own_hint(
+    alloc: Global,
+    text: &[u8],
+    file: &ProtocolFile,
+    error: ScenarioError,
+) -> Result<String, AllocError> {
+    match toml::table_from_slice(alloc, text) {
+        Ok(table) => table_hint(alloc, text, &table, file, error),
+        Err(_) => scenario_hint(alloc, text, error),
+    }
+}
+
+/// What is wrong with the table of a text.
+fn table_hint(
+    alloc: Global,
+    text: &[u8],
+    table: &Table,
+    file: &ProtocolFile,
+    error: ScenarioError,
+) -> Result<String, AllocError> {
+    match error {
+        ScenarioError::Protocol => protocol_hint(alloc, table, file),
+        ScenarioError::Missing(Key::Protocol) => {
+            let name = file.name();
+            format!(in alloc;
+                "protocol: missing; the protocol file is of `{name}`: protocol = \"{name}\""
+            )
+        }
+        ScenarioError::UnknownKey => unknown_hint(alloc, table),
+        ScenarioError::OtherProtocol(Key::Given)
+        | ScenarioError::WrongKind(Key::Given)
+        | ScenarioError::OutOfRange(Key::Given) => given_hint(alloc, table, file),
+        ScenarioError::OtherProtocol(key) => {
+            let (key, name) = (key.name(), file.name());
+            format!(in alloc;
+                "{key}: a key of shipped protocols; constants of `{name}` stand in `given`"
+            )
+        }
+        ScenarioError::Outcome => outcome_hint(alloc, table, file),
+        ScenarioError::Missing(Key::Outcome) | ScenarioError::WrongKind(Key::Outcome) => {
+            let names = outcome_names(alloc, file)?;
+            format!(in alloc; "outcome: a text: {names}")
+        }
+        ScenarioError::Formula => {
+            format!(in alloc;
+                "outcome: a list that is no formula over the facts of `{}`; a text is shorter, such as \"no clamped\"",
+                file.name()
+            )
+        }
+        _ => scenario_hint(alloc, text, error),
+    }
+}
+
+/// That the scenario names another protocol than the file.
+fn protocol_hint(alloc: Global, table: &Table, file: &ProtocolFile) -> Result<String, AllocError> {
+    let (named, name) = (text_at(table, "protocol"), file.name());
+    format!(in alloc;
+        "protocol = {named:?}: the protocol file is of `{name}`: protocol = \"{name}\""
+    )
+}
+
+/// The first key that scenarios of protocol files don't have.
+fn unknown_hint(alloc: Global, table: &Table) -> Result<String, AllocError> {
+    for (key, _value) in table.iter() {
+        let key = key.as_str();
+        if !KEYS.contains(&key) {
+            let instead = meant(alloc, key, &KEYS)?;
+            return format!(in alloc; "{key:?}: no such key{instead}");
+        }
+    }
+    Ok(String::new(alloc))
+}
+
+/// What the key `outcome` takes: the names of the file's outcomes, or a text.
+fn outcome_names(alloc: Global, file: &ProtocolFile) -> Result<String, AllocError> {
+    let mut text = String::new(alloc);
+    for name in outcomes(alloc, file)?.as_slice() {
+        write!(&mut text, "\"{name}\", ")?;
+    }
+    text.push_str("or one in the protocol's words, such as \"no clamped\"")?;
+    Ok(text)
+}
+
+/// Why a text is no outcome.
+fn outcome_hint(alloc: Global, table: &Table, file: &ProtocolFile) -> Result<String, AllocError> {
+    let (text, name) = (text_at(table, "outcome"), file.name());
+    let names = outcomes(alloc, file)?;
+    let instead = meant(alloc, text, names.as_slice())?;
+    format!(in alloc;
+        "outcome = {text:?}: neither an outcome of `{name}` nor a text in its words, or one whose formula is too large{instead}"
+    )
+}
