@@ -69,15 +69,16 @@ expect() {
     )"
 }
 
-# ends STATUS LINE COMMAND: LINE is the last line of standard output, and standard error is empty.
+# ends STATUS LINE ERR COMMAND: LINE is the last line of standard output, ERR a pattern for standard error.
 ends() {
     local last
-    run "$3"
+    run "$4"
     last=${out%$'\n'}
-    count "$3" "$(
+    count "$4" "$(
         differ status "$1" "$status"
         differ 'the last line' "$2" "${last##*$'\n'}"
-        differ 'standard error' '' "$err"
+        # shellcheck disable=SC2053
+        [[ $err == $3 ]] || differ 'standard error' "${3:-(nothing)}" "$err"
     )"
 }
 
@@ -115,40 +116,122 @@ report_of() {
     printf '%s' "${report%$'\n'}"
 }
 
-# test_example FILE: searches, answers, runs and certifies an example, and compares the report with its first comment.
+# protocol_of FILE: the words that name the protocol file of an example, which its first comment tells; none for a built-in one.
+protocol_of() {
+    local line
+    while IFS= read -r line; do
+        case $line in
+        '# protocol: '*) printf ' --protocol examples/protocols/%s' "${line#'# protocol: '}" ;;
+        '#'*) ;;
+        *) break ;;
+        esac
+    done <"$1"
+}
+
+# faults_of REPORT: its faults, as `run` takes them.
+faults_of() {
+    local faults=''
+    case $1 in
+    least*$'\n'*) faults=${1#*$'\n'} ;;
+    esac
+    printf '%s' "${faults//$'\n'/,}"
+}
+
+# test_example FILE: searches, answers, runs and certifies an example, and compares the report with its first comment. With a protocol
+# file, standard error may say that a value passed its range or a message was replaced.
 test_example() {
-    local file=$1 report code=1 faults certificate='' workers
+    local file=$1 report code=1 said='' with certificate='' workers
     report=$(report_of "$room/work/$file")
+    with=$(protocol_of "$room/work/$file")
+    [ -z "$with" ] || said='*'
     case $report in
     refused*)
-        expect 2 "${report%%$'\n'*}" "${report#*$'\n'}"$'\n' "leastfault search $file"
+        expect 2 "${report%%$'\n'*}" "${report#*$'\n'}"$'\n' "leastfault search $file$with"
         return
         ;;
     none*) code=0 ;;
     esac
-    expect "$code" "$report" '' "leastfault search $file"
-    expect "$code" "$report" '' "leastfault answer $file"
-    expect "$code" "$report" '' "leastfault search $file --tree tree.json"
+    expect "$code" "$report" "$said" "leastfault search $file$with"
+    expect "$code" "$report" "$said" "leastfault answer $file$with"
+    expect "$code" "$report" "$said" "leastfault search $file$with --tree tree.json"
     slurp certificate "$room/work/tree.json"
-    expect 0 yes '' "leastfault check $file tree.json"
+    expect 0 yes "$said" "leastfault check $file tree.json$with"
     for workers in 1 3 32; do
-        expect "$code" "$report" '' "leastfault search $file --workers $workers --tree workers.json"
+        expect "$code" "$report" "$said" "leastfault search $file$with --workers $workers --tree workers.json"
         holds workers.json "$certificate" "$workers workers, $file"
     done
-    case $report in
-    least*)
-        faults=${report#*$'\n'}
-        [ "$report" != 'least 0' ] || faults=''
-        ends 1 misses "leastfault run $file '${faults//$'\n'/,}'"
-        ;;
-    *) ends 0 reaches "leastfault run $file ''" ;;
+    case $code in
+    0) ends 0 reaches "$said" "leastfault run $file ''$with" ;;
+    1) ends 1 misses "$said" "leastfault run $file '$(faults_of "$report")'$with" ;;
     esac
 }
 
 test_examples() {
     local example
+    for example in "$room"/work/examples/*.toml "$room"/work/examples/protocols/scenarios/*.toml; do
+        test_example "${example#"$room/work/"}"
+    done
+}
+
+# ---- protocol files ----
+
+test_protocols() {
+    local file name
+    for file in "$room"/work/examples/protocols/*.toml; do
+        name=${file##*/}
+        expect 0 ok "protocol ${name%.toml}"$'\n*' "leastfault protocol examples/protocols/$name"
+    done
+}
+
+# own_form FILE: the scenario for its protocol as a file. What the built-in protocol takes as keys stands in `given` there.
+own_form() {
+    local line
+    while IFS= read -r line; do
+        case $line in
+        'tries = '* | 'patience = '*) printf 'given = { %s }\n' "${line%%#*}" ;;
+        'votes = [true, true]'*) ;; # as in the protocol file
+        *) printf '%s\n' "$line" ;;
+        esac
+    done <"$1"
+}
+
+# same COMMAND OWN: both print the same, with the same status.
+same() {
+    local wanted code
+    run "$1"
+    wanted=$out code=$status
+    run "$2"
+    count "$2, beside the built-in protocol" "$(
+        differ status "$code" "$status"
+        differ 'standard output' "$wanted" "$out"
+    )"
+}
+
+# test_built_in FILE: a built-in protocol and its file have the same answers, certificates and traces.
+test_built_in() {
+    local file=$1 name='' line certificate='' faults with
+    while IFS= read -r line; do
+        case $line in
+        'protocol = "'*) name=${line#*'"'} ;;
+        esac
+    done <"$room/work/$file"
+    with="own.toml --protocol examples/protocols/${name%%'"'*}.toml"
+    put own.toml "$(own_form "$room/work/$file")"
+    faults=$(faults_of "$(report_of "$room/work/$file")")
+    same "leastfault search $file --tree tree.json" "leastfault search $with --tree own.json"
+    [ ! -e "$room/work/tree.json" ] || slurp certificate "$room/work/tree.json"
+    holds own.json "$certificate" "search $with --tree own.json"
+    same "leastfault search $file --all" "leastfault search $with --all"
+    same "leastfault answer $file" "leastfault answer $with"
+    same "leastfault check $file tree.json" "leastfault check $with tree.json"
+    same "leastfault run $file '$faults'" "leastfault run $with '$faults'"
+}
+
+test_built_ins() {
+    local example
     for example in "$room"/work/examples/*.toml; do
-        test_example "examples/${example##*/}"
+        example=examples/${example##*/}
+        [ "$example" = examples/out_of_range.toml ] || test_built_in "$example"
     done
 }
 
@@ -228,9 +311,9 @@ test_run() {
     local tail=$'step 2\n0 has\n1 has\n2 has\nstep 3\n0 has\n1 has\n2 has\nstep 4\n0 has\n1 has\n2 has\nreaches'
     expect 0 $'step 1\n0 has\n1 lacks\n2 lacks\n0>1 data 2\n0>2 data 2\n'"$tail" '' "leastfault run examples/one_try.toml ''"
     expect 0 $'step 1\n0 has\n1 lacks\n2 lacks\n0>1 data 2\n0>2 data 2\n'"$tail" '' "leastfault run - '' <examples/one_try.toml"
-    ends 1 misses "leastfault run examples/crash_between_tries.toml 'omit 0>1 @1,crash 0 @2'"
-    ends 1 misses "leastfault run examples/crash_between_tries.toml 'crash 0 @2,omit 0>1 @1'"
-    ends 0 reaches "leastfault run examples/crash_between_tries.toml 'crash 0 @2'"
+    ends 1 misses '' "leastfault run examples/crash_between_tries.toml 'omit 0>1 @1,crash 0 @2'"
+    ends 1 misses '' "leastfault run examples/crash_between_tries.toml 'crash 0 @2,omit 0>1 @1'"
+    ends 0 reaches '' "leastfault run examples/crash_between_tries.toml 'crash 0 @2'"
     expect 2 'refused faults' '?*' "leastfault run examples/one_try.toml 'omit 0>1 @1,omit 0>1 @1'"
     expect 2 'refused faults' '?*' "leastfault run examples/one_try.toml 'crash 0 @1'"
     expect 2 'refused faults' '?*' "leastfault run examples/one_try.toml 'omit 0>1 @1, omit 0>2 @1'"
@@ -282,14 +365,36 @@ test_protocol() {
     expect 2 'refused protocol 2' '?*' 'leastfault protocol examples/README.md'
 }
 
+# The option --protocol, and what is refused first.
+test_own_protocols() {
+    local protocol=examples/protocols/retry.toml own=examples/protocols/scenarios/retry_lost.toml
+    expect 1 $'all 1 2\nomit 0>1 @1\nomit 0>2 @1' '' "leastfault search --protocol=$protocol $own --all"
+    expect 1 $'least 1\nomit 0>1 @1' '' "leastfault search - --protocol $protocol --quiet <$own"
+    expect 0 $'step 1\n0 has\n1 lacks\n2 lacks\n0>1 data 2\n0>2 data 2\n0 rules 3\nstep 2\n0 has\n1 has\n2 has\n1 rules 2\n2 rules 2
+step 3\n0 has\n1 has\n2 has\nstep 4\n0 has\n1 has\n2 has\nreaches' '' "leastfault run $own '' --protocol $protocol --rules"
+    run "sed 's/DATA to all/DATE to all/' $protocol >wrong.toml"
+    expect 2 'refused protocol 7 rules.3.send' '*`DATA`?*' "leastfault run $own nonsense --protocol wrong.toml"
+    expect 2 'refused protocol 7 rules.3.send' '?*' "leastfault answer examples/out_of_range.toml --protocol wrong.toml"
+    expect 2 'refused 6 budget' '?*' "leastfault check examples/out_of_range.toml examples/README.md --protocol $protocol"
+    expect 2 'refused 9 protocol' '?*' "leastfault search $own --protocol examples/protocols/redundant.toml"
+    expect 2 'refused 4 tries' '?*' "leastfault search examples/one_try.toml --protocol $protocol"
+    expect 2 'refused 4 given' '?*' "sed 's/^outcome/given = { patience = 3 }\noutcome/' $own | leastfault search - --protocol $protocol"
+    expect 2 'refused 10 outcome' '?*' "sed 's/delivered/each had/' $own | leastfault search - --protocol $protocol"
+    expect 2 'refused faults' '?*' "leastfault run $own nonsense --protocol $protocol"
+    expect 3 '' $'read\n*' "leastfault search $own --protocol nowhere.toml"
+    expect 3 '' $'read\n*' "leastfault search nowhere.toml --protocol wrong.toml"
+}
+
 test_words() {
-    local words
+    local words protocol=examples/protocols/retry.toml own=examples/protocols/scenarios/retry_lost.toml
     for words in --help -h 'search --help' 'answer --help' 'run --help' 'check --help' 'protocol --help'; do
         helps "leastfault $words"
     done
     expect 0 'leastfault 0.1.0' '' 'leastfault --version'
     expect 0 'leastfault 0.1.0' '' 'leastfault -V'
     for words in serach 'serach examples/one_try.toml' search 'search examples/one_try.toml more' \
+        'search examples/one_try.toml --protocol' 'search examples/one_try.toml --rules' "run examples/one_try.toml '' --rules" \
+        "check $own examples/claimed_away.json --protocol $protocol --rules" "run $own '' --protocol $protocol --protocol $protocol" \
         'search examples/one_try.toml --workers' 'search examples/one_try.toml --workers 0' \
         'search examples/one_try.toml --workers 33' 'search examples/one_try.toml --workers=33' \
         'search nowhere.toml --workers 33' 'search examples/one_try.toml --workers three' \
@@ -356,6 +461,7 @@ status_of() {
     refused* | full*) echo 2 ;;
     *$'\nreaches\n') echo 0 ;;
     *$'\nmisses\n') echo 1 ;;
+    'step '*) echo 0 ;; # a part of a trace, cut out by a filter
     '') case $2 in
         read* | write* | memory* | pool*) echo 3 ;;
         '') echo 0 ;;
@@ -378,8 +484,19 @@ test_shown() {
     )"
 }
 
+# keep TEXT: makes the file that a TOML block names in its first line, `# FILE.toml`, or puts the block behind it, `# at the end of FILE.toml`.
+keep() {
+    local first=${1%%$'\n'*} rest=${1#*$'\n'}
+    case $first in
+    '# at the end of '*.toml) printf '%s' "$rest" >>"$room/work/${first#'# at the end of '}" ;;
+    '# '*' '*) ;;
+    '# '*.toml) printf '%s' "$rest" >"$room/work/${first#'# '}" ;;
+    esac
+}
+
 # test_page PAGE: runs each line `$ ..` of a block, and compares the lines behind it. A TOML block that has nodes is a whole scenario, and
-# is searched. The last TOML block is left in `scenario`, and the last block of shell in `script`.
+# is searched. The last TOML block is left in `scenario`, and the last block of shell in `script`. TOML blocks that
+# name a file are kept.
 test_page() {
     local page=$1 line block='' command='' text='' before=$((passed + failed))
     scenario='' script=''
@@ -392,6 +509,7 @@ test_page() {
             ;;
         *,'```')
             test_shown "$page" "$command" "$text"
+            [ "$block" != toml ] || keep "$text"
             case $block,$text in
             toml,*nodes*) scenario=$text ;;
             sh,*) script=$text ;;
@@ -414,6 +532,7 @@ test_pages() {
     put readme.toml "$scenario"
     expect 1 $'least 1\ncrash 0 @2' '' 'leastfault search readme.toml'
     test_page examples/README.md
+    test_page docs/PROTOCOLS.md
     test_page docs/GUIDE.md
     put guide.toml "$scenario"
     holds examples/guided.toml "$scenario" 'its copy in docs/GUIDE.md'
@@ -464,6 +583,8 @@ install -m 755 "$program" "$room/bin/leastfault"
 cp -R "$here" "$room/work/examples"
 export PATH="$room/bin:$PATH"
 test_examples
+test_protocols
+test_built_ins
 test_search
 test_tree
 test_own_file
@@ -471,6 +592,7 @@ test_full
 test_run
 test_check
 test_protocol
+test_own_protocols
 test_words
 test_devices
 test_refused
