@@ -25,10 +25,10 @@ err=''
 # slurp NAME FILE: reads a file into a variable, to the last byte.
 slurp() { IFS= read -r -d '' "$1" <"$2" || true; }
 
-# run COMMAND: runs it in the folder `work`, with nothing on standard input. Leaves `status`, `out` and `err`.
+# run COMMAND: runs it in the folder `desk`, with nothing on standard input. Leaves `status`, `out` and `err`.
 run() {
     status=0
-    (cd "$room/work" && exec timeout 60 bash -c "$1") >"$room/out" 2>"$room/err" </dev/null || status=$?
+    (cd "$room/desk" && exec timeout 60 bash -c "$1") >"$room/out" 2>"$room/err" </dev/null || status=$?
     slurp out "$room/out"
     slurp err "$room/err"
 }
@@ -95,12 +95,12 @@ helps() {
 # holds FILE TEXT AFTER: the file has these bytes after that command.
 holds() {
     local text='(no file)'
-    [ ! -e "$room/work/$1" ] || slurp text "$room/work/$1"
+    [ ! -e "$room/desk/$1" ] || slurp text "$room/desk/$1"
     count "$1 after $3" "$(differ "$1" "$2" "$text")"
 }
 
 # put FILE TEXT: makes a file.
-put() { printf '%s' "$2" >"$room/work/$1"; }
+put() { printf '%s' "$2" >"$room/desk/$1"; }
 
 # ---- the examples ----
 
@@ -141,8 +141,8 @@ faults_of() {
 # file, standard error may say that a value passed its range or a message was replaced.
 test_example() {
     local file=$1 report code=1 said='' with certificate='' workers
-    report=$(report_of "$room/work/$file")
-    with=$(protocol_of "$room/work/$file")
+    report=$(report_of "$room/desk/$file")
+    with=$(protocol_of "$room/desk/$file")
     [ -z "$with" ] || said='*'
     case $report in
     refused*)
@@ -154,7 +154,7 @@ test_example() {
     expect "$code" "$report" "$said" "leastfault search $file$with"
     expect "$code" "$report" "$said" "leastfault answer $file$with"
     expect "$code" "$report" "$said" "leastfault search $file$with --tree tree.json"
-    slurp certificate "$room/work/tree.json"
+    slurp certificate "$room/desk/tree.json"
     expect 0 yes "$said" "leastfault check $file tree.json$with"
     for workers in 1 3 32; do
         expect "$code" "$report" "$said" "leastfault search $file$with --workers $workers --tree workers.json"
@@ -168,8 +168,8 @@ test_example() {
 
 test_examples() {
     local example
-    for example in "$room"/work/examples/*.toml "$room"/work/examples/protocols/scenarios/*.toml; do
-        test_example "${example#"$room/work/"}"
+    for example in "$room"/desk/examples/*.toml "$room"/desk/examples/protocols/scenarios/*.toml; do
+        test_example "${example#"$room/desk/"}"
     done
 }
 
@@ -177,7 +177,7 @@ test_examples() {
 
 test_protocols() {
     local file name
-    for file in "$room"/work/examples/protocols/*.toml; do
+    for file in "$room"/desk/examples/protocols/*.toml; do
         name=${file##*/}
         expect 0 ok "protocol ${name%.toml}"$'\n*' "leastfault protocol examples/protocols/$name"
     done
@@ -214,12 +214,12 @@ test_built_in() {
         case $line in
         'protocol = "'*) name=${line#*'"'} ;;
         esac
-    done <"$room/work/$file"
+    done <"$room/desk/$file"
     with="own.toml --protocol examples/protocols/${name%%'"'*}.toml"
-    put own.toml "$(own_form "$room/work/$file")"
-    faults=$(faults_of "$(report_of "$room/work/$file")")
+    put own.toml "$(own_form "$room/desk/$file")"
+    faults=$(faults_of "$(report_of "$room/desk/$file")")
     same "leastfault search $file --tree tree.json" "leastfault search $with --tree own.json"
-    [ ! -e "$room/work/tree.json" ] || slurp certificate "$room/work/tree.json"
+    [ ! -e "$room/desk/tree.json" ] || slurp certificate "$room/desk/tree.json"
     holds own.json "$certificate" "search $with --tree own.json"
     same "leastfault search $file --all" "leastfault search $with --all"
     same "leastfault answer $file" "leastfault answer $with"
@@ -229,7 +229,7 @@ test_built_in() {
 
 test_built_ins() {
     local example
-    for example in "$room"/work/examples/*.toml; do
+    for example in "$room"/desk/examples/*.toml; do
         example=examples/${example##*/}
         [ "$example" = examples/out_of_range.toml ] || test_built_in "$example"
     done
@@ -256,7 +256,7 @@ full='{ echo max_sets = 5; cat examples/three_tries.toml; } | leastfault'
 
 test_tree() {
     local certificate=''
-    slurp certificate "$room/work/examples/claimed_away.json"
+    slurp certificate "$room/desk/examples/claimed_away.json"
     expect 1 $'least 2\nomit 0>1 @1\nomit 0>1 @2' '' 'leastfault search examples/claimed_away.toml --tree made.json'
     holds made.json "$certificate" 'search --tree'
     expect 1 $'all 2 1\nomit 0>1 @1,omit 0>1 @2' '' 'leastfault search examples/claimed_away.toml --all --tree=all.json'
@@ -294,7 +294,7 @@ test_tree() {
 
 test_own_file() {
     local scenario=''
-    slurp scenario "$room/work/examples/one_try.toml"
+    slurp scenario "$room/desk/examples/one_try.toml"
     put own.toml "$scenario"
     expect 2 '' '?*' 'leastfault search own.toml --tree own.toml'
     holds own.toml "$scenario" 'a search whose certificate would replace its scenario'
@@ -324,7 +324,7 @@ test_run() {
 # wrong STATUS REPLY OLD NEW: claimed_away.json with one piece changed is judged so.
 wrong() {
     local text=''
-    slurp text "$room/work/examples/claimed_away.json"
+    slurp text "$room/desk/examples/claimed_away.json"
     put wrong.json "${text/"$3"/"$4"}"
     expect "$1" "$2" '*' 'leastfault check examples/claimed_away.toml wrong.json'
 }
@@ -488,9 +488,9 @@ test_shown() {
 keep() {
     local first=${1%%$'\n'*} rest=${1#*$'\n'}
     case $first in
-    '# at the end of '*.toml) printf '%s' "$rest" >>"$room/work/${first#'# at the end of '}" ;;
+    '# at the end of '*.toml) printf '%s' "$rest" >>"$room/desk/${first#'# at the end of '}" ;;
     '# '*' '*) ;;
-    '# '*.toml) printf '%s' "$rest" >"$room/work/${first#'# '}" ;;
+    '# '*.toml) printf '%s' "$rest" >"$room/desk/${first#'# '}" ;;
     esac
 }
 
@@ -578,9 +578,9 @@ if [ ! -f "$program" ]; then
 fi
 room=$(mktemp -d)
 trap 'rm -rf "$room"' EXIT
-mkdir "$room/bin" "$room/work"
+mkdir "$room/bin" "$room/desk"
 install -m 755 "$program" "$room/bin/leastfault"
-cp -R "$here" "$room/work/examples"
+cp -R "$here" "$room/desk/examples"
 export PATH="$room/bin:$PATH"
 test_examples
 test_protocols
