@@ -1,11 +1,11 @@
 //! The nodes of a part of a tree, judged one after another.
 
-ghost use Rattle.std.specs.Prelude.{◌≡◌, ℕ, ◌+◌, ◌<◌, ◌≤◌, List, length, slice_get, vec_len, IfOk, OnOk, MatchOption, Some};
+ghost use Rattle.std.specs.Prelude.{◌≡◌, ℕ, ◌+◌, ◌<◌, ◌≤◌, List, length, slice_get, vec_len, IfOk, IfSome, OnOk, MatchOption, Some};
 ghost use Rattle.lf_certificate.specs.Places.{Place};
 ghost use Rattle.lf_check.specs.Nodes.{IsFaultAt};
 ghost use Rattle.lf_check.specs.Rows.{ArePlaces, IsExcluded, IsFound, StandsAt};
 ghost use Rattle.lf_check.specs.Walks.{Lowers};
-ghost use Rattle.lf_sim.specs.Settings.{world_of};
+ghost use Rattle.lf_sim.specs.Settings.{IsRun, world_of};
 
 use crate::excluded::Excluded;
 use crate::found::Found;
@@ -19,7 +19,7 @@ use lf_sim::{Machine, Run};
 use lf_tree::Node;
 use std::alloc::{AllocError, Global};
 
-/// How many nodes are judged in the memory of one run.
+/// How many nodes are judged by one run, that of one set after another.
 pub(crate) const PART: usize = 256;
 
 /// The first of two sets, where there are any.
@@ -35,7 +35,7 @@ pub(crate) fn lower(first: Option<FaultSet>, other: Option<FaultSet>) -> Option<
 /// The memory that is used again from node to node.
 #[derive(Drop)]
 struct Memory<M: Machine> {
-    /// The run of the set that was run last, whose memory the next run takes.
+    /// The run of the set that was run last, of which the next run is made.
     spent: Option<Run<M>>,
     /// Memory for required edges.
     required: Vec<Fault>,
@@ -77,6 +77,7 @@ fn found_within<M: Machine>(
     requires order { from ≤ to }
     requires within { to ≤ vec_len places.now.rows }
     requires excluded { IsExcluded places.now.tree.now memory.old.excluded }
+    requires spent { IfSome memory.old.spent (IsRun (world_of judged.now.setting.now)) }
     ensures { IfOk result (IsFound (world_of judged.now.setting.now) judged.now.setting.now.spec judged.now.formula.now
         judged.now.last places.now.tree.now places.now.sets.items from to) }
 {
@@ -115,9 +116,11 @@ fn found_at<M: Machine>(
     requires places { ArePlaces places.now }
     requires at { at < vec_len places.now.rows }
     requires excluded { IsExcluded places.now.tree.now memory.old.excluded }
+    requires spent { IfSome memory.old.spent (IsRun (world_of judged.now.setting.now)) }
     ensures found { IfOk result (IsFound (world_of judged.now.setting.now) judged.now.setting.now.spec judged.now.formula.now
         judged.now.last places.now.tree.now places.now.sets.items at (at + 1)) }
     ensures excluded { OnOk result (IsExcluded places.now.tree.now memory.new.excluded) }
+    ensures spent { IfSome memory.new.spent (IsRun (world_of judged.now.setting.now)) }
 {
     let Some(set) = places.sets[at] else {
         return Ok(Found::Passes { first: None });
@@ -146,10 +149,12 @@ fn fault_at<M: Machine>(
     requires at { at < vec_len places.now.rows }
     requires set { slice_get places.now.sets.items at ≡ Some (Some set.now) }
     requires excluded { IsExcluded places.now.tree.now memory.old.excluded }
+    requires spent { IfSome memory.old.spent (IsRun (world_of judged.now.setting.now)) }
     ensures fault { IfOk result (λ found. (way : List ℕ) (p : Place) → StandsAt places.now.tree.now at way p →
         IsFaultAt (world_of judged.now.setting.now) judged.now.setting.now.spec judged.now.formula.now judged.now.last
         (length way) p found) }
     ensures excluded { OnOk result (IsExcluded places.now.tree.now memory.new.excluded) }
+    ensures spent { IfSome memory.new.spent (IsRun (world_of judged.now.setting.now)) }
 {
     memory.excluded.go_to(places, at)?;
     let run = run_of(alloc, judged.setting, set, memory.spent.take())?;

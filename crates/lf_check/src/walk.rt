@@ -1,6 +1,6 @@
 //! The walk over a tree: the root first, and then each kid in order, with all that is beneath it.
 
-ghost use Rattle.std.specs.Prelude.{◌≡◌, ℕ, ◌<◌, ◌++◌, ◌∷◌, [], length, slice_get, IfOk, OnOk, Some};
+ghost use Rattle.std.specs.Prelude.{◌≡◌, ℕ, ◌<◌, ◌++◌, ◌∷◌, [], length, slice_get, IfOk, IfSome, OnOk, Some};
 ghost use Rattle.std.specs.List.{Contains};
 ghost use Rattle.lf_check.specs.Nodes.{IsFaultAt, place_of};
 ghost use Rattle.lf_check.specs.Walks.{IsWalkFrom, IsWalkOver, Lowers, kid_of, stand_of};
@@ -12,14 +12,15 @@ use crate::node::node_fault;
 use crate::site::{Judged, Site};
 use lf_certificate::Reason;
 use lf_faults::{Fault, FaultSet, with};
-use lf_sim::{Machine, Run, Setting, run, run_reusing};
+use lf_player::rerun;
+use lf_sim::{Machine, Run, Setting, run};
 use lf_tree::Node;
 use std::alloc::{AllocError, Global};
 
 /// Where a walk stands, and the memory that it uses again.
 #[derive(Drop)]
 pub(crate) struct Walk<M: Machine> {
-    /// The run of the set that was run last, whose memory the next run takes.
+    /// The run of the set that was run last, of which the next run is made.
     spent: Option<Run<M>>,
     /// Memory for required edges.
     required: Vec<Fault>,
@@ -33,10 +34,12 @@ pub(crate) struct Walk<M: Machine> {
 
 impl<M: Machine> Walk<M> {
     ghost use Rattle.std.specs.Prelude.{None};
+    ghost use Rattle.lf_sim.specs.Runs.{World};
 
     /// A walk that stands at the root and has met nothing.
     pub(crate) fn new(alloc: Global) -> Walk<M>
-        ensures { stand_of result ≡ record { excluded = []; path = []; first = None } }
+        ensures stand { stand_of result ≡ record { excluded = []; path = []; first = None } }
+        ensures spent { (w : World M.State M.Note M.Fact) → IfSome result.spent (IsRun w) }
     {
         Walk {
             spent: None,
@@ -64,18 +67,22 @@ pub(crate) fn lowered(first: Option<FaultSet>, set: FaultSet) -> Option<FaultSet
     }
 }
 
-/// The run of a set, in the memory of one that is no longer needed, if there is one.
+/// The run of a set. It is made of one of the same setting that is no longer needed, if there is one.
 pub(crate) fn run_of<M: Machine>(
     alloc: Global,
     setting: &Setting<M>,
     set: &FaultSet,
     spent: Option<Run<M>>,
 ) -> Result<Run<M>, AllocError>
+    requires { IfSome spent (IsRun (world_of setting.now)) }
     ensures run { IfOk result (IsRun (world_of setting.now)) }
     ensures set { IfOk result (λ run. set_of run ≡ set.now) }
 {
     match spent {
-        Some(spent) => Ok(run_reusing(setting, set, spent)),
+        Some(mut spent) => {
+            rerun(setting, &mut spent, set);
+            Ok(spent)
+        }
         None => run(alloc, setting, set),
     }
 }
@@ -93,8 +100,10 @@ pub(crate) fn visit<M: Machine>(
     set: FaultSet,
     depth: u32,
 ) -> Result<Option<Reason>, AllocError>
-    ensures { IfOk result (IsWalkFrom (world_of judged.now.setting.now) judged.now.setting.now.spec judged.now.formula.now
+    requires spent { IfSome walk.old.spent (IsRun (world_of judged.now.setting.now)) }
+    ensures walk { IfOk result (IsWalkFrom (world_of judged.now.setting.now) judged.now.setting.now.spec judged.now.formula.now
         judged.now.last depth (place_of node.now set walk.old.excluded.items) (stand_of walk.old) (stand_of walk.new)) }
+    ensures spent { IfSome walk.new.spent (IsRun (world_of judged.now.setting.now)) }
 {
     let fault = fault_of(alloc, judged, walk, node, &set, depth)?;
     if fault.is_some() {
@@ -135,9 +144,11 @@ fn visit_kids<M: Machine>(
     requires above { depth < judged.now.last }
     requires each { (f : Parts) → Contains edges.now f → CanAdd judged.now.setting.now.spec set f }
     requires count { length kids.now ≡ length edges.now }
-    ensures { IfOk result (IsWalkOver (world_of judged.now.setting.now) judged.now.setting.now.spec judged.now.formula.now
+    requires spent { IfSome walk.old.spent (IsRun (world_of judged.now.setting.now)) }
+    ensures walk { IfOk result (IsWalkOver (world_of judged.now.setting.now) judged.now.setting.now.spec judged.now.formula.now
         judged.now.last depth (kid_of edges.now kids.now set walk.old.excluded.items) (length edges.now) (stand_of walk.old)
         (stand_of walk.new)) }
+    ensures spent { IfSome walk.new.spent (IsRun (world_of judged.now.setting.now)) }
 {
     let before = walk.excluded.len();
     'kids: for (i, kid) in kids.iter().enumerate() {
@@ -164,9 +175,11 @@ fn fault_of<M: Machine>(
     set: &FaultSet,
     depth: u32,
 ) -> Result<Option<Reason>, AllocError>
+    requires { IfSome walk.old.spent (IsRun (world_of judged.now.setting.now)) }
     ensures fault { IfOk result (IsFaultAt (world_of judged.now.setting.now) judged.now.setting.now.spec
         judged.now.formula.now judged.now.last depth (place_of node.now set.now walk.old.excluded.items)) }
     ensures stand { stand_of walk.new ≡ stand_of walk.old }
+    ensures spent { IfSome walk.new.spent (IsRun (world_of judged.now.setting.now)) }
 {
     let run = run_of(alloc, judged.setting, set, walk.spent.take())?;
     let site = Site {

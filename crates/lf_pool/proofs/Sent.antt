@@ -27,7 +27,7 @@ use Rattle.lf_sharing.proofs.Laws.{protocols_cross}
 use Rattle.lf_tree.proofs.Laws.{nodes_cross}
 use Rattle.lf_work.specs.contracts.finding.Finding as finding
 use Rattle.lf_work.specs.contracts.job.Job as job
-use Rattle.lf_work.specs.contracts.working.Scratch as scratch
+use Rattle.lf_work.specs.contracts.scratch.Scratch as scratch
 
 scenario_send : IsSend scenario.the_row
 scenario_send = search (protocols_cross, crosses, formulas_cross, sendable) depth 60 fits 20000
@@ -54,7 +54,7 @@ hands_send : IsSend hands.the_row
 hands_send = search (job_send, finding_send, crosses, sendable) depth 60 fits 20000
 
 scratch_send : IsSend (scratch.the_field).row
-scratch_send = search (protocols_cross, crosses, sendable) depth 60 fits 20000
+scratch_send = search (scenario_send, scenario_sync, protocols_cross, crosses, sendable) depth 60 fits 20000
 
 module _ (T : RattleType) (g : ledger.Ghosts T.Denot) where
   locked_send : IsSend (locked.the_row T g)

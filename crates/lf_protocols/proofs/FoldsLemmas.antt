@@ -1,5 +1,5 @@
 -- A step is its parts, one after another.
-use Rattle.std.proofs.Common.{◌≡◌, ℕ, zero, suc, Bool, true, false, cond, nat_eq, List, [], ◌∷◌, refl, ap, sym, ◌∙◌}
+use Rattle.std.proofs.Common.{◌≡◌, ℕ, Bool, true, false, cond, nat_eq, List, [], ◌∷◌, refl, ap, sym, ◌∙◌}
 use Rattle.std.specs.Prelude.{fold, nat_le, slice_index_or, Option, None, Some, map}
 use Rattle.lf_sim.specs.declared.letter.Letter.{Letter}
 use Rattle.lf_sim.specs.declared.out.Out.{Out}
@@ -29,7 +29,7 @@ use Rattle.lf_protocols.specs.RuledTurns.{as_any, as_ruled, any_letter, any_out,
 use Rattle.lf_protocols.specs.Protocols.{wrapped, ignored, step_of}
 use Rattle.lf_protocols.specs.Folds.{commit_begin, two_phase_hear_one, two_phase_finish, three_phase_hear_one, three_phase_finish}
 use Rattle.lf_protocols.specs.Folds.{primary_backup_begin, primary_backup_hear_one, primary_backup_finish}
-use Rattle.lf_protocols.specs.Folds.{begin_of, hear_of, end_of, folded_step}
+use Rattle.lf_protocols.specs.Folds.{hear_of, end_of, folded_step}
 
 -- letters that change nothing leave a turn as it is
 fold-still : {A B : Type 0} (f : B → A → B) (z : B) → ((x : A) → f z x ≡ z) → (xs : List A) → fold f z xs ≡ z

@@ -3,3 +3,6 @@ mod DeliveriesLemmas
 mod BlocksLemmas
 mod WordsLemmas
 mod FoldsLemmas
+mod Orders
+mod Exactness
+pub mod Laws

@@ -1,5 +1,5 @@
 -- A protocol of rules among the others: its states, notes and facts are some of those of all protocols.
-use Rattle.std.specs.Prelude.{ℕ, Bool, Option, None, Some, List}
+use Rattle.std.specs.Prelude.{ℕ, Option, None, Some, List}
 use Rattle.std.specs.List.{fold}
 use Rattle.lf_sim.specs.declared.letter.Letter.{Letter}
 use Rattle.lf_sim.specs.declared.out.Out.{Out}

@@ -1,4 +1,4 @@
-//! The shipped protocols, as machines.
+//! The built-in protocols, as machines.
 //!
 //! At each step a node first does what its protocol's table says for that step's number, then handles its letters in
 //! inbox order, then its conditions once. It ignores each note and state that the table doesn't name. The tables stand
@@ -8,7 +8,6 @@
 mod commit;
 mod fact;
 mod folding;
-mod laws;
 mod machine;
 mod nodes;
 mod note;
@@ -18,6 +17,7 @@ mod redundant;
 mod retry;
 mod ruled;
 mod state;
+mod tables;
 mod three_phase;
 mod turns;
 mod two_phase;
@@ -25,11 +25,11 @@ mod words;
 
 pub use fact::Fact;
 pub use folding::{rules_do_as_their_machine, steps_are_folds};
-pub use laws::{
-    claims_are_heard, facts_are_opposites, prepared_gives_up, prepared_waits, redundant_delivers,
-    retry_delivers,
-};
 pub use nodes::Nodes;
 pub use note::Note;
 pub use protocol::{Kind, Protocol};
 pub use state::{Holding, Phase, Progress, Relay, Replica, State};
+pub use tables::{
+    claims_are_heard, facts_are_opposites, prepared_gives_up, prepared_waits, redundant_delivers,
+    retry_delivers,
+};

@@ -163,6 +163,14 @@ impl Machine for Protocol {
         }
     }
 
+    fn same_state(&self, one: &State, other: &State) -> bool {
+        one == other
+    }
+
+    fn same_note(&self, one: &Note, other: &Note) -> bool {
+        one == other
+    }
+
     fn shows(&self, node: u32, state: State, fact: Fact) -> bool {
         match state {
             State::Ruled(own) => self.shows_by_rules(node, own, fact),

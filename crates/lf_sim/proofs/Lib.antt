@@ -1,3 +1,4 @@
+mod AgainLemmas
 mod EffectsLemmas
 mod FaultTests
 mod InboxLemmas

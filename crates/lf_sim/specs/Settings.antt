@@ -49,3 +49,13 @@ pub record IsRun {M State Note Fact : Type 0} (w : World State Note Fact) (run :
   pub horizon : run.grid.horizon ≡ w.horizon
   pub pause_length : run.grid.pause_length ≡ w.pause_length
   pub each : (n t : ℕ) → n < w.rules.nodes → t ≤ w.horizon → cell_of run n t ≡ Some (did w run.set n t)
+
+-- the run is of the world's size
+pub record HasSize {M State Note Fact : Type 0} (w : World State Note Fact) (run : Run M State Note Fact) : Type 0 where
+  pub nodes : run.grid.nodes ≡ w.rules.nodes
+  pub horizon : run.grid.horizon ≡ w.horizon
+  pub pause_length : run.grid.pause_length ≡ w.pause_length
+
+-- the run has what each node did in this world at each step before b, under these faults
+abbrev pub IsRunBefore : {M State Note Fact : Type 0} → World State Note Fact → List Parts → Run M State Note Fact → ℕ → Type 0
+IsRunBefore w faults run b = (n t : ℕ) → n < w.rules.nodes → t < b → cell_of run n t ≡ Some (did w faults n t)

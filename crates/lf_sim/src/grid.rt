@@ -5,8 +5,8 @@ ghost use Rattle.lf_sim.specs.declared.grid.TheConstants.{CELLS, LETTERS};
 
 use crate::{Letter, Stepped};
 
-/// The cells of the largest run: 8 nodes, before step 1 and after each of 48 steps.
-pub(crate) const CELLS: usize = 392;
+/// The cells of the largest run, 8 nodes before step 1 and after each of 48 steps, and one in which a point is worked again.
+pub(crate) const CELLS: usize = 393;
 
 /// The letters of the largest inbox: 8 senders and 48 steps.
 pub(crate) const LETTERS: usize = 384;

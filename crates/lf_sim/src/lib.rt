@@ -4,6 +4,7 @@
 //! gives a new state and at most one note for each other node.
 #![tactic(auto)]
 
+mod again;
 mod effects;
 mod grid;
 mod letter;
@@ -16,6 +17,7 @@ mod runs;
 mod schedule;
 mod setting;
 
+pub use again::play_again;
 pub use effects::Effects;
 pub use letter::Letter;
 pub use machine::Machine;

@@ -1,6 +1,6 @@
 //! What every node does.
 
-ghost use Rattle.std.specs.Prelude.{◌≡◌, ℕ, ◌+◌, ◌<◌, ◌≤◌, ◌⊎◌, List, [], ◌∷◌, ◌++◌, None, vec_len, vec_capacity};
+ghost use Rattle.std.specs.Prelude.{◌≡◌, IsTrue, ℕ, ◌+◌, ◌<◌, ◌≤◌, ◌⊎◌, List, [], ◌∷◌, ◌++◌, None, vec_len, vec_capacity};
 ghost use Rattle.lf_sim.specs.declared.letter.Letter.{Letter};
 ghost use Rattle.lf_sim.specs.Outs.{note_to};
 ghost use Rattle.lf_sim.specs.Machines.{Rules};
@@ -71,6 +71,23 @@ pub trait Machine {
         requires node { node < (rules self.now).nodes }
         requires t { (1 ≤ t) × (t ≤ 48) }
         ensures { result ≡ (rules self.now).wake node t state };
+
+    /// Whether two states are known to be equal.
+    ///
+    /// A machine need not write it: without it no two are. One that tells them apart lets a run be changed into that of
+    /// another set of faults in less work.
+    fn same_state(&self, _one: &Self::State, _other: &Self::State) -> bool
+        ensures { IsTrue result → _one.now ≡ _other.now }
+    {
+        false
+    }
+
+    /// The same of two notes.
+    fn same_note(&self, _one: &Self::Note, _other: &Self::Note) -> bool
+        ensures { IsTrue result → _one.now ≡ _other.now }
+    {
+        false
+    }
 
     /// Whether a node's state shows a fact.
     fn shows(&self, node: u32, state: Self::State, fact: Self::Fact) -> bool

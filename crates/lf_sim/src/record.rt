@@ -3,8 +3,8 @@
 ghost use Rattle.std.specs.Prelude.{◌≡◌, ℕ, ◌<◌, ◌≤◌, IsTrue};
 ghost use Rattle.lf_sim.specs.Runs.{takes_step};
 
-use crate::Machine;
 use crate::grid::Grid;
+use crate::{Machine, Stepped};
 use lf_faults::FaultSet;
 
 /// What every node did under a set of faults. `run` makes it.
@@ -16,13 +16,24 @@ pub struct Run<M: Machine> {
 
 impl<M: Machine> Run<M> {
     ghost use Rattle.lf_sim.specs.Runs.{World, view, sent, is_up};
-    ghost use Rattle.lf_sim.specs.Settings.{IsRun, nodes_of, horizon_of, set_of, up_of, state_of, sent_of};
+    ghost use Rattle.std.specs.Prelude.{Some};
+    ghost use Rattle.lf_sim.specs.Settings.{IsRun, HasSize, nodes_of, horizon_of, set_of, cell_of, up_of, state_of, sent_of};
 
     /// The set of faults.
     pub fn set(&self) -> FaultSet
         ensures { result ≡ set_of self.now }
     {
         self.set
+    }
+
+    /// Names another set of faults as that of the run. What the nodes did stays as it is: where it isn't yet what they do under
+    /// that set, `play_again` makes it so, point by point.
+    pub fn rename(&mut self, set: &FaultSet)
+        ensures set { set_of self.new ≡ set.now }
+        ensures size { (w : World M.State M.Note M.Fact) → HasSize w self.old → HasSize w self.new }
+        ensures cells { (n t : ℕ) → cell_of self.new n t ≡ cell_of self.old n t }
+    {
+        self.set = *set;
     }
 
     /// How many nodes there are, at most 8.
@@ -70,6 +81,15 @@ impl<M: Machine> Run<M> {
             result ≡ view w (set_of self.now) node step }
     {
         self.grid.cell(node, step).state
+    }
+
+    /// What a node did at a step: its state after it, and what it sent in it. At step 0 that is its start.
+    pub fn turn(&self, node: u32, step: u32) -> &Stepped<M::State, M::Note>
+        requires node { node < nodes_of self.now }
+        requires step { step ≤ horizon_of self.now }
+        ensures { cell_of self.now node step ≡ Some result.now }
+    {
+        self.grid.cell(node, step)
     }
 
     /// What a node sent to another at a step, lost or not. None where it wasn't up.

@@ -2,7 +2,7 @@
 
 ghost use Rattle.std.specs.Prelude.{◌≡◌, ℕ, ◌+◌, ◌*◌, ◌<◌, ◌≤◌, [], ◌∷◌, ◌++◌, length, IfOk, slice_get, Some, vec_len, vec_capacity};
 ghost use Rattle.lf_sim.specs.Runs.{did};
-ghost use Rattle.lf_sim.specs.Tables.{row_of, table};
+ghost use Rattle.lf_sim.specs.Tables.{HasPast, table};
 ghost use Rattle.lf_sim.specs.Settings.{world_of, set_of, nodes_of, horizon_of, up_of, state_of, sent_of, IsRun};
 
 use crate::effects::Effects;
@@ -145,7 +145,7 @@ fn put_turns<M: Machine>(
 }
 
 /// Puts what a node does at the step after `t`, with memory for its inbox.
-fn put_turn<M: Machine>(
+pub(crate) fn put_turn<M: Machine>(
     setting: &Setting<M>,
     effects: &Effects,
     nodes: u32,
@@ -159,8 +159,7 @@ fn put_turn<M: Machine>(
     requires node { node < nodes }
     requires step { t < setting.now.spec.horizon }
     requires short { t < 48 }
-    requires before { let w = world_of setting.now in let faults = effects.now.set in
-        cells.old.items ≡ table w faults (t + 1) ++ row_of w faults (t + 1) node }
+    requires before { HasPast (world_of setting.now) effects.now.set cells.old.items (t + 1) }
     requires room { vec_len cells.old < vec_capacity cells.old }
     requires letters { LETTERS ≤ vec_capacity inbox.old }
     ensures cells { cells.new.items ≡ cells.old.items ++ did (world_of setting.now) effects.now.set node (t + 1) ∷ [] }

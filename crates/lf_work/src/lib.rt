@@ -5,8 +5,10 @@
 
 mod finding;
 mod job;
+mod scratch;
 mod working;
 
 pub use finding::Finding;
 pub use job::Job;
-pub use working::{Scratch, work, work_reusing, work_up};
+pub use scratch::Scratch;
+pub use working::{work, work_reusing, work_up};

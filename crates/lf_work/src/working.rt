@@ -9,33 +9,15 @@ ghost use Rattle.lf_work.specs.Jobs.{IsOfJob};
 
 use crate::finding::Finding;
 use crate::job::Job;
+use crate::scratch::{Scratch, run_of};
 use lf_cone::{put_edges, sharp};
 use lf_faults::{Fault, FaultSet};
 use lf_list::Listed;
 use lf_marks::{Answer, Grown};
 use lf_outcome::{Formula, Point, Reach, evidence, holds};
 use lf_protocols::{Fact, Protocol};
-use lf_sim::{Run, Setting, run, run_reusing};
+use lf_sim::{Run, Setting};
 use std::alloc::{AllocError, Global};
-
-/// Memory that working a job leaves, and the next takes.
-#[derive(Drop)]
-pub struct Scratch {
-    /// The run of the last set.
-    run: Option<Run<Protocol>>,
-    /// Memory for required edges.
-    edges: Vec<Fault>,
-}
-
-impl Scratch {
-    /// No memory: the first job that is worked takes it.
-    pub fn new(alloc: Global) -> Scratch {
-        Scratch {
-            run: None,
-            edges: Vec::new(alloc),
-        }
-    }
-}
 
 /// Runs the set of a job, and tells what its run shows. The error is that memory has run out.
 pub fn work(job: &Job) -> Result<Finding, AllocError>
@@ -71,33 +53,17 @@ fn worked(job: &Job, scratch: &mut Scratch) -> Result<Answer, AllocError>
     let alloc = *job.excluded.allocator();
     let scenario = job.scenario();
     let setting = scenario.setting();
-    let played = played(alloc, setting, &job.set, scratch.run.take())?;
+    let played = run_of(job, scratch.played.take())?;
     let answer = found(
         alloc,
         setting,
         scenario.formula(),
-        &played,
+        &played.run,
         job.excluded.as_slice(),
         &mut scratch.edges,
     )?;
-    scratch.run = Some(played);
+    scratch.played = Some(played);
     Ok(answer)
-}
-
-/// The run of a set, in the memory of one that is no longer needed, if there is one.
-fn played(
-    alloc: Global,
-    setting: &Setting<Protocol>,
-    set: &FaultSet,
-    used: Option<Run<Protocol>>,
-) -> Result<Run<Protocol>, AllocError>
-    ensures run { IfOk result (IsRun (world_of setting.now)) }
-    ensures set { IfOk result (λ run. set_of run ≡ set.now) }
-{
-    match used {
-        Some(used) => Ok(run_reusing(setting, set, used)),
-        None => run(alloc, setting, set),
-    }
 }
 
 /// What a run shows of its set, where some faults are excluded. The list of edges is used as memory.

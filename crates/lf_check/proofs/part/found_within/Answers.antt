@@ -13,6 +13,7 @@ loop-at-init g c =
       c.requires.order,
       found-none (world_of s) s.spec j.formula.now j.last c.args.places.now.tree.now c.args.places.now.sets.items c.args.from,
       c.requires.excluded,
+      c.requires.spent,
     )
 
 pub returns-in-Fails : goal.returns-in-Fails
@@ -31,6 +32,9 @@ returns-in-Fails g c =
 pub found_at-requires-clause-excluded : goal.found_at-requires-clause-excluded
 found_at-requires-clause-excluded g c = c.loop-at.invariant.3
 
+pub found_at-requires-clause-spent : goal.found_at-requires-clause-spent
+found_at-requires-clause-spent g c = c.loop-at.invariant.4
+
 pub loop-at-preserved : goal.loop-at-preserved
 loop-at-preserved g c =
     let j = c.args.judged.now in
@@ -46,6 +50,7 @@ loop-at-preserved g c =
           (subst (IsFound (world_of s) s.spec j.formula.now j.last places.tree.now places.sets.items at (at + 1)) c.in-Passes.is c.in_ok-at.ensures.found)
           c.lower-first.ensures,
       c.in_ok-at.ensures.excluded,
+      c.in_ok-at.ensures.spent,
     )
 
 pub returns : goal.returns

@@ -13,8 +13,8 @@ use Rattle.lf_check.proofs.WalkLemmas.{stops-here, passes-Misses, passes-Reaches
 use Rattle.lf_check.proofs.WalkLemmas.{kid_of-some, walk-at}
 use Rattle.lf_check.proofs.walk.+visit.Goals as goal
 
-pub visit-returns-then-is_some : goal.visit-returns-then-is_some
-visit-returns-then-is_some g t c =
+pub visit-returns-then-is_some-clause-walk : goal.visit-returns-then-is_some-clause-walk
+visit-returns-then-is_some-clause-walk g t c =
     let j = c.args.judged.now in
     let s = j.setting.now in
     let walk = c.args.walk.now in
@@ -38,10 +38,10 @@ visit-visit_kids-requires g t c κs within =
     given-Branch c.args.node.now branch.reach branch.edges edges branch.kids kids branch.is c.as_slice.ensures c.as_slice-in-Branch.ensures in
     let r : IsRightBranch (world_of s) s.spec j.formula.now j.last c.args.depth c.args.set excluded branch.reach edges kids =
     right-Branch (world_of s) s.spec j.formula.now j.last c.args.depth p branch.reach edges kids is right in
-    (omega arith, (within.0, (within.1.0, (within.1.1.0, (within.1.1.1, (r.above, ((λ f h. ((r.required.each f).0 h).allowed), r.each)))))))
+    (omega arith, (within.0, (within.1.0, (within.1.1.0, (within.1.1.1, (r.above, ((λ f h. ((r.required.each f).0 h).allowed), (r.each, c.in_ok-fault.ensures.spent))))))))
 
-pub visit-returns-in-Misses : goal.visit-returns-in-Misses
-visit-returns-in-Misses g t c =
+pub visit-returns-in-Misses-clause-walk : goal.visit-returns-in-Misses-clause-walk
+visit-returns-in-Misses-clause-walk g t c =
     let j = c.args.judged.now in
     let s = j.setting.now in
     let walk = c.args.walk.now in
@@ -55,8 +55,8 @@ visit-returns-in-Misses g t c =
     (ap (λ (x : Stand). x.excluded) stand) (ap (λ (x : Stand). x.path) stand)
     (subst (λ o. Lowers (λ other. c.args.set ≡ other) o c.lowered-walk.result) (ap (λ (x : Stand). x.first) stand) c.lowered-walk.ensures)
 
-pub visit-returns-in-Reaches : goal.visit-returns-in-Reaches
-visit-returns-in-Reaches g t c =
+pub visit-returns-in-Reaches-clause-walk : goal.visit-returns-in-Reaches-clause-walk
+visit-returns-in-Reaches-clause-walk g t c =
     let j = c.args.judged.now in
     let s = j.setting.now in
     let walk = c.args.walk.now in
@@ -67,8 +67,8 @@ visit-returns-in-Reaches g t c =
     (ap (λ (x : Stand). x.excluded) c.in_ok-fault.ensures.stand) (ap (λ (x : Stand). x.path) c.in_ok-fault.ensures.stand)
     (ap (λ (x : Stand). x.first) c.in_ok-fault.ensures.stand)
 
-pub visit-returns-in-Branch : goal.visit-returns-in-Branch
-visit-returns-in-Branch g t c =
+pub visit-returns-in-Branch-clause-walk : goal.visit-returns-in-Branch-clause-walk
+visit-returns-in-Branch-clause-walk g t c =
     let j = c.args.judged.now in
     let s = j.setting.now in
     let walk = c.args.walk.now in
@@ -83,14 +83,16 @@ visit-returns-in-Branch g t c =
     c.in_ok-fault.ensures.fault)
     c.visit_kids.result (stand_of walk) (stand_of c.visit_kids.new.walk)
     (subst (λ (x : Stand). IfOk c.visit_kids.result (IsWalkOver (world_of s) s.spec j.formula.now j.last c.args.depth
-    (kid_of edges kids c.args.set x.excluded) (length edges) x (stand_of c.visit_kids.new.walk))) c.in_ok-fault.ensures.stand c.visit_kids.ensures)
+    (kid_of edges kids c.args.set x.excluded) (length edges) x (stand_of c.visit_kids.new.walk))) c.in_ok-fault.ensures.stand c.visit_kids.ensures.walk)
 
 pub visit_kids-kids-init : goal.visit_kids-kids-init
 visit_kids-kids-init g t c =
     let j = c.args.judged.now in
-    let s = j.setting.now in
-    so_far-first (world_of s) s.spec j.formula.now j.last c.args.depth
-    (kid_of c.args.edges.now c.args.kids.now c.args.set c.args.walk.now.excluded.items) c.args.edges.now (stand_of c.args.walk.now)
+    let s = j.setting.now in (
+      so_far-first (world_of s) s.spec j.formula.now j.last c.args.depth
+          (kid_of c.args.edges.now c.args.kids.now c.args.set c.args.walk.now.excluded.items) c.args.edges.now (stand_of c.args.walk.now),
+      c.requires.spent,
+    )
 
 pub visit_kids-with-larger-requires : goal.visit_kids-with-larger-requires
 visit_kids-with-larger-requires g t c =
@@ -98,8 +100,8 @@ visit_kids-with-larger-requires g t c =
     let few : i < length c.args.edges.now = omega (arith, c.kids-test.true, c.requires.count) in
     c.requires.each c.index-edges-i.result (i, few, sym c.index-edges-i.is)
 
-pub visit_kids-returns-then-is_some : goal.visit_kids-returns-then-is_some
-visit_kids-returns-then-is_some g t c =
+pub visit_kids-returns-then-is_some-clause-walk : goal.visit_kids-returns-then-is_some-clause-walk
+visit_kids-returns-then-is_some-clause-walk g t c =
     let j = c.args.judged.now in
     let s = j.setting.now in
     let start = c.args.walk.now.excluded.items in
@@ -118,9 +120,9 @@ visit_kids-returns-then-is_some g t c =
     stops-kid (world_of s) s.spec j.formula.now j.last c.args.depth (kid_of edges kids c.args.set start) i
     (place_of node (inserted edge c.args.set) (start ++ take i edges)) (kid_of-some edges kids c.args.set start i edge node at stands) edges
     (length edges) (stand_of c.args.walk.now) (stand_of here) pushed met c.in_ok-found.found (sym c.is_some.ensures ∙ c.if-is_some.true)
-    c.kids.invariant c.in_ok-go_to.ensures
+    c.kids.invariant.0 c.in_ok-go_to.ensures
     (walk-at (world_of s) s.spec j.formula.now j.last (c.args.depth + 1) node c.with-larger.result (inserted edge c.args.set) here.excluded.items
-    (start ++ take i edges) pushed met c.in_ok-found.found c.with-larger.ensures c.kids.invariant.excluded c.in_ok-found.ensures)
+    (start ++ take i edges) pushed met c.in_ok-found.found c.with-larger.ensures c.kids.invariant.0.excluded c.in_ok-found.ensures.walk)
 
 pub visit_kids-kids-preserved : goal.visit_kids-kids-preserved
 visit_kids-kids-preserved g t c =
@@ -139,18 +141,20 @@ visit_kids-kids-preserved g t c =
     let here = c.kids.walk in
     let pushed : Stand = record { excluded = here.excluded.items; path = c.go_to.new.path.items; first = here.first } in
     let met : Stand = stand_of c.visit.new.walk in
-    let path = c.visit.new.walk.path in
-    so_far-more (world_of s) s.spec j.formula.now j.last c.args.depth (kid_of edges kids c.args.set start) i
-    (place_of node (inserted edge c.args.set) (start ++ take i edges)) (kid_of-some edges kids c.args.set start i edge node at stands) edges
-    edge (stand_of c.args.walk.now) (stand_of here) pushed met
-    (record { excluded = c.exclude.new.excluded.items; path = c.pop-place.new.self.items; first = c.visit.new.walk.first }) at c.kids.invariant
-    refl c.in_ok-go_to.ensures refl c.in_ok-found.found (sym c.is_some.ensures ∙ c.if-is_some.false)
-    (walk-at (world_of s) s.spec j.formula.now j.last (c.args.depth + 1) node c.with-larger.result (inserted edge c.args.set) here.excluded.items
-    (start ++ take i edges) pushed met c.in_ok-found.found c.with-larger.ensures c.kids.invariant.excluded c.in_ok-found.ensures)
-    (c.in_ok-exclude.ensures edge at) (c.pop-place.ensures.rest ∙ ap (λ n. take (n - 1) path.items) path.ok.0) refl
+    let path = c.visit.new.walk.path in (
+      so_far-more (world_of s) s.spec j.formula.now j.last c.args.depth (kid_of edges kids c.args.set start) i
+          (place_of node (inserted edge c.args.set) (start ++ take i edges)) (kid_of-some edges kids c.args.set start i edge node at stands) edges
+          edge (stand_of c.args.walk.now) (stand_of here) pushed met
+          (record { excluded = c.exclude.new.excluded.items; path = c.pop-place.new.self.items; first = c.visit.new.walk.first }) at c.kids.invariant.0
+          refl c.in_ok-go_to.ensures refl c.in_ok-found.found (sym c.is_some.ensures ∙ c.if-is_some.false)
+          (walk-at (world_of s) s.spec j.formula.now j.last (c.args.depth + 1) node c.with-larger.result (inserted edge c.args.set) here.excluded.items
+          (start ++ take i edges) pushed met c.in_ok-found.found c.with-larger.ensures c.kids.invariant.0.excluded c.in_ok-found.ensures.walk)
+          (c.in_ok-exclude.ensures edge at) (c.pop-place.ensures.rest ∙ ap (λ n. take (n - 1) path.items) path.ok.0) refl,
+      c.visit.ensures.spent,
+    )
 
-pub visit_kids-returns : goal.visit_kids-returns
-visit_kids-returns g t c =
+pub visit_kids-returns-clause-walk : goal.visit_kids-returns-clause-walk
+visit_kids-returns-clause-walk g t c =
     let j = c.args.judged.now in
     let s = j.setting.now in
     let start = c.args.walk.now in
@@ -158,5 +162,5 @@ visit_kids-returns g t c =
     let all : c.kids.i ≡ length edges = omega (arith, c.kids-test.false, c.kids.auto.i-end, c.requires.count) in
     passes-kids (world_of s) s.spec j.formula.now j.last c.args.depth (kid_of edges c.args.kids.now c.args.set start.excluded.items) edges c.kids.i
     (length edges) c.len-before.result (stand_of start) (stand_of c.kids.walk)
-    (record { excluded = c.truncate.new.self.items; path = c.kids.walk.path.items; first = c.kids.walk.first }) c.kids.invariant all
+    (record { excluded = c.truncate.new.self.items; path = c.kids.walk.path.items; first = c.kids.walk.first }) c.kids.invariant.0 all
     (c.len-before.ensures ∙ start.excluded.ok.0) c.truncate.ensures.items refl refl

@@ -1,8 +1,7 @@
-use Rattle.std.proofs.Common.{◌≡◌, ◌+◌, ◌<◌, ◌++◌, ◌∷◌, [], true, false, refl, ap, ◌∙◌, arith}
+use Rattle.std.proofs.Common.{◌≡◌, ◌+◌, ◌<◌, ◌++◌, ◌∷◌, [], true, false, refl, sym, ap, subst, ◌∙◌, arith}
 use Rattle.lf_sim.specs.Runs.{is_up}
 use Rattle.lf_sim.specs.Settings.{world_of}
-use Rattle.lf_sim.specs.Tables.{row_of}
-use Rattle.lf_sim.proofs.InboxLemmas.{past_of}
+use Rattle.lf_sim.specs.Tables.{HasPast}
 use Rattle.lf_sim.proofs.RunsLemmas.{is_up_from, step_is, rest_is}
 use Rattle.lf_sim.proofs.runs.put_turn.Goals as goal
 
@@ -10,8 +9,7 @@ pub invariant_of-past : goal.invariant_of-past
 invariant_of-past g c =
     let w = world_of c.args.setting.now in
     let F = c.args.effects.now.set in
-    let done = past_of w F c.deref.result.now (c.args.t + 1) (row_of w F (c.args.t + 1) c.args.node)
-    (c.deref.ensures.value ∙ c.requires.before) in
+    let done = subst (λ cells. HasPast w F cells (c.args.t + 1)) (sym c.deref.ensures.value) c.requires.before in
     record { nodes_agree = c.requires.nodes; few = c.requires.few; early = c.requires.step; short = c.requires.short; done = done }
 
 pub returns-then-leaves_up-clause-cells : goal.returns-then-leaves_up-clause-cells

@@ -2,14 +2,20 @@ use Rattle.std.proofs.Common.{◌+◌, ◌*◌, ◌≤◌, refl, ◌∙◌, arit
 use Rattle.std.proofs.Math.Nat.{mul-le-mul_right}
 use Rattle.lf_sim.specs.Runs.{did}
 use Rattle.lf_sim.specs.Settings.{world_of}
-use Rattle.lf_sim.specs.Tables.{table}
-use Rattle.lf_sim.proofs.InboxLemmas.{row_more}
+use Rattle.lf_sim.specs.Tables.{row_of, table}
+use Rattle.lf_sim.proofs.InboxLemmas.{past_of, row_more}
 use Rattle.lf_sim.proofs.runs.put_turns.Goals as goal
 
 pub put_turn-requires-clause-room : goal.put_turn-requires-clause-room
 put_turn-requires-clause-room g c =
     let rows : (c.args.t + 1) * c.args.nodes ≤ 48 * c.args.nodes = mul-le-mul_right c.args.nodes (omega arith) in
     omega (arith, rows, c.requires.few, c.requires.room, c.loop-node-test.true, c.loop-node.invariant.len, c.loop-node.invariant.kept)
+
+pub put_turn-requires-clause-before : goal.put_turn-requires-clause-before
+put_turn-requires-clause-before g c =
+    let w = world_of c.args.setting.now in
+    let F = c.args.effects.now.set in
+    past_of w F c.loop-node.cells.items (c.args.t + 1) (row_of w F (c.args.t + 1) c.loop-node.node) c.loop-node.invariant.cells
 
 pub loop-node-preserved : goal.loop-node-preserved
 loop-node-preserved g c =

@@ -1,0 +1,3 @@
+pub mod ChangesLemmas
+pub mod MarksLemmas
+pub mod WaysLemmas

@@ -1,5 +1,0 @@
-use Rattle.lf_protocols.proofs.BlocksLemmas.{claimed-by}
-use Rattle.lf_protocols.proofs.laws.claims_are_heard.Goals as goal
-
-pub returns : goal.returns
-returns c = λ nodes patience node t before inbox past. claimed-by nodes patience node t before inbox past
