@@ -2,7 +2,6 @@
 
 ghost use Rattle.std.specs.Prelude.{◌≡◌, Some, true, string_bytes, IfOk};
 ghost use Rattle.lf_sim.specs.Settings.{world_of};
-ghost use Rattle.lf_taken.specs.Points.{HasValues};
 ghost use Rattle.lf_rule_trace.specs.RuleTraces.{rule_trace};
 ghost use Rattle.leastfault.specs.Answers.{reaches_in};
 ghost use Rattle.leastfault.specs.Replies.{IsRunReply};
@@ -12,8 +11,9 @@ use crate::answering::{allowed_set, no_set, refused, run_status};
 use crate::reply::Reply;
 use lf_faults::FaultSet;
 use lf_outcome::holds;
-use lf_own_scenario::{Valued, read_with_values};
+use lf_own_scenario::read_with;
 use lf_rule_trace::trace_with_rules;
+use lf_scenario::Scenario;
 use lf_sim::run;
 use lf_written::ProtocolFile;
 use std::alloc::{AllocError, Global};
@@ -27,9 +27,9 @@ pub(crate) fn rules_reply(
 ) -> Result<Reply<u8>, AllocError>
     ensures { IfOk result (λ reply. IsRunReply (Some file.now) true faults.now text.now (string_bytes reply.text) reply.value) }
 {
-    match read_with_values(alloc, text, file) {
-        Ok(valued) => match allowed_set(&valued.scenario, faults) {
-            Some(set) => traced(alloc, &valued, &set),
+    match read_with(alloc, text, file) {
+        Ok(scenario) => match allowed_set(&scenario, faults) {
+            Some(set) => traced(alloc, &scenario, &set),
             None => no_set(alloc),
         },
         Err(error) => refused(alloc, error),
@@ -37,17 +37,16 @@ pub(crate) fn rules_reply(
 }
 
 /// The reply that tells the run of a set of faults, with the rules that nodes took.
-fn traced(alloc: Global, valued: &Valued, set: &FaultSet) -> Result<Reply<u8>, AllocError>
-    requires { HasValues valued.now.scenario.setting.machine valued.now.values }
+fn traced(alloc: Global, scenario: &Scenario, set: &FaultSet) -> Result<Reply<u8>, AllocError>
     ensures { IfOk result (λ reply.
-        (string_bytes reply.text ≡ rule_trace valued.now.scenario.setting.machine (world_of valued.now.scenario.setting) set.now valued.now.scenario.formula)
-        × (reply.value ≡ run_status (reaches_in valued.now.scenario set.now))) }
+        (string_bytes reply.text ≡ rule_trace scenario.now.setting.machine (world_of scenario.now.setting) set.now scenario.now.formula)
+        × (reply.value ≡ run_status (reaches_in scenario.now set.now))) }
 {
-    let setting = valued.scenario.setting();
-    let formula = valued.scenario.formula();
+    let setting = scenario.setting();
+    let formula = scenario.formula();
     let played = run(alloc, setting, set)?;
     Ok(Reply {
-        text: trace_with_rules(alloc, setting, &valued.values, formula, &played)?,
+        text: trace_with_rules(alloc, setting, formula, &played)?,
         value: run_status(holds(setting, formula, &played)),
     })
 }

@@ -14,4 +14,4 @@ mod values;
 mod zeros;
 
 pub use laws::{constants_fit, promises_are_formulas};
-pub use reader::{Valued, read_with, read_with_values};
+pub use reader::read_with;

@@ -3,8 +3,6 @@
 ghost use Rattle.std.specs.Prelude.{◌≡◌, ◌≢◌, ◌<◌, ◌≤◌, true, IfOk, length, MatchResult, IsErrAnd, Ok, Err};
 ghost use Rattle.toml.specs.Data.{Members};
 ghost use Rattle.toml.specs.View.{table_view};
-ghost use Rattle.lf_protocols.specs.declared.protocol.Kind.{Kind};
-ghost use Rattle.lf_ruled.specs.Instances.{Instance};
 ghost use Rattle.lf_scenario.specs.Limits.{longest};
 ghost use Rattle.lf_scenario.specs.Ranges.{IsInRange};
 ghost use Rattle.lf_scenario.specs.Scenarios.{IsDocument};
@@ -17,7 +15,7 @@ use crate::constants::given_in;
 use crate::keys::{Bounded, bounded_in, settled_in};
 use crate::outcomes::formula_in;
 use lf_protocols::Protocol;
-use lf_ruled::{Ruled, given_table};
+use lf_ruled::Ruled;
 use lf_rules::Given;
 use lf_scenario::{Described, LONGEST, Scenario, ScenarioError, Usual, all_links, assembled};
 use lf_written::ProtocolFile;
@@ -46,70 +44,27 @@ pub fn read_with(alloc: Global, text: &[u8], file: &ProtocolFile) -> Result<Scen
     }
 }
 
-/// A scenario of a protocol file, with the values of the protocol's constants, by node and number.
-#[derive(Drop)]
-pub struct Valued {
-    pub scenario: Scenario,
-    pub values: [[u8; 16]; 8],
-}
-
-/// The scenario of a text as `read_with` reads it, with the values of its protocol's constants.
-pub fn read_with_values(
-    alloc: Global,
-    text: &[u8],
-    file: &ProtocolFile,
-) -> Result<Valued, ScenarioError>
-    ensures reading { MatchResult result (λ v. IsTextWith file.now v.scenario text.now) (λ e. e ≢ ScenarioError.Memory → IsRefusedWith file.now text.now e) }
-    ensures values { IfOk result (λ v. (m : Instance) → v.scenario.setting.machine ≡ Kind.Ruled m → m.given ≡ v.values) }
-{
-    if text.len() > LONGEST {
-        return Err(ScenarioError::TooLong);
-    }
-    match toml::table_from_slice(alloc, text) {
-        Ok(table) => valued_in(alloc, &table, file),
-        Err(e) if e.is_memory() => Err(ScenarioError::Memory),
-        Err(_) => Err(ScenarioError::NoDocument),
-    }
-}
-
-/// The scenario of a table.
-fn read_table(alloc: Global, table: &Table, file: &ProtocolFile) -> Result<Scenario, ScenarioError>
-    ensures { MatchResult result (IsAskedWith file.now (table_view table.now))
-        (λ e. e ≢ ScenarioError.Memory → asked_with file.now (table_view table.now) ≡ Err e) }
-{
-    match valued_in(alloc, table, file) {
-        Ok(Valued { scenario, .. }) => Ok(scenario),
-        Err(e) => Err(e),
-    }
-}
-
 /// What a scenario says but its outcome and its links, with the constants.
 struct Chosen {
     described: Described,
     given: Vec<Given>,
 }
 
-/// The scenario of a table, with the values of the constants.
+/// The scenario of a table.
 #[tactic(auto, unfolding(crate::specs::Scenarios::asked_with))]
-fn valued_in(alloc: Global, table: &Table, file: &ProtocolFile) -> Result<Valued, ScenarioError>
-    ensures asked { MatchResult result (λ v. IsAskedWith file.now (table_view table.now) v.scenario)
+fn read_table(alloc: Global, table: &Table, file: &ProtocolFile) -> Result<Scenario, ScenarioError>
+    ensures { MatchResult result (IsAskedWith file.now (table_view table.now))
         (λ e. e ≢ ScenarioError.Memory → asked_with file.now (table_view table.now) ≡ Err e) }
-    ensures values { IfOk result (λ v. (m : Instance) → v.scenario.setting.machine ≡ Kind.Ruled m → m.given ≡ v.values) }
 {
     let Chosen { described, given } = chosen_in(alloc, table, file)?;
     let formula = formula_in(alloc, table, file, given.as_slice(), &described)?;
-    let nodes = described.bounds.nodes();
     let usual = Usual {
-        nodes,
+        nodes: described.bounds.nodes(),
         least: described.delays.least,
         spread: described.delays.spread,
     };
     let links = all_links(alloc, table, usual)?;
-    let values = given_table(nodes, given.as_slice());
-    Ok(Valued {
-        scenario: assembled(described, formula, links),
-        values,
-    })
+    Ok(assembled(described, formula, links))
 }
 
 /// What a table says but the outcome and the links.

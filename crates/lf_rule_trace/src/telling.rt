@@ -2,7 +2,6 @@
 
 ghost use Rattle.std.specs.Prelude.{◌≡◌, ◌++◌, ◌<◌, IfOk, string_bytes};
 ghost use Rattle.lf_sim.specs.Settings.{IsRun, set_of, world_of};
-ghost use Rattle.lf_taken.specs.Points.{HasValues};
 ghost use Rattle.lf_rule_trace.specs.RuleTraces.{more_numbers, numbers_line, rule_line, rule_lines, ruled_step, rule_trace};
 
 use lf_outcome::Formula;
@@ -12,11 +11,10 @@ use lf_taken::taken;
 use lf_trace::{end_word, push_step};
 use std::alloc::{AllocError, Global};
 
-/// A run of a setting, and the values of its protocol's constants, by node and number.
+/// A run of a setting.
 #[derive(Clone, Copy)]
 struct Telling<'a> {
     setting: &'a Setting<Protocol>,
-    given: &'a [[u8; 16]; 8],
     run: &'a Run<Protocol>,
 }
 
@@ -24,25 +22,18 @@ struct Telling<'a> {
 /// rule at that step. Its numbers, from 1, are those of the rules, in the order in which it took them, once for each time. A step at which a node wakes
 /// begins with what it took on waking. What it took at the start isn't told.
 ///
-/// All else is as in `trace`, and where the protocol isn't one of rules there is no more. `given` are the values of the protocol's constants, by node and
-/// number. The error is that memory has run out.
+/// All else is as in `trace`, and where the protocol isn't one of rules there is no more. The error is that memory has run out.
 pub fn trace_with_rules(
     alloc: Global,
     setting: &Setting<Protocol>,
-    given: &[[u8; 16]; 8],
     formula: &Formula<Fact>,
     run: &Run<Protocol>,
 ) -> Result<String, AllocError>
     requires run { IsRun (world_of setting.now) run.now }
-    requires given { HasValues setting.now.machine given.now }
     ensures { IfOk result (λ text.
         string_bytes text ≡ rule_trace setting.now.machine (world_of setting.now) (set_of run.now) formula.now) }
 {
-    let telling = Telling {
-        setting,
-        given,
-        run,
-    };
+    let telling = Telling { setting, run };
     let mut text = String::new(alloc);
     'steps: for past in 0..run.horizon() {
         telling.push_step(alloc, past, &mut text)?;
@@ -55,7 +46,6 @@ impl Telling<'_> {
     /// Adds the lines of the step after `past`, with those of the rules.
     fn push_step(&self, alloc: Global, past: u32, text: &mut String) -> Result<(), AllocError>
         requires run { IsRun (world_of self.now.setting.now) self.now.run.now }
-        requires values { HasValues self.now.setting.now.machine self.now.given.now }
         requires past { past < (world_of self.now.setting.now).horizon }
         ensures { IfOk result (λ _. string_bytes text.new ≡ string_bytes text.old
             ++ ruled_step self.now.setting.now.machine (world_of self.now.setting.now) (set_of self.now.run.now) past) }
@@ -67,7 +57,6 @@ impl Telling<'_> {
     /// Adds the lines of the rules that nodes took at the step.
     fn push_rules(&self, alloc: Global, past: u32, text: &mut String) -> Result<(), AllocError>
         requires run { IsRun (world_of self.now.setting.now) self.now.run.now }
-        requires values { HasValues self.now.setting.now.machine self.now.given.now }
         requires past { past < (world_of self.now.setting.now).horizon }
         ensures { IfOk result (λ _. string_bytes text.new ≡ string_bytes text.old
             ++ rule_lines self.now.setting.now.machine (world_of self.now.setting.now) (set_of self.now.run.now) past) }
@@ -87,13 +76,12 @@ impl Telling<'_> {
         text: &mut String,
     ) -> Result<(), AllocError>
         requires run { IsRun (world_of self.now.setting.now) self.now.run.now }
-        requires values { HasValues self.now.setting.now.machine self.now.given.now }
         requires past { past < (world_of self.now.setting.now).horizon }
         requires node { node < (world_of self.now.setting.now).rules.nodes }
         ensures { IfOk result (λ _. string_bytes text.new ≡ string_bytes text.old
             ++ rule_line self.now.setting.now.machine (world_of self.now.setting.now) (set_of self.now.run.now) past node) }
     {
-        let numbers = taken(alloc, self.setting, self.given, self.run, node, past)?;
+        let numbers = taken(alloc, self.setting, self.run, node, past)?;
         push_numbers(node, numbers.as_slice(), text)
     }
 }

@@ -1,12 +1,12 @@
 //! Protocols of rules as machines.
 
-ghost use Rattle.std.specs.Prelude.{◌≡◌, ◌↔◌, true, IsSome, IsTrue, IfSome, IfOk};
+ghost use Rattle.std.specs.Prelude.{◌≡◌, ◌↔◌, true, IsSome, IsTrue, IfSome, IfOk, slice_get};
 ghost use Rattle.lf_rules.specs.Forms.{is_well_formed};
 ghost use Rattle.std.specs.Arc.{arc_value};
-ghost use Rattle.lf_ruled.specs.Constants.{given_table};
+ghost use Rattle.lf_ruled.specs.Constants.{given_table, row_of};
 ghost use Rattle.lf_ruled.specs.Machines.{is_machine, opened, begin_of, hear_of, end_of};
 
-use crate::constants::{are_given, given_table};
+use crate::constants::{are_given, constants_at, given_table};
 use crate::indexed::Indexed;
 use crate::{Fact, index};
 use lf_meaning::{Note, State};
@@ -85,6 +85,13 @@ impl Ruled {
         ensures well_formed { is_well_formed result.now ≡ true }
     {
         self.indexed.rules.definition()
+    }
+
+    /// The values of the constants at a node, by number: 0 where there is no such constant, or no such node.
+    pub fn constants_at(&self, node: u32) -> [u8; 16]
+        ensures { result ≡ row_of (slice_get self.now.given node) }
+    {
+        constants_at(&self.indexed.given, node)
     }
 
     /// What a node does at step `t` before its inbox: the state and the notes that it comes to.

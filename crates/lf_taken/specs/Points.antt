@@ -1,10 +1,9 @@
 -- Which rules a node takes at a step of a run.
-use Rattle.std.specs.Prelude.{◌≡◌, ℕ, ◌+◌, Bool, if◌then◌else◌, List, []}
+use Rattle.std.specs.Prelude.{ℕ, ◌+◌, Bool, if◌then◌else◌, List, []}
 use Rattle.lf_faults.specs.declared.fault.Parts.{Parts}
 use Rattle.lf_faults.specs.Faults.{set_wakes}
 use Rattle.lf_sim.specs.declared.letter.Letter.{Letter}
 use Rattle.lf_sim.specs.Runs.{World, is_up, view, inbox}
-use Rattle.lf_ruled.specs.Instances.{Instance}
 use Rattle.lf_protocols.specs.declared.fact.Fact.{Fact}
 use Rattle.lf_protocols.specs.declared.note.Note.{Note}
 use Rattle.lf_protocols.specs.declared.state.State.{State}
@@ -12,10 +11,6 @@ use Rattle.lf_protocols.specs.declared.state.State.TheVariants as states
 use Rattle.lf_protocols.specs.declared.protocol.Kind.{Kind}
 use Rattle.lf_protocols.specs.declared.protocol.Kind.TheVariants as kinds
 use Rattle.lf_taken.specs.Turns.{taken_in_turn}
-
--- of a protocol of rules these are the values of its constants, by node and number
-abbrev pub HasValues : Kind → List (List ℕ) → Type 0
-HasValues k given = (m : Instance) → k ≡ kinds.Ruled m → m.given ≡ given
 
 -- by a node that wakes or doesn't, from its state and its inbox: none where the protocol isn't one of rules
 abbrev pub taken_by : Kind → ℕ → ℕ → Bool → State → List (Letter Note) → List ℕ

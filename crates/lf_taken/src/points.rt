@@ -2,28 +2,25 @@
 
 ghost use Rattle.std.specs.Prelude.{◌≡◌, ◌<◌, IfOk};
 ghost use Rattle.lf_sim.specs.Settings.{IsRun, set_of, world_of};
-ghost use Rattle.lf_taken.specs.Points.{HasValues, taken_up, taken_after};
+ghost use Rattle.lf_taken.specs.Points.{taken_up, taken_after};
 
 use crate::letters::Point;
-use crate::turns::{Acting, constants_at};
+use crate::turns::Acting;
 use lf_protocols::{Kind, Protocol, State};
 use lf_sim::{Run, Setting};
 use std::alloc::{AllocError, Global};
 
 /// The numbers of the rules that a node takes at the step after `past` of a run of this setting, in the order in which it takes them, once for each time. A
 /// step at which it wakes begins with those that it takes on waking. There are none where it isn't up, or where the protocol isn't one of rules.
-///
-/// `given` are the values of the protocol's constants, by node and number. The error is that memory has run out.
+/// The error is that memory has run out.
 pub fn taken(
     alloc: Global,
     setting: &Setting<Protocol>,
-    given: &[[u8; 16]; 8],
     run: &Run<Protocol>,
     node: u32,
     past: u32,
 ) -> Result<Vec<usize>, AllocError>
     requires run { IsRun (world_of setting.now) run.now }
-    requires given { HasValues setting.now.machine given.now }
     requires node { node < (world_of setting.now).rules.nodes }
     requires past { past < (world_of setting.now).horizon }
     ensures { IfOk result (λ taken.
@@ -36,16 +33,15 @@ pub fn taken(
             node,
             past,
         };
-        taken_up(alloc, given, &point)
+        taken_up(alloc, &point)
     } else {
         Ok(Vec::new(alloc))
     }
 }
 
 /// Those of a node that is up.
-fn taken_up(alloc: Global, given: &[[u8; 16]; 8], point: &Point) -> Result<Vec<usize>, AllocError>
+fn taken_up(alloc: Global, point: &Point) -> Result<Vec<usize>, AllocError>
     requires run { IsRun (world_of point.now.setting.now) point.now.run.now }
-    requires given { HasValues point.now.setting.now.machine given.now }
     ensures { IfOk result (λ taken.
         taken.items ≡ taken_up point.now.setting.now.machine (world_of point.now.setting.now) (set_of point.now.run.now) point.now.node point.now.past) }
 {
@@ -56,7 +52,7 @@ fn taken_up(alloc: Global, given: &[[u8; 16]; 8], point: &Point) -> Result<Vec<u
         (Kind::Ruled(ruled), State::Ruled(own)) => {
             let acting = Acting {
                 ruled,
-                given: constants_at(given, point.node),
+                given: ruled.constants_at(point.node),
                 node: point.node,
                 t: point.past + 1,
             };

@@ -194,13 +194,3 @@ fn opened(state: State) -> Turn
         out: Out::none(),
     }
 }
-
-/// The values of the constants at a node, from those at each node.
-pub(crate) fn constants_at(given: &[[u8; 16]; 8], node: u32) -> [u8; 16]
-    ensures { result ≡ row_of (slice_get given.now node) }
-{
-    match given.get(node as usize) {
-        Some(row) => *row,
-        None => [0; 16],
-    }
-}

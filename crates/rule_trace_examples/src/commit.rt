@@ -1,9 +1,5 @@
 //! Two-phase commit among three nodes, as a protocol file says it.
 
-ghost use Rattle.std.specs.Prelude.{◌≡◌, [], IfSome};
-ghost use Rattle.lf_ruled.specs.Constants.{given_table};
-ghost use Rattle.lf_taken.specs.Points.{HasValues};
-
 use lf_faults::FaultSpec;
 use lf_latency::{Links, Network};
 use lf_protocol_file::read_protocol;
@@ -36,9 +32,7 @@ const FILE: &str = concat!(
 );
 
 /// The machine of its rules, among three nodes.
-fn machine(alloc: Global, rules: Arc<Rules>) -> Option<Ruled>
-    ensures { IfSome result (λ m. m.given ≡ given_table 3 []) }
-{
+fn machine(alloc: Global, rules: Arc<Rules>) -> Option<Ruled> {
     match Ruled::new(alloc, rules, 3, &[]) {
         Ok(made) => made,
         Err(_) => None,
@@ -46,18 +40,14 @@ fn machine(alloc: Global, rules: Arc<Rules>) -> Option<Ruled>
 }
 
 /// The protocol among three nodes.
-fn protocol(alloc: Global) -> Option<Protocol>
-    ensures { IfSome result (λ protocol. HasValues protocol (given_table 3 [])) }
-{
+fn protocol(alloc: Global) -> Option<Protocol> {
     let file = read_protocol(alloc, FILE.as_bytes()).ok()?;
     let ruled = machine(alloc, file.rules().ok()?)?;
     Some(Protocol::ruled(ruled))
 }
 
 /// Five steps, at which each note takes one step, with one pause of a step.
-pub(crate) fn setting(alloc: Global) -> Option<Setting<Protocol>>
-    ensures { IfSome result (λ setting. HasValues setting.machine (given_table 3 [])) }
-{
+pub(crate) fn setting(alloc: Global) -> Option<Setting<Protocol>> {
     let bounds = FaultSpec::new(3, 5, 1, 1, 1)?.with_pauses(1, 1)?;
     let network = Network::new([0; 32], Links::new(3, 1, 0), 3, 5);
     Setting::new(protocol(alloc)?, network, bounds)

@@ -1,15 +1,10 @@
 //! Traces with the rules that nodes took.
 
-ghost use Rattle.std.specs.Prelude.{[]};
-ghost use Rattle.lf_ruled.specs.Constants.{given_table};
-ghost use Rattle.lf_taken.specs.Points.{HasValues};
-
 use crate::commit::setting;
 use lf_faults::FaultSet;
 use lf_outcome::Formula;
 use lf_protocols::Protocol;
 use lf_rule_trace::trace_with_rules;
-use lf_ruled::given_table;
 use lf_sim::{Setting, run};
 use lf_trace::read_faults;
 use std::alloc::Global;
@@ -46,12 +41,10 @@ const WOKEN: &str = concat!(
 );
 
 /// What is told of the run of a set of faults.
-fn told_of(alloc: Global, setting: &Setting<Protocol>, set: &FaultSet) -> Option<String>
-    requires { HasValues setting.now.machine (given_table 3 []) }
-{
+fn told_of(alloc: Global, setting: &Setting<Protocol>, set: &FaultSet) -> Option<String> {
     let formula = Formula::Down { node: 0, step: 5 };
     match run(alloc, setting, set) {
-        Ok(run) => trace_with_rules(alloc, setting, &given_table(3, &[]), &formula, &run).ok(),
+        Ok(run) => trace_with_rules(alloc, setting, &formula, &run).ok(),
         Err(_) => None,
     }
 }

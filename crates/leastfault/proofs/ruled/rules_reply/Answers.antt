@@ -13,7 +13,7 @@ pub returns-in-Some : goal.returns-in-Some
 returns-in-Some c =
     let words = c.args.faults.now in
     let text = c.args.text.now in
-    let s = c.in-Ok.valued.scenario in
+    let s = c.in-Ok.scenario in
     let set = c.in-Some.set in
     IfOk-weaker c.traced.result
     (λ reply. (string_bytes reply.text ≡ rule_trace s.setting.machine (world_of s.setting) set s.formula) × (reply.value ≡ run_status (reaches_in s set)))
@@ -28,7 +28,7 @@ returns-in-Ok c =
     let text = c.args.text.now in
     IfOk-weaker c.no_set.result (λ reply. (string_bytes reply.text ≡ no_set_line) × (reply.value ≡ 2))
     (λ reply. IsRunReply (Some c.args.file.now) true words text (string_bytes reply.text) reply.value)
-    (λ reply told. run_without_set (Some c.args.file.now) true words text (string_bytes reply.text) reply.value c.in-Ok.valued.scenario c.allowed_set.result
+    (λ reply told. run_without_set (Some c.args.file.now) true words text (string_bytes reply.text) reply.value c.in-Ok.scenario c.allowed_set.result
     c.in-Ok.ensures.reading c.allowed_set.ensures c.in-None.is told.0 told.1)
     c.no_set.ensures
 
