@@ -34,7 +34,7 @@ use Rattle.lf_promises.specs.declared.promise.Promise.TheOpen.{Promise-F}
 use Rattle.lf_promises.specs.Facts.{is_number, has_word, is_flag_kind, is_flag, has_told, facts_step, names_facts}
 use Rattle.lf_promises.specs.Fronts.{Found, found, behind_time, behind_many, first_node, fact_of, first_named, opposite, first_fact}
 use Rattle.lf_promises.specs.Units.{first_group, first_nodes, first_down, first_at, first_unit}
-use Rattle.lf_promises.specs.Promises.{Next, Joined, Part, More, Whole, Round, Timed, read, steps, behind_joint, of_parts, at_times}
+use Rattle.lf_promises.specs.Promises.{Next, Joined, Part, More, Whole, Round, Timed, read, steps, behind_joint, of_parts, at_times, to_the_end, promise_of}
 use Rattle.lf_promises.specs.Readings.{IsRead}
 
 -- ---- the facts that a promise names, by what it is
@@ -312,3 +312,15 @@ module _ (at : Context) where
       let n = suc (steps (Joined joints.Or) ts) in
       let is = read-fine n false (Joined joints.Or) ts tt (record { value = p; rest = rest }) (h.runs n (omega arith)) in
       is.names
+
+  -- what is read to the end
+  to-end : (p : Promise) (rest : List Token) → names_facts at.definition p ≡ true → Gives (λ q. names_facts at.definition q ≡ true) (to_the_end p rest)
+  to-end p [] names = given (λ q. names_facts at.definition q ≡ true) p names
+  to-end p (t ∷ ts) names = nothing (λ q. names_facts at.definition q ≡ true)
+
+  pub promise-fine : (ts : List Token) (p : Promise) → promise_of at ts ≡ Some p → names_facts at.definition p ≡ true
+  unfolding promise_of
+  promise-fine ts p h =
+      let n = suc (steps (Joined joints.Or) ts) in
+      then (λ q. names_facts at.definition q ≡ true) (read at n false (Joined joints.Or) ts) (λ x. to_the_end x.value x.rest)
+      (λ x is. let fine_one = read-fine n false (Joined joints.Or) ts tt x is in to-end x.value x.rest fine_one.names) p h

@@ -1,5 +1,5 @@
 -- What crates above may cite of this one beside its contracts: the facts that a promise names, by what it is, and induction.
-use Rattle.std.proofs.Common.{◌≡◌, ℕ, List, Option}
+use Rattle.std.proofs.Common.{◌≡◌, ℕ, true, List, Option, Some}
 use Rattle.std.specs.List.{list_all}
 use Rattle.lf_rules.specs.Terms.{Term}
 use Rattle.lf_rules.specs.declared.definition.Definition.{Definition}
@@ -7,8 +7,11 @@ use Rattle.lf_ruled.specs.declared.fact.Fact.{Fact}
 use Rattle.lf_promises.specs.declared.promise.Many.{Many}
 use Rattle.lf_promises.specs.declared.promise.Promise.{Promise}
 use Rattle.lf_promises.specs.declared.promise.Promise.TheVariants as promises
+use Rattle.lf_tokens.specs.declared.token.Token.{Token}
+use Rattle.lf_grammar.specs.Places.{Context}
 use Rattle.lf_promises.specs.Facts.{has_told, names_facts}
 use Rattle.lf_promises.specs.Inductions.{Steps}
+use Rattle.lf_promises.specs.Promises.{promise_of}
 use Rattle.lf_promises.proofs.FactLemmas as facts
 use Rattle.lf_promises.proofs.Inductions as inductions
 
@@ -36,6 +39,10 @@ module _ (d : Definition) where
   -- and so does one about a single node
   pub facts-At : (n : ℕ) (fact : Fact) → names_facts d (promises.At n fact) ≡ has_told d fact.told
   facts-At = facts.facts-At d
+
+-- the promise that tokens are names facts of its definition alone
+pub promise-named : (at : Context) (ts : List Token) (p : Promise) → promise_of at ts ≡ Some p → names_facts at.definition p ≡ true
+promise-named = facts.promise-fine
 
 -- what holds of each kind of promise whose parts have it holds of every promise
 pub by_induction : (Q : Promise → Type 0) → Steps Q → (p : Promise) → Q p

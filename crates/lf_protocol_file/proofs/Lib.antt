@@ -1,1 +1,10 @@
 pub mod Laws
+mod Growing
+mod Readings
+mod Sounding
+mod VariableKinds
+mod Constants
+mod Stages
+mod RuleStages
+mod SectionLemmas
+mod WholeFiles

@@ -2,7 +2,6 @@
 use Rattle.std.specs.Prelude.{◌≡◌, ◌⊎◌, ℕ, ◌<◌, ◌≤◌, if◌then◌else◌, List, [], ◌∷◌, length, codes, Option, Some, None, Ok, Err, IsUtf8}
 use Rattle.toml.specs.Data.{Data, string, Members, no_members, member, get_member}
 use Rattle.toml.specs.Parse.{parse_document}
-use Rattle.lf_written.specs.Files.{is_whole}
 use Rattle.lf_texts.specs.Names.{is_name}
 use Rattle.lf_draft.specs.declared.draft.Draft.{Draft}
 use Rattle.lf_document.specs.declared.error.ProtocolError.{ProtocolError}
@@ -61,11 +60,7 @@ with_trace d ms = with_listing listings.Trace d ms >>= λ more. Ok (shown_by mor
 abbrev pub declared_by : List ℕ → Draft → Declared
 declared_by name d = record { name = name; definition = d.definition; names = d.names; outcomes = d.outcomes }
 
--- the file, which is whole
-abbrev pub finished : List ℕ → Draft → Reading Declared
-finished name d = if is_whole (declared_by name d) then Ok (declared_by name d) else Err (refusals.Unfit (paths.Section sections.Name))
-
--- what a file says: its sections in order, where each key is one of a file's
+-- what a file says: its sections in order, where each key is one of a file's. That it is whole is proved of every file
 unfoldable pub file_in : Members → Reading Declared
 file_in ms = do
   known ← known_sections ms
@@ -74,7 +69,7 @@ file_in ms = do
   ruled ← with_listing listings.Rules declared ms
   promised ← with_naming namings.Outcomes (with_last_chain ruled) ms
   traced ← with_trace promised ms
-  finished name traced
+  Ok (declared_by name traced)
 
 -- the bytes are a TOML document with these members
 pub record IsDocument (bytes : List ℕ) (ms : Members) : Type 0 where

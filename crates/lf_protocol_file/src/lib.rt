@@ -8,8 +8,10 @@ mod reader;
 mod rules;
 mod sections;
 mod uniqueness;
+mod wholeness;
 
 pub use lf_document::{LONGEST, Listing, Naming, Part, Path, ProtocolError, Section, Shown};
 pub use lf_written::{Outcome, ProtocolFile};
 pub use reader::read_protocol;
 pub use uniqueness::{files_are_one, refusals_are_one};
+pub use wholeness::files_are_whole;

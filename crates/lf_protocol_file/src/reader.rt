@@ -1,11 +1,12 @@
 //! The reader of protocol files.
 
-ghost use Rattle.std.specs.Prelude.{◌≡◌, ◌≢◌, ◌<◌, ◌≤◌, length, MatchResult, IsErrAnd, IfOk, Ok, Err};
+ghost use Rattle.std.specs.Prelude.{◌≡◌, ◌≢◌, ◌<◌, ◌≤◌, true, length, MatchResult, IsErrAnd, IfOk, Ok, Err};
 ghost use Rattle.toml.specs.Data.{Members};
 ghost use Rattle.toml.specs.View.{table_view};
 ghost use Rattle.lf_document.specs.Refusals.{shown};
 ghost use Rattle.lf_document.specs.Readings.{Reads};
-ghost use Rattle.lf_protocol_file.specs.Files.{longest, known_sections, name_in, declared_in, shown_by, with_trace, finished, file_in};
+ghost use Rattle.lf_protocol_file.specs.Files.{longest, known_sections, name_in, declared_in, shown_by, with_trace, declared_by, file_in};
+ghost use Rattle.lf_written.specs.Files.{is_whole};
 ghost use Rattle.lf_protocol_file.specs.Files.{IsDocument, IsRefused, IsText};
 
 use crate::chains::with_last_chain;
@@ -48,12 +49,12 @@ fn read_table(alloc: Global, table: &Table) -> Result<ProtocolFile, ProtocolErro
 {
     known_sections(alloc, table)?;
     let name = name_in(alloc, table)?;
-    let draft = declared_in(alloc, table)?;
-    let draft = with_listing(alloc, draft, table, Listing::Rules)?;
-    let draft = with_last_chain(draft)?;
-    let draft = with_naming(alloc, draft, table, Naming::Outcomes)?;
-    let draft = with_trace(alloc, draft, table)?;
-    finished(alloc, name, draft)
+    let declared = declared_in(alloc, table)?;
+    let ruled = with_listing(alloc, declared, table, Listing::Rules)?;
+    let chained = with_last_chain(ruled)?;
+    let promised = with_naming(alloc, chained, table, Naming::Outcomes)?;
+    let traced = with_trace(alloc, promised, table)?;
+    finished(alloc, name, traced)
 }
 
 /// Refuses a file with a key that files don't have.
@@ -133,7 +134,8 @@ fn shown_by(alloc: Global, draft: Draft) -> Result<Draft, AllocError>
 
 /// The file of a draft that is whole.
 fn finished(alloc: Global, name: Name, draft: Draft) -> Result<ProtocolFile, ProtocolError>
-    ensures { Reads (finished name draft) result }
+    requires whole { is_whole (declared_by name draft) ≡ true }
+    ensures { MatchResult result (λ file. file ≡ declared_by name draft) (λ e. e ≡ ProtocolError.Memory) }
 {
     let Draft {
         definition,
@@ -149,8 +151,7 @@ fn finished(alloc: Global, name: Name, draft: Draft) -> Result<ProtocolFile, Pro
     };
     match ProtocolFile::new(alloc, declared) {
         Ok(Some(file)) => Ok(file),
-        // Never comes: what is read is whole, since each reader gives only what may stand where it stands.
-        Ok(None) => Err(ProtocolError::Unfit(Path::Section(Section::Name))),
+        Ok(None) => unreachable!(),
         Err(_) => Err(ProtocolError::Memory),
     }
 }

@@ -1,1 +1,5 @@
 pub mod ListLemmas
+mod SortLemmas
+mod KindLemmas
+mod PartLemmas
+pub mod Laws
