@@ -1,3 +1,4 @@
 pub mod Lines
 pub mod Namings
 pub mod Traces
+pub mod Words

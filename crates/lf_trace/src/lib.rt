@@ -6,6 +6,8 @@
 
 mod naming;
 mod telling;
+mod worded;
 
 pub use naming::{names_are_one, read_faults};
 pub use telling::{end_word, push_step, trace};
+pub use worded::Worded;

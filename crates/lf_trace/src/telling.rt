@@ -3,18 +3,18 @@
 ghost use Rattle.std.specs.Prelude.{◌≡◌, ◌≢◌, ◌++◌, ◌<◌, ◌≤◌, IfOk, Some, string_bytes};
 ghost use Rattle.lf_sim.specs.Settings.{IsRun, set_of, world_of};
 ghost use Rattle.lf_trace.specs.Lines.{line};
-ghost use Rattle.lf_trace.specs.Traces.{end_word, fate, fate_at, node_line, note_line, note_lines, sender_lines, slot_line, standing, step_lines, trace};
+ghost use Rattle.lf_trace.specs.Traces.{end_word, fate, fate_at, node_line, note_line, note_lines, sender_lines, slot_line, standing, step_lines_by, trace_by};
 
+use crate::Worded;
 use lf_outcome::{Formula, holds};
-use lf_protocols::{Fact, Note, Protocol};
-use lf_sim::{Run, Setting};
+use lf_sim::{Machine, Run, Setting};
 use std::alloc::{AllocError, Global};
 
 /// A step of a run of a setting.
-#[derive(Clone, Copy)]
-struct Step<'a> {
-    setting: &'a Setting<Protocol>,
-    run: &'a Run<Protocol>,
+#[derive(Drop)]
+struct Step<'a, M: Machine> {
+    setting: &'a Setting<M>,
+    run: &'a Run<M>,
     number: u32,
     ghost first: { 1 ≤ number },
     ghost last: { number ≤ (world_of setting.now).horizon },
@@ -27,15 +27,15 @@ struct Step<'a> {
 /// `N>M NOTE ARRIVAL`, by sender and then by receiver: its last word is `omitted` where the set loses it, else `lost`
 /// where it arrives after the last step or its receiver isn't up then, else the step at which it arrives. A line feed ends
 /// each line. The error is that memory has run out.
-pub fn trace(
+pub fn trace<M: Worded>(
     alloc: Global,
-    setting: &Setting<Protocol>,
-    formula: &Formula<Fact>,
-    run: &Run<Protocol>,
+    setting: &Setting<M>,
+    formula: &Formula<M::Fact>,
+    run: &Run<M>,
 ) -> Result<String, AllocError>
     requires { IsRun (world_of setting.now) run.now }
     ensures { IfOk result (λ text.
-        string_bytes text ≡ trace setting.now.machine (world_of setting.now) (set_of run.now) formula.now) }
+        string_bytes text ≡ trace_by (M.words setting.now.machine) (world_of setting.now) (set_of run.now) formula.now) }
 {
     let mut text = String::new(alloc);
     'steps: for past in 0..run.horizon() {
@@ -46,9 +46,9 @@ pub fn trace(
 }
 
 /// Adds to a text the lines of a step of a run of this setting: `step T`, a line for each node, and one for each note that is sent at the step.
-pub fn push_step(
-    setting: &Setting<Protocol>,
-    run: &Run<Protocol>,
+pub fn push_step<M: Worded>(
+    setting: &Setting<M>,
+    run: &Run<M>,
     number: u32,
     text: &mut String,
 ) -> Result<(), AllocError>
@@ -56,7 +56,7 @@ pub fn push_step(
     requires first { 1 ≤ number }
     requires last { number ≤ (world_of setting.now).horizon }
     ensures { IfOk result (λ _. string_bytes text.new ≡ string_bytes text.old
-        ++ step_lines setting.now.machine (world_of setting.now) (set_of run.now) number) }
+        ++ step_lines_by (M.words setting.now.machine) (world_of setting.now) (set_of run.now) number) }
 {
     let step = Step {
         setting,
@@ -67,10 +67,10 @@ pub fn push_step(
 }
 
 /// The last line's word.
-pub fn end_word(
-    setting: &Setting<Protocol>,
-    formula: &Formula<Fact>,
-    run: &Run<Protocol>,
+pub fn end_word<M: Machine>(
+    setting: &Setting<M>,
+    formula: &Formula<M::Fact>,
+    run: &Run<M>,
 ) -> &'static str
     requires { IsRun (world_of setting.now) run.now }
     ensures { result.now ≡ end_word (world_of setting.now) (set_of run.now) formula.now }
@@ -82,12 +82,12 @@ pub fn end_word(
     }
 }
 
-impl Step<'_> {
+impl<M: Worded> Step<'_, M> {
     /// Adds the lines of the step.
     fn push(&self, text: &mut String) -> Result<(), AllocError>
         requires run { IsRun (world_of self.now.setting.now) self.now.run.now }
         ensures { IfOk result (λ _. string_bytes text.new ≡ string_bytes text.old
-            ++ step_lines self.now.setting.now.machine (world_of self.now.setting.now) (set_of self.now.run.now) self.now.number) }
+            ++ step_lines_by (M.words self.now.setting.now.machine) (world_of self.now.setting.now) (set_of self.now.run.now) self.now.number) }
     {
         writeln!(text, "step {}", self.number)?;
         'nodes: for node in 0..self.run.nodes() {
@@ -101,7 +101,7 @@ impl Step<'_> {
         requires run { IsRun (world_of self.now.setting.now) self.now.run.now }
         requires node { node < (world_of self.now.setting.now).rules.nodes }
         ensures { IfOk result (λ _. string_bytes text.new ≡ string_bytes text.old
-            ++ node_line self.now.setting.now.machine (world_of self.now.setting.now) (set_of self.now.run.now) self.now.number node) }
+            ++ node_line (M.words self.now.setting.now.machine) (world_of self.now.setting.now) (set_of self.now.run.now) self.now.number node) }
     {
         write!(text, "{node} ")?;
         self.push_standing(node, text)?;
@@ -113,7 +113,7 @@ impl Step<'_> {
         requires run { IsRun (world_of self.now.setting.now) self.now.run.now }
         requires node { node < (world_of self.now.setting.now).rules.nodes }
         ensures { IfOk result (λ _. string_bytes text.new ≡ string_bytes text.old
-            ++ standing self.now.setting.now.machine (world_of self.now.setting.now) (set_of self.now.run.now) self.now.number node) }
+            ++ standing (M.words self.now.setting.now.machine) (world_of self.now.setting.now) (set_of self.now.run.now) self.now.number node) }
     {
         if self.run.up(node, self.number) {
             let state = self.run.state(node, self.number);
@@ -127,7 +127,7 @@ impl Step<'_> {
     fn push_notes(&self, text: &mut String) -> Result<(), AllocError>
         requires run { IsRun (world_of self.now.setting.now) self.now.run.now }
         ensures { IfOk result (λ _. string_bytes text.new ≡ string_bytes text.old
-            ++ note_lines self.now.setting.now.machine (world_of self.now.setting.now) (set_of self.now.run.now) self.now.number) }
+            ++ note_lines (M.words self.now.setting.now.machine) (world_of self.now.setting.now) (set_of self.now.run.now) self.now.number) }
     {
         'senders: for from in 0..self.run.nodes() {
             self.push_notes_of(from, text)?;
@@ -140,7 +140,7 @@ impl Step<'_> {
         requires run { IsRun (world_of self.now.setting.now) self.now.run.now }
         requires from { from < (world_of self.now.setting.now).rules.nodes }
         ensures { IfOk result (λ _. string_bytes text.new ≡ string_bytes text.old
-            ++ sender_lines self.now.setting.now.machine (world_of self.now.setting.now) (set_of self.now.run.now) self.now.number from) }
+            ++ sender_lines (M.words self.now.setting.now.machine) (world_of self.now.setting.now) (set_of self.now.run.now) self.now.number from) }
     {
         'receivers: for to in 0..self.run.nodes() {
             self.push_slot(from, to, text)?;
@@ -154,7 +154,7 @@ impl Step<'_> {
         requires from { from < (world_of self.now.setting.now).rules.nodes }
         requires to { to < (world_of self.now.setting.now).rules.nodes }
         ensures { IfOk result (λ _. string_bytes text.new ≡ string_bytes text.old
-            ++ slot_line self.now.setting.now.machine (world_of self.now.setting.now) (set_of self.now.run.now) self.now.number from to) }
+            ++ slot_line (M.words self.now.setting.now.machine) (world_of self.now.setting.now) (set_of self.now.run.now) self.now.number from to) }
     {
         if from == to {
             return Ok(());
@@ -166,13 +166,19 @@ impl Step<'_> {
     }
 
     /// Adds a note's line.
-    fn push_note(&self, from: u32, to: u32, note: Note, text: &mut String) -> Result<(), AllocError>
+    fn push_note(
+        &self,
+        from: u32,
+        to: u32,
+        note: M::Note,
+        text: &mut String,
+    ) -> Result<(), AllocError>
         requires run { IsRun (world_of self.now.setting.now) self.now.run.now }
         requires from { from < (world_of self.now.setting.now).rules.nodes }
         requires to { to < (world_of self.now.setting.now).rules.nodes }
         requires apart { from ≢ to }
         ensures { IfOk result (λ _. string_bytes text.new ≡ string_bytes text.old
-            ++ note_line self.now.setting.now.machine (world_of self.now.setting.now) (set_of self.now.run.now) self.now.number from to note) }
+            ++ note_line (M.words self.now.setting.now.machine) (world_of self.now.setting.now) (set_of self.now.run.now) self.now.number from to note) }
     {
         write!(text, "{from}>{to} ")?;
         self.setting.machine.push_note(&note, text)?;

@@ -1,9 +1,11 @@
 -- Nodes that tell each other a number.
-use Rattle.std.specs.Prelude.{ℕ, ◌==◌, if◌then◌else◌, List, [], ◌∷◌}
+use Rattle.std.specs.Prelude.{ℕ, ◌==◌, if◌then◌else◌, List, [], ◌∷◌, ◌++◌, codes}
+use Rattle.std.specs.Fmt.{decimal}
 use Rattle.lf_sim.specs.declared.letter.Letter.{Letter}
 use Rattle.lf_sim.specs.declared.out.Out.{Out}
 use Rattle.lf_sim.specs.Machines.{Rules}
 use Rattle.lf_sim.specs.Outs.{nothing, to_others}
+use Rattle.lf_trace.specs.Words.{Words}
 
 -- what a node knows after its inbox: 0 is nothing, and what it knows it keeps
 abbrev pub learned : ℕ → List (Letter ℕ) → ℕ
@@ -22,4 +24,11 @@ gossip = record {
   step = λ n t known inbox. record { state = learned known inbox; out = told n (learned known inbox) };
   wake = λ n t known. known;
   shows = λ n known fact. known == fact;
+}
+
+-- what a trace tells of a state, and of a note
+abbrev pub words : Words ℕ ℕ
+words = record {
+  state = λ known. if known == 0 then codes "knows nothing" else codes "knows " ++ decimal known;
+  note = λ number. codes "number " ++ decimal number;
 }

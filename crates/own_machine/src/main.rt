@@ -10,6 +10,7 @@ use lf_list::Listed;
 use lf_outcome::{Formula, holds};
 use lf_plain::first_missing;
 use lf_sim::{Letter, Machine, Out, Setting, Stepped, run};
+use lf_trace::{Worded, trace};
 use std::alloc::{AllocError, Global};
 use std::io;
 
@@ -56,6 +57,24 @@ impl Machine for Gossip {
     }
 
     ghost silent = { λ machine n t to known inbox node first last nobody. told-silent n (learned known inbox) to nobody };
+}
+
+impl Worded for Gossip {
+    ghost use Rattle.own_machine.specs.Gossip.{words};
+
+    ghost words = { λ machine. words };
+
+    fn push_state(&self, known: &u32, text: &mut String) -> Result<(), AllocError> {
+        if *known == 0 {
+            text.push_str("knows nothing")
+        } else {
+            write!(text, "knows {known}")
+        }
+    }
+
+    fn push_note(&self, number: &u32, text: &mut String) -> Result<(), AllocError> {
+        write!(text, "number {number}")
+    }
 }
 
 /// What a node knows after its inbox.
@@ -118,7 +137,7 @@ fn tell(
     println!(rt; "{name}: {verdict}")
 }
 
-/// Prints the first of the smallest sets of faults that break the promise.
+/// Prints the first of the smallest sets of faults that break the promise, and what happens under it.
 fn tell_least(
     rt: &HostRuntime,
     setting: &Setting<Gossip>,
@@ -131,7 +150,8 @@ fn tell_least(
     for fault in set.items() {
         println!(rt; "{}", fault_text(rt.alloc(), fault)?)?;
     }
-    Ok(())
+    let played = run(rt.alloc(), setting, &set)?;
+    print!(rt; "{}", trace(rt.alloc(), setting, formula, &played)?)
 }
 
 fn main(rt: HostRuntime) -> io::Result<()> {

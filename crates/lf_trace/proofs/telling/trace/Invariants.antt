@@ -1,10 +1,10 @@
 use Rattle.std.proofs.Common.{◌≡◌, suc, string_bytes}
 use Rattle.lf_sim.specs.Runs.{each_below}
 use Rattle.lf_sim.specs.Settings.{set_of, world_of}
-use Rattle.lf_trace.specs.Traces.{step_lines}
+use Rattle.lf_trace.specs.Traces.{step_lines_by}
 use Rattle.lf_trace.proofs.telling.trace.Given as goal
 
 -- the lines of the steps so far
 abbrev pub invariant-steps : goal.invariant-steps
-invariant-steps l =
-    string_bytes l.text ≡ each_below (λ past. step_lines l.setting.machine (world_of l.setting) (set_of l.run) (suc past)) l.past
+invariant-steps g l =
+    string_bytes l.text ≡ each_below (λ past. step_lines_by (g.M.Worded.words l.setting.machine) (world_of l.setting) (set_of l.run) (suc past)) l.past

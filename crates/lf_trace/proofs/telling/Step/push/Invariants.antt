@@ -6,6 +6,6 @@ use Rattle.lf_trace.proofs.telling.Step.push.Given as goal
 
 -- the step's own line, and those of the nodes so far
 abbrev pub invariant-nodes : goal.invariant-nodes
-invariant-nodes l =
+invariant-nodes g l =
     string_bytes l.text
-    ≡ string_bytes l.initial.text ++ each_below (node_line l.self.setting.now.machine (world_of l.self.setting.now) (set_of l.self.run.now) l.self.number) l.node
+    ≡ string_bytes l.initial.text ++ each_below (node_line (g.M.Worded.words l.self.setting.now.machine) (world_of l.self.setting.now) (set_of l.self.run.now) l.self.number) l.node

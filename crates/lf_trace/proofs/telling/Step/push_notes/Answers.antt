@@ -5,9 +5,9 @@ use Rattle.lf_trace.proofs.Lines.{more_lines}
 use Rattle.lf_trace.proofs.telling.Step.push_notes.Goals as goal
 
 pub senders-preserved : goal.senders-preserved
-senders-preserved c =
-    let k = c.args.self.now.setting.now.machine in
+senders-preserved g c =
+    let words = g.M.Worded.words c.args.self.now.setting.now.machine in
     let w = world_of c.args.self.now.setting.now in
     let faults = set_of c.args.self.now.run.now in
     more_lines (string_bytes c.args.text.now) (string_bytes c.senders.text) (string_bytes c.push_notes_of.new.text)
-    (sender_lines k w faults c.args.self.now.number) c.senders.from c.senders.invariant c.in_ok-push_notes_of.ensures
+    (sender_lines words w faults c.args.self.now.number) c.senders.from c.senders.invariant c.in_ok-push_notes_of.ensures

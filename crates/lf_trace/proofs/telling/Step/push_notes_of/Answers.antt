@@ -5,9 +5,9 @@ use Rattle.lf_trace.proofs.Lines.{more_lines}
 use Rattle.lf_trace.proofs.telling.Step.push_notes_of.Goals as goal
 
 pub receivers-preserved : goal.receivers-preserved
-receivers-preserved c =
-    let k = c.args.self.now.setting.now.machine in
+receivers-preserved g c =
+    let words = g.M.Worded.words c.args.self.now.setting.now.machine in
     let w = world_of c.args.self.now.setting.now in
     let faults = set_of c.args.self.now.run.now in
     more_lines (string_bytes c.args.text.now) (string_bytes c.receivers.text) (string_bytes c.push_slot.new.text)
-    (slot_line k w faults c.args.self.now.number c.args.from) c.receivers.to c.receivers.invariant c.in_ok-push_slot.ensures
+    (slot_line words w faults c.args.self.now.number c.args.from) c.receivers.to c.receivers.invariant c.in_ok-push_slot.ensures
