@@ -5,8 +5,10 @@
     made_scenarios.py SEED COUNT --rows FILE FOLDER
                                                 writes so many of each protocol as a table, each into a file of that
                                                 FOLDER, as they stand in crates/search_examples/src/made
+    made_scenarios.py SEED COUNT --deep FILE    writes so many of each protocol, whose promises are deep formulas over few points, as a table
+                                                into the FILE crates/search_examples/src/made/deep.rt
 
-FILE has the answers to the scenarios of SEED, a line each. Of these are taken, for each protocol, the first ones that some set of faults
+FILE of --rows has the answers to the scenarios of SEED, a line each. Of these are taken, for each protocol, the first ones that some set of faults
 defeats, the empty set left out, and a few of the others:
 
     made_scenarios.py 18 1200 | bench_searches answers plain >answers
@@ -42,7 +44,12 @@ USUAL = {
 }
 BOUNDS = ["nodes", "horizon", "last_omission", "crashes", "budget"]
 MOST = 700
+FEW = 200
 WIDTH = 140
+
+
+# what stands for the beginning of a list in a row of deep formulas, as crates/search_examples/src/texts.rt reads it
+SHORT = {"all": "(", "any": "<", "down": "!", "shows": "?"}
 
 
 def sets(made):
@@ -75,6 +82,40 @@ def formula(chance, protocol, nodes, horizon, depth):
         return atom(chance, protocol, nodes, horizon)
     parts = [formula(chance, protocol, nodes, horizon, depth - 1) for _ in range(chance.choice([0, 1, 2, 2, 2, 2, 3, 3, 3, 3]))]
     return [chance.choice(["all", "any"])] + parts
+
+
+def deep(chance, points, depth):
+    """A formula over a few points: atoms of them stand in it several times, and those of one step beside those of others."""
+    if depth == 0 or chance.random() < 0.1:
+        return list(chance.choice(points))
+    parts = [deep(chance, points, depth - 1) for _ in range(chance.choice([0, 1, 2, 2, 2, 2, 2, 2, 3, 3]))]
+    return [chance.choice(["all", "any"])] + parts
+
+
+def promises_much(chance, protocol):
+    """The next scenario of few sets, with a formula of three to six levels."""
+    while True:
+        made = scenario(chance, protocol)
+        made["budget"] = min(made["budget"], 2)
+        if sets(made) > FEW:
+            continue
+        nodes, horizon = made["nodes"], made["horizon"]
+        points = []
+        for _ in range(chance.randint(2, 4)):
+            node, step = chance.randrange(nodes), chance.randint(1, horizon)
+            usual = chance.random() < 0.6
+            points.append(["shows", node, step, chance.choice((USUAL if usual else FACTS)[protocol])])
+            points.append(chance.choice([["down", node, step], ["shows", node, step, chance.choice(FACTS[protocol])]]))
+        made["outcome"] = deep(chance, points, chance.randint(2, 5))
+        if len(json.dumps(made["outcome"])) < 420:
+            return made
+
+
+def short(part):
+    """A formula as a row of deep formulas has it."""
+    if isinstance(part, list):
+        return SHORT[part[0]] + ",".join(short(one) for one in part[1:]) + "]"
+    return json.dumps(part)
 
 
 def scenario(chance, protocol):
@@ -172,9 +213,38 @@ def tables(found, folder):
         (folder / f"{protocol}.rt").write_text("\n".join(lines + [");", ""]))
 
 
+def deep_row(protocol, made):
+    bounds = " ".join(str(made[key]) for key in BOUNDS)
+    outcome = "outcome = " + short(made.pop("outcome"))
+    found = lines(made)
+    before = found.index("[[links]]") if "[[links]]" in found else len(found)
+    left = json.dumps("|".join([protocol, bounds, ";".join(found[:before] + [outcome] + found[before:])]))[1:-1] + "\\n"
+    while len(left) > WIDTH:
+        at = max(left.rfind(mark, 0, WIDTH) for mark in (";", ",")) + 1
+        yield left[:at]
+        left = left[at:]
+    yield left
+
+
+def deep_table(chance, count, file):
+    rows = [
+        "//! Made scenarios whose promises are deep formulas over few points, as `bench/made_scenarios.py` makes them.",
+        "",
+        "/// Their protocols, the numbers of their bounds, and further lines, with one character for the beginning of each list.",
+        "pub(crate) const DEEP: &str = concat!(",
+    ]
+    for protocol in FACTS:
+        for _ in range(count):
+            rows += [f'    "{part}",' for part in deep_row(protocol, promises_much(chance, protocol))]
+    Path(file).write_text("\n".join(rows + [");", ""]))
+
+
 def main():
     chance = random.Random(int(sys.argv[1]))
     count, more = int(sys.argv[2]), sys.argv[3:]
+    if more and more[0] == "--deep":
+        deep_table(chance, count, more[1])
+        return
     if more and more[0] == "--rows":
         with open(more[1]) as answers:
             tables(chosen(chance, count, answers), Path(more[2]))

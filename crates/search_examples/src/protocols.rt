@@ -1,7 +1,7 @@
 //! Made scenarios of each protocol, with lost notes, crashes, pauses, delays and formulas.
 
-use crate::made::{PRIMARY_BACKUP, REDUNDANT, RETRY, THREE_PHASE, TWO_PHASE};
-use crate::merged::agree;
+use crate::made::{DEEP, PRIMARY_BACKUP, REDUNDANT, RETRY, THREE_PHASE, TWO_PHASE};
+use crate::merged::{agree, are_one};
 
 #[test]
 fn retries(rt: HostRuntime) {
@@ -26,4 +26,9 @@ fn commits_in_three_phases(rt: HostRuntime) {
 #[test]
 fn backups(rt: HostRuntime) {
     agree(&rt, rt.alloc(), "primary_backup", PRIMARY_BACKUP);
+}
+
+#[test]
+fn formulas_over_few_points(rt: HostRuntime) {
+    are_one(&rt, rt.alloc(), DEEP);
 }

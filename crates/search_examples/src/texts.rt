@@ -36,10 +36,17 @@ fn push_bounds(text: &mut String, protocol: &str, numbers: &str) -> Result<(), A
     Ok(())
 }
 
-/// Adds further lines, of which all but the last end with `;`.
+/// Adds further lines, of which all but the last end with `;`. Four characters stand for the beginnings of the lists of formulas.
 fn push_lines(text: &mut String, lines: &str) -> Result<(), AllocError> {
     for c in lines.chars() {
-        text.push(if c == ';' { '\n' } else { c })?;
+        match c {
+            ';' => text.push('\n')?,
+            '(' => text.push_str("[\"all\", ")?,
+            '<' => text.push_str("[\"any\", ")?,
+            '!' => text.push_str("[\"down\", ")?,
+            '?' => text.push_str("[\"shows\", ")?,
+            other => text.push(other)?,
+        }
     }
     text.push('\n')
 }

@@ -20,6 +20,16 @@ fn push_set(alloc: Global, text: &mut String, set: &FaultSet) -> Result<(), Allo
     push_faults(alloc, text, set, "", ",")
 }
 
+/// An answer as a text: its faults, or `none`.
+pub(crate) fn answer_text(alloc: Global, answer: Option<FaultSet>) -> Option<String> {
+    let mut text = String::new(alloc);
+    let put = match answer {
+        Some(set) => push_set(alloc, &mut text, &set),
+        None => text.push_str("none"),
+    };
+    if put.is_ok() { Some(text) } else { None }
+}
+
 /// Adds sets, each behind `;`.
 fn push_sets(alloc: Global, text: &mut String, sets: &[FaultSet]) -> Result<(), AllocError> {
     for set in sets {
