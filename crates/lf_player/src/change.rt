@@ -1,12 +1,12 @@
 //! The change of a run into that of another set of faults.
 
-ghost use Rattle.std.specs.Prelude.{◌≡◌, ◌≢◌, ℕ, ◌+◌, ◌<◌, ◌≤◌, true, false, IsTrue};
+ghost use Rattle.std.specs.Prelude.{◌≡◌, ◌≢◌, ◌⊎◌, ℕ, ◌+◌, ◌<◌, ◌≤◌, true, false, IsTrue};
 ghost use Rattle.lf_faults.specs.Faults.{IsFault};
 ghost use Rattle.lf_latency.specs.Arrivals.{arrival_of};
-ghost use Rattle.lf_player.specs.Changes.{AreMarked, Covers, IsMarked, IsOnItsWay};
+ghost use Rattle.lf_player.specs.Changes.{AreMarked, Covers, Ignores, IsMarked, IsOnItsWay};
 ghost use Rattle.lf_player.specs.Marks.{is_marked};
 ghost use Rattle.lf_sim.specs.Outs.{note_to};
-ghost use Rattle.lf_sim.specs.Settings.{IsRun, set_of, world_of};
+ghost use Rattle.lf_sim.specs.Settings.{HasSize, IsRun, set_of, world_of};
 
 use crate::marks::Marks;
 use lf_faults::{FaultSet, Parts};
@@ -26,7 +26,7 @@ pub fn rerun<M: Machine>(setting: &Setting<M>, run: &mut Run<M>, set: &FaultSet)
         from: &from,
         to: &to,
     };
-    let mut marks = change.touched();
+    let mut marks = change.touched(run);
     run.rename(set);
     change.carry(run, &mut marks);
 }
@@ -40,38 +40,41 @@ pub(crate) struct Change<'a, M: Machine> {
 }
 
 impl<M: Machine> Change<'_, M> {
-    /// The points in which a fault of one of the sets alone has a say.
-    pub(crate) fn touched(&self) -> Marks
-        ensures from { AreMarked (world_of self.now.setting.now) self.now.from.now self.now.to.now.set result.points }
-        ensures to { AreMarked (world_of self.now.setting.now) self.now.to.now.set self.now.from.now result.points }
+    /// The points in which a fault of one of the sets alone has a say. `run` is that of the first set.
+    pub(crate) fn touched(&self, run: &Run<M>) -> Marks
+        requires { HasSize (world_of self.now.setting.now) run.now }
+        ensures from { AreMarked (world_of self.now.setting.now) self.now.to.now.set run.now self.now.from.now self.now.to.now.set result.points }
+        ensures to { AreMarked (world_of self.now.setting.now) self.now.to.now.set run.now self.now.to.now.set self.now.from.now result.points }
     {
         let mut marks = Marks::none();
-        self.mark_missing(&mut marks, self.from, &self.to.set);
-        self.mark_missing(&mut marks, &self.to.set, self.from);
+        self.mark_missing(&mut marks, run, self.from, &self.to.set);
+        self.mark_missing(&mut marks, run, &self.to.set, self.from);
         marks
     }
 
     /// Marks the points in which a fault of a set has a say that another set lacks.
-    fn mark_missing(&self, marks: &mut Marks, set: &FaultSet, other: &FaultSet)
-        ensures marked { AreMarked (world_of self.now.setting.now) set.now other.now marks.new.points }
+    fn mark_missing(&self, marks: &mut Marks, run: &Run<M>, set: &FaultSet, other: &FaultSet)
+        requires { HasSize (world_of self.now.setting.now) run.now }
+        ensures marked { AreMarked (world_of self.now.setting.now) self.now.to.now.set run.now set.now other.now marks.new.points }
         ensures kept { (n t : ℕ) → is_marked marks.old.points n t ≡ true → is_marked marks.new.points n t ≡ true }
     {
         for fault in set.items() {
             if !other.contains(fault) {
-                self.mark_fault(marks, fault.parts());
+                self.mark_fault(marks, run, fault.parts());
             }
         }
     }
 
     /// Marks the points in which a fault has a say.
-    fn mark_fault(&self, marks: &mut Marks, fault: Parts)
-        requires { IsFault fault }
-        ensures marked { IsMarked (world_of self.now.setting.now) fault marks.new.points }
+    fn mark_fault(&self, marks: &mut Marks, run: &Run<M>, fault: Parts)
+        requires size { HasSize (world_of self.now.setting.now) run.now }
+        requires fault { IsFault fault }
+        ensures marked { IsMarked (world_of self.now.setting.now) self.now.to.now.set run.now fault marks.new.points }
         ensures kept { (n t : ℕ) → is_marked marks.old.points n t ≡ true → is_marked marks.new.points n t ≡ true }
     {
         let horizon = self.setting.spec.horizon();
         match fault {
-            Parts::Omit { from, to, step } => self.mark_arrival(marks, from, to, step),
+            Parts::Omit { from, to, step } => self.mark_arrival(marks, run, from, to, step),
             Parts::Crash { node, step } => mark_span(marks, node, step, horizon),
             Parts::Pause { node, step } => {
                 let first_after = step + self.setting.spec.pause_length();
@@ -80,15 +83,15 @@ impl<M: Machine> Change<'_, M> {
         }
     }
 
-    /// Marks the point at which a note arrives, if it does so in the run. `step` is 1 or later.
-    fn mark_arrival(&self, marks: &mut Marks, from: u32, to: u32, step: u32)
-        requires from { from < 8 }
-        requires to { to < 8 }
+    /// Marks the point at which a note arrives, if it does so in the run and the receiver heeds it. `step` is 1 or later.
+    fn mark_arrival(&self, marks: &mut Marks, run: &Run<M>, from: u32, to: u32, step: u32)
+        requires size { HasSize (world_of self.now.setting.now) run.now }
         requires apart { from ≢ to }
         requires first { 1 ≤ step }
         ensures marked { let w = world_of self.now.setting.now in
             from < w.rules.nodes → to < w.rules.nodes → step ≤ w.horizon → w.arrival from to step ≤ w.horizon →
-            is_marked marks.new.points to (w.arrival from to step) ≡ true }
+            is_marked marks.new.points to (w.arrival from to step) ≡ false →
+            Ignores w self.now.to.now.set to (w.arrival from to step) run.now }
         ensures kept { (n t : ℕ) → is_marked marks.old.points n t ≡ true → is_marked marks.new.points n t ≡ true }
     {
         let nodes = self.setting.spec.nodes();
@@ -96,9 +99,39 @@ impl<M: Machine> Change<'_, M> {
         if from < nodes && to < nodes && step <= horizon {
             let arrival = self.setting.network.arrival(from, to, step);
             if arrival <= horizon {
-                marks.mark(to, arrival);
+                self.mark_heeded(marks, run, to, arrival);
             }
         }
+    }
+
+    /// Marks a point where letters may change what the node does.
+    fn mark_heeded(&self, marks: &mut Marks, run: &Run<M>, node: u32, step: u32)
+        requires size { HasSize (world_of self.now.setting.now) run.now }
+        requires node { node < (world_of self.now.setting.now).rules.nodes }
+        requires first { 1 ≤ step }
+        requires last { step ≤ (world_of self.now.setting.now).horizon }
+        ensures marked { is_marked marks.new.points node step ≡ false →
+            Ignores (world_of self.now.setting.now) self.now.to.now.set node step run.now }
+        ensures kept { (n t : ℕ) → is_marked marks.old.points n t ≡ true → is_marked marks.new.points n t ≡ true }
+    {
+        if self.heeds(run, node, step) {
+            marks.mark(node, step);
+        }
+    }
+
+    /// Whether letters may change what a node does at a step. They don't where the machine says that it ignores them.
+    fn heeds(&self, run: &Run<M>, node: u32, step: u32) -> bool
+        requires size { HasSize (world_of self.now.setting.now) run.now }
+        requires node { node < (world_of self.now.setting.now).rules.nodes }
+        requires first { 1 ≤ step }
+        requires last { step ≤ (world_of self.now.setting.now).horizon }
+        ensures { result ≡ false → Ignores (world_of self.now.setting.now) self.now.to.now.set node step run.now }
+    {
+        if self.to.wakes(node, step, self.setting.spec.pause_length()) {
+            return true;
+        }
+        let machine = &self.setting.machine;
+        !machine.ignores_letters(node, step, &run.turn(node, step - 1).state)
     }
 
     /// Makes the run that of the second set, where it is that of the first and `marks` are the points in which the sets differ.
@@ -146,39 +179,68 @@ impl<M: Machine> Change<'_, M> {
         if !self.setting.machine.same_state(&stood.state, &turn.state) {
             marks.mark(node, step + 1);
         }
-        self.mark_notes(marks, &stood.out, &turn.out, node, step);
+        self.mark_notes(marks, run, &stood.out, &turn.out, node, step);
     }
 
     /// Marks where those notes of a node arrive that differ.
     fn mark_notes(
         &self,
         marks: &mut Marks,
+        run: &Run<M>,
         stood: &Out<M::Note>,
         out: &Out<M::Note>,
         node: u32,
         step: u32,
     )
+        requires size { HasSize (world_of self.now.setting.now) run.now }
         requires node { node < (world_of self.now.setting.now).rules.nodes }
         requires first { 1 ≤ step }
         requires last { step ≤ (world_of self.now.setting.now).horizon }
         ensures same { let w = world_of self.now.setting.now in (m : ℕ) → m < w.rules.nodes → node ≢ m →
             w.arrival node m step ≤ w.horizon → is_marked marks.new.points m (w.arrival node m step) ≡ false →
-            note_to stood.now m ≡ note_to out.now m }
+            Ignores w self.now.to.now.set m (w.arrival node m step) run.now ⊎ (note_to stood.now m ≡ note_to out.now m) }
         ensures kept { (n t : ℕ) → is_marked marks.old.points n t ≡ true → is_marked marks.new.points n t ≡ true }
     {
-        for to in 0..self.setting.spec.nodes() {
-            if node != to && !self.is_same(stood.to(to), out.to(to)) {
-                self.mark_arrival(marks, node, to, step);
-            }
+        let _nodes = self.setting.spec.nodes();
+        self.mark_note(marks, run, &stood.to0, &out.to0, node, 0, step);
+        self.mark_note(marks, run, &stood.to1, &out.to1, node, 1, step);
+        self.mark_note(marks, run, &stood.to2, &out.to2, node, 2, step);
+        self.mark_note(marks, run, &stood.to3, &out.to3, node, 3, step);
+        self.mark_note(marks, run, &stood.to4, &out.to4, node, 4, step);
+        self.mark_note(marks, run, &stood.to5, &out.to5, node, 5, step);
+        self.mark_note(marks, run, &stood.to6, &out.to6, node, 6, step);
+        self.mark_note(marks, run, &stood.to7, &out.to7, node, 7, step);
+    }
+
+    /// Marks where a note arrives that differs.
+    fn mark_note(
+        &self,
+        marks: &mut Marks,
+        run: &Run<M>,
+        stood: &Option<M::Note>,
+        note: &Option<M::Note>,
+        from: u32,
+        to: u32,
+        step: u32,
+    )
+        requires size { HasSize (world_of self.now.setting.now) run.now }
+        requires first { 1 ≤ step }
+        ensures same { let w = world_of self.now.setting.now in from < w.rules.nodes → to < w.rules.nodes → from ≢ to →
+            step ≤ w.horizon → w.arrival from to step ≤ w.horizon → is_marked marks.new.points to (w.arrival from to step) ≡ false →
+            Ignores w self.now.to.now.set to (w.arrival from to step) run.now ⊎ (stood.now ≡ note.now) }
+        ensures kept { (n t : ℕ) → is_marked marks.old.points n t ≡ true → is_marked marks.new.points n t ≡ true }
+    {
+        if from != to && !self.is_same(stood, note) {
+            self.mark_arrival(marks, run, from, to, step);
         }
     }
 
-    /// Whether two nodes are known to send the same.
-    fn is_same(&self, one: Option<M::Note>, other: Option<M::Note>) -> bool
-        ensures { IsTrue result → one ≡ other }
+    /// Whether two notes are known to be the same, or none is there.
+    fn is_same(&self, one: &Option<M::Note>, other: &Option<M::Note>) -> bool
+        ensures { IsTrue result → one.now ≡ other.now }
     {
         match (one, other) {
-            (Some(one), Some(other)) => self.setting.machine.same_note(&one, &other),
+            (Some(one), Some(other)) => self.setting.machine.same_note(one, other),
             (None, None) => true,
             _ => false,
         }

@@ -22,7 +22,7 @@ retry_hear-Has : (note : Note) → retry_hear holdings.Has note ≡ holdings.Has
 retry_hear-Has Payload = refl
 retry_hear-Has note = refl
 
-retry_hear_all-Has : (xs : List (Letter Note)) → retry_hear_all holdings.Has xs ≡ holdings.Has
+pub retry_hear_all-Has : (xs : List (Letter Note)) → retry_hear_all holdings.Has xs ≡ holdings.Has
 retry_hear_all-Has xs = fold_stays (λ before (letter : Letter Note). retry_hear before letter.note) holdings.Has (λ letter. retry_hear-Has letter.note) xs
 
 retry_hear-Payload : (before : Holding) (note : Note) → note ≡ Payload → retry_hear before note ≡ holdings.Has

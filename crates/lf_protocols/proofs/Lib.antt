@@ -1,6 +1,7 @@
 mod LettersLemmas
 mod DeliveriesLemmas
 mod BlocksLemmas
+mod IgnoringLemmas
 mod WordsLemmas
 mod FoldsLemmas
 mod Orders

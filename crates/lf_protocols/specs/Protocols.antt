@@ -1,5 +1,5 @@
 -- Each protocol's machine, put together from its table.
-use Rattle.std.specs.Prelude.{ℕ, Bool, nat_le, if◌then◌else◌, List}
+use Rattle.std.specs.Prelude.{ℕ, Bool, true, false, not, ◌==◌, nat_le, if◌then◌else◌, List}
 use Rattle.lf_sim.specs.declared.letter.Letter.{Letter}
 use Rattle.lf_sim.specs.declared.out.Stepped.{Stepped}
 use Rattle.lf_sim.specs.Machines.{Rules}
@@ -8,6 +8,10 @@ use Rattle.lf_protocols.specs.declared.protocol.Kind.{Kind}
 use Rattle.lf_protocols.specs.declared.protocol.Kind.TheVariants as kinds
 use Rattle.lf_protocols.specs.declared.state.State.{State}
 use Rattle.lf_protocols.specs.declared.state.State.TheVariants as states
+use Rattle.lf_protocols.specs.declared.state.Holding.TheVariants as holdings
+use Rattle.lf_protocols.specs.declared.state.Relay.TheVariants as relays
+use Rattle.lf_protocols.specs.declared.state.Phase.{Phase}
+use Rattle.lf_protocols.specs.declared.state.Phase.TheVariants as phases
 use Rattle.lf_protocols.specs.declared.note.Note.{Note}
 use Rattle.lf_protocols.specs.declared.fact.Fact.{Fact}
 use Rattle.lf_ruled.specs.Machines as rules
@@ -60,6 +64,20 @@ step_of (kinds.PrimaryBackup nodes patience) node t (states.PrimaryBackup own) i
     else ignored (states.PrimaryBackup own)
 step_of (kinds.Ruled m) node t (states.Ruled own) inbox = any_turn (step_by_rules m node t own inbox)
 step_of k node t other inbox = ignored other
+
+-- the commit is decided for the node. (At step 1 node 0 asks for votes whatever it was in)
+abbrev pub is_over : ℕ → Phase → Bool
+is_over t phases.Committed = not (t == 1)
+is_over t phases.Aborted = not (t == 1)
+is_over t phase = false
+
+-- whether a node that goes on from a state at step t is known to ignore its letters: it has the data, or the commit is decided
+abbrev pub ignores_letters : Kind → ℕ → State → Bool
+ignores_letters (kinds.Retry nodes tries) t (states.Retry holdings.Has) = true
+ignores_letters (kinds.Redundant nodes tries) t (states.Redundant (relays.Has sent)) = true
+ignores_letters (kinds.TwoPhase nodes patience votes) t (states.TwoPhase own) = is_over t own.phase
+ignores_letters (kinds.ThreePhase nodes patience votes) t (states.ThreePhase own) = is_over t own.phase
+ignores_letters k t last = false
 
 -- what a state of a shipped protocol is after a pause, where its node goes on at step t
 abbrev pub state_wake : ℕ → State → State

@@ -1,11 +1,11 @@
 //! The protocols as machines.
 
 ghost use Rattle.std.specs.Prelude.{◌≡◌, ◌<◌};
-ghost use Rattle.lf_protocols.specs.Protocols.{nodes_of, shows_of};
+ghost use Rattle.lf_protocols.specs.Protocols.{ignores_letters, is_over, nodes_of, shows_of};
 
 use crate::{
-    Fact, Kind, Note, Protocol, State, commit, primary_backup, redundant, retry, ruled,
-    three_phase, two_phase,
+    Fact, Holding, Kind, Note, Phase, Protocol, Relay, State, commit, primary_backup, redundant,
+    retry, ruled, three_phase, two_phase,
 };
 use lf_sim::{Letter, Machine, Out, Stepped};
 
@@ -171,6 +171,10 @@ impl Machine for Protocol {
         one == other
     }
 
+    fn ignores_letters(&self, _node: u32, t: u32, state: &State) -> bool {
+        ignores_letters(self.kind(), t, state)
+    }
+
     fn shows(&self, node: u32, state: State, fact: Fact) -> bool {
         match state {
             State::Ruled(own) => self.shows_by_rules(node, own, fact),
@@ -184,6 +188,29 @@ impl Machine for Protocol {
     }
 
     ghost silent = { λ kind n t to state inbox node first last nobody. rules_of-silent kind n t to state inbox node nobody };
+}
+
+/// Whether a node that goes on from a state at step `t` is known to ignore its letters.
+fn ignores_letters(kind: &Kind, t: u32, state: &State) -> bool
+    ensures { result ≡ ignores_letters kind.now t state.now }
+{
+    match (kind, state) {
+        (Kind::Retry { .. }, State::Retry(Holding::Has)) => true,
+        (Kind::Redundant { .. }, State::Redundant(Relay::Has { .. })) => true,
+        (Kind::TwoPhase { .. }, State::TwoPhase(progress)) => is_over(t, progress.phase),
+        (Kind::ThreePhase { .. }, State::ThreePhase(progress)) => is_over(t, progress.phase),
+        _ => false,
+    }
+}
+
+/// Whether a commit is decided for a node in a phase. At step 1 node 0 asks for votes whatever it was in.
+fn is_over(t: u32, phase: Phase) -> bool
+    ensures { result ≡ is_over t phase }
+{
+    match phase {
+        Phase::Committed | Phase::Aborted => t != 1,
+        _ => false,
+    }
 }
 
 impl Protocol {

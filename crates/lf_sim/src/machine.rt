@@ -89,6 +89,18 @@ pub trait Machine {
         false
     }
 
+    /// Whether a node that goes on from this state at step `t` is known to ignore its letters: with every inbox it does the same.
+    ///
+    /// A machine need not write it. Where one does, letters to such nodes are passed over, and runs take less work.
+    fn ignores_letters(&self, _node: u32, _t: u32, _state: &Self::State) -> bool
+        requires node { _node < (rules self.now).nodes }
+        requires t { (1 ≤ _t) × (_t ≤ 48) }
+        ensures { IsTrue result → (inbox other : List (Letter Self.Note)) →
+            (rules self.now).step _node _t _state.now inbox ≡ (rules self.now).step _node _t _state.now other }
+    {
+        false
+    }
+
     /// Whether a node's state shows a fact.
     fn shows(&self, node: u32, state: Self::State, fact: Self::Fact) -> bool
         requires { node < (rules self.now).nodes }

@@ -44,8 +44,25 @@ impl<M: Machine> Past<'_, M> {
         }
     }
 
+    /// Makes the inbox what reaches a node at the step after `t`, or leaves it empty where the node ignores it: from this state it
+    /// does as with what reaches it.
+    pub(crate) fn put_heeded(&self, inbox: &mut Vec<Letter<M::Note>>, to: u32, state: &M::State)
+        requires to { to < self.now.nodes }
+        requires letters { LETTERS ≤ vec_capacity inbox.old }
+        ensures same { let w = world_of self.now.setting.now in let faults = self.now.effects.now.set in
+            w.rules.step to (self.now.t + 1) state.now inbox.new.items ≡
+            w.rules.step to (self.now.t + 1) state.now (letters w faults (did w faults) to (self.now.t + 1)) }
+        ensures letters { vec_capacity inbox.new ≡ vec_capacity inbox.old }
+    {
+        if self.setting.machine.ignores_letters(to, self.t + 1, state) {
+            inbox.clear();
+        } else {
+            self.put_letters(inbox, to);
+        }
+    }
+
     /// Makes the inbox what reaches a node at the step after `t`.
-    pub(crate) fn put_letters(&self, inbox: &mut Vec<Letter<M::Note>>, to: u32)
+    fn put_letters(&self, inbox: &mut Vec<Letter<M::Note>>, to: u32)
         requires to { to < self.now.nodes }
         requires letters { LETTERS ≤ vec_capacity inbox.old }
         ensures items { let w = world_of self.now.setting.now in let faults = self.now.effects.now.set in

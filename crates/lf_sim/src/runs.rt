@@ -178,7 +178,7 @@ pub(crate) fn put_turn<M: Machine>(
     let length = setting.spec.pause_length();
     if effects.leaves_up(node, t + 1, length) {
         let state = past.before_step(length, node, last);
-        past.put_letters(inbox, node);
+        past.put_heeded(inbox, node, &state);
         setting.machine.put_step(node, t + 1, state, inbox, cells);
     } else {
         cells.push_reserved(Stepped {

@@ -191,6 +191,10 @@ impl Machine for Rumour {
         one == other
     }
 
+    fn ignores_letters(&self, _node: u32, _t: u32, state: &u32) -> bool {
+        *state != 0
+    }
+
     fn shows(&self, _node: u32, state: u32, fact: u32) -> bool {
         state == fact
     }

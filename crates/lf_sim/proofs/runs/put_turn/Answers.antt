@@ -1,5 +1,5 @@
 use Rattle.std.proofs.Common.{◌≡◌, ◌+◌, ◌<◌, ◌++◌, ◌∷◌, [], true, false, refl, sym, ap, subst, ◌∙◌, arith}
-use Rattle.lf_sim.specs.Runs.{is_up}
+use Rattle.lf_sim.specs.Runs.{is_up, inbox}
 use Rattle.lf_sim.specs.Settings.{world_of}
 use Rattle.lf_sim.specs.Tables.{HasPast}
 use Rattle.lf_sim.proofs.RunsLemmas.{is_up_from, step_is, rest_is}
@@ -20,11 +20,12 @@ returns-then-leaves_up-clause-cells g c =
     let up : is_up w F c.args.node (c.args.t + 1) ≡ true =
     is_up_from w F c.pause_length-length.result c.args.node (c.args.t + 1) c.leaves_up.result node (omega arith)
     (omega (arith, c.requires.step)) c.pause_length-length.ensures.value c.leaves_up.ensures ∙ c.if-leaves_up.true in
+    let step = w.rules.step c.args.node (c.args.t + 1) c.before_step-state.result in
     c.put_step.ensures.items
     ∙ ap (λ turn. c.args.cells.now.items ++ turn ∷ [])
-    (step_is w F c.args.node c.args.t c.cell.result.now c.before_step-state.result c.deref-then-leaves_up.result.now
-    (w.rules.step c.args.node (c.args.t + 1) c.before_step-state.result c.deref-then-leaves_up.result.now) c.cell.ensures c.before_step-state.ensures
-    (c.deref-then-leaves_up.ensures.value ∙ c.put_letters.ensures.items) up refl)
+    (step_is w F c.args.node c.args.t c.cell.result.now c.before_step-state.result (inbox w F c.args.node (c.args.t + 1))
+    (step c.deref-then-leaves_up.result.now) c.cell.ensures c.before_step-state.ensures refl up
+    (ap step c.deref-then-leaves_up.ensures.value ∙ c.put_heeded.ensures.same))
 
 pub returns-else-leaves_up-clause-cells : goal.returns-else-leaves_up-clause-cells
 returns-else-leaves_up-clause-cells g c =

@@ -8,6 +8,6 @@ use Rattle.lf_player.proofs.change.Change.mark_missing.Given as goal
 abbrev pub invariant-loop-fault : goal.invariant-loop-fault
 invariant-loop-fault g l =
     record {
-      marked : AreMarked (world_of l.self.setting.now) (take l.fault-index l.fault-items) l.other l.marks.points;
+      marked : AreMarked (world_of l.self.setting.now) l.self.to.now.set l.run (take l.fault-index l.fault-items) l.other l.marks.points;
       kept : (n t : ℕ) → is_marked l.initial.marks.points n t ≡ true → is_marked l.marks.points n t ≡ true;
     }
