@@ -10,6 +10,7 @@
 
 use crate::running::{plain, runs};
 use crate::words::{Asked, Word};
+use lf_alone::finish;
 use lf_book::{Book, Counts, Deepened, Event, Reply, Scratch, Taken, work_up};
 use lf_faults::FaultSet;
 use lf_scenario::Scenario;
@@ -44,6 +45,18 @@ pub(crate) fn measure(
     }
 }
 
+/// Searches a scenario, until the search has ended or a level is too full.
+fn search(alloc: Global, scenario: &Arc<Scenario>) -> Result<Ended, AllocError> {
+    let mut book = Book::begin(alloc, Arc::try_clone(scenario)?)?;
+    let _stop = finish(alloc, &mut book)?;
+    let deepened = book.deepen();
+    Ok(Ended {
+        deepened,
+        level: book.level(),
+        answered: book.answered(),
+    })
+}
+
 /// Takes one set, works it and files what is found, and answers whether there was one.
 fn step(book: &mut Book, scratch: &mut Scratch) -> Result<Option<FaultSet>, AllocError> {
     let Taken::Job(job) = book.take()? else {
@@ -55,45 +68,33 @@ fn step(book: &mut Book, scratch: &mut Scratch) -> Result<Option<FaultSet>, Allo
     Ok(Some(set))
 }
 
-/// Answers the sets of a level, and puts each where there are sets to put them to.
-fn answer_level(
+/// Answers the sets of a level, and puts each.
+fn put_level(
     book: &mut Book,
     scratch: &mut Scratch,
     sets: &mut Vec<FaultSet>,
-    keeps: bool,
 ) -> Result<(), AllocError> {
     for _ in 0..u64::MAX {
         match step(book, scratch)? {
-            Some(set) if keeps => sets.push(set)?,
-            Some(_) => {}
+            Some(set) => sets.push(set)?,
             None => break,
         }
     }
     Ok(())
 }
 
-/// Answers the sets of level after level, until the book goes down no more.
-fn search(
-    alloc: Global,
-    scenario: &Arc<Scenario>,
-    sets: &mut Vec<FaultSet>,
-    keeps: bool,
-) -> Result<Ended, AllocError> {
+/// The sets that a search answers, level after level.
+fn searched(alloc: Global, scenario: &Arc<Scenario>) -> Result<Vec<FaultSet>, AllocError> {
+    let mut sets = Vec::new(alloc);
     let mut book = Book::begin(alloc, Arc::try_clone(scenario)?)?;
     let mut scratch = Scratch::new(alloc);
-    let mut deepened = Deepened::Down;
     for _ in 0..LEVELS {
-        answer_level(&mut book, &mut scratch, sets, keeps)?;
-        deepened = book.deepen();
-        if deepened != Deepened::Down {
+        put_level(&mut book, &mut scratch, &mut sets)?;
+        if book.deepen() != Deepened::Down {
             break;
         }
     }
-    Ok(Ended {
-        deepened,
-        level: book.level(),
-        answered: book.answered(),
-    })
+    Ok(sets)
 }
 
 /// Searches so many times, and prints how the last search ended.
@@ -102,10 +103,9 @@ fn print_searches(
     scenario: &Arc<Scenario>,
     times: u32,
 ) -> Result<u8, AllocError> {
-    let mut sets = Vec::new(rt.alloc());
     let mut last = None;
     for _ in 0..times {
-        last = Some(search(rt.alloc(), scenario, &mut sets, false)?);
+        last = Some(search(rt.alloc(), scenario)?);
     }
     match last {
         Some(ended) => print(rt, ended),
@@ -118,8 +118,7 @@ fn print_searches(
 
 /// Runs the sets that a search answers so many times, and prints the sum of what each time found.
 fn print_runs(rt: &HostRuntime, scenario: &Arc<Scenario>, times: u32) -> Result<u8, AllocError> {
-    let mut sets = Vec::new(rt.alloc());
-    let _ended = search(rt.alloc(), scenario, &mut sets, true)?;
+    let sets = searched(rt.alloc(), scenario)?;
     let total = runs(rt.alloc(), scenario, sets.as_slice(), times)?;
     let _printed = println!(rt; "{total}").is_ok();
     Ok(0)

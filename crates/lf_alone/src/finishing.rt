@@ -9,10 +9,11 @@ ghost use Rattle.lf_marks.specs.Steps.{IsUnmarked};
 ghost use Rattle.lf_marks.specs.Steps as mark;
 ghost use Rattle.lf_search.specs.Events.{IsDone, IsUnclaimed};
 ghost use Rattle.lf_search.specs.States.{IsStart};
+ghost use Rattle.lf_work.specs.Scratches.{IsScratchFor};
 
 use crate::Stop;
 use crate::facts::books_are_closed;
-use lf_book::{Book, Deepened, Scratch, Taken, work_up};
+use lf_book::{Book, Deepened, Scratch, Taken, work_on};
 use lf_watch::{NoWatch, Progress, Watch};
 use std::alloc::{AllocError, Global};
 
@@ -66,9 +67,11 @@ fn work_level<W: Watch>(
     scratch: &mut Scratch,
     watch: &W,
 ) -> Result<Worked, AllocError>
-    requires { IsUnclaimed (state_of book.old).marks }
+    requires free { IsUnclaimed (state_of book.old).marks }
+    requires scratch { IsScratchFor (scenario_of book.old) scratch.old }
     ensures worked { IfOk result (IsWorked (state_of book.old) (state_of book.new)) }
     ensures underway { OnOk result (IsUnderway (state_of book.old) → IsUnderway (state_of book.new)) }
+    ensures scratch { OnOk result (IsScratchFor (scenario_of book.new) scratch.new) }
     ensures kept { KeepsAnswers (state_of book.old).marks (state_of book.new).marks }
     ensures scenario { scenario_of book.new ≡ scenario_of book.old }
 {
@@ -91,12 +94,14 @@ fn open_sets(book: &Book) -> u64 {
     book.counts().ready
 }
 
-/// Works an open set.
+/// Works an open set. The scenarios of the book, of its claim and of the scratch are one, so nothing is compared.
 fn work_next(book: &mut Book, scratch: &mut Scratch) -> Result<Worked, AllocError>
     requires free { IsUnclaimed (state_of book.old).marks }
     requires ready { ¬ IsUnmarked (state_of book.old).marks mark.Open }
+    requires scratch { IsScratchFor (scenario_of book.old) scratch.old }
     ensures turn { IfOk result (IsTurn (state_of book.old) (state_of book.new)) }
     ensures underway { OnOk result (IsUnderway (state_of book.old) → IsUnderway (state_of book.new)) }
+    ensures scratch { OnOk result (IsScratchFor (scenario_of book.new) scratch.new) }
     ensures kept { KeepsAnswers (state_of book.old).marks (state_of book.new).marks }
     ensures scenario { scenario_of book.new ≡ scenario_of book.old }
 {
@@ -107,9 +112,8 @@ fn work_next(book: &mut Book, scratch: &mut Scratch) -> Result<Worked, AllocErro
         Taken::Busy | Taken::LevelDone | Taken::Finished => unreachable!(),
     };
     books_are_closed(book);
-    let finding = work_up(job, scratch)?;
-    let filed = book.file(finding);
-    let Ok(()) = filed else { unreachable!() };
+    let finding = work_on(job, scratch)?;
+    book.file_claimed(finding);
     Ok(Worked::Done)
 }
 

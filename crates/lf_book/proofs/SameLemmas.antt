@@ -1,10 +1,9 @@
 -- Equal faults, and lists of faults that begin with others.
-use Rattle.std.proofs.Common.{◌≡◌, true, Bool, List, ◌++◌, length, drop, subst, arith}
+use Rattle.std.proofs.Common.{◌≡◌, ◌≤◌, true, Bool, List, ◌++◌, length, take, drop, sym, ap, ◌∙◌, subst, arith}
 use Rattle.std.specs.Prelude.{◌↔◌, IsTrue}
-use Rattle.std.specs.Cmp.Lexicographic.{pointwise}
-use Rattle.std.specs.List.{starts_with}
 use Rattle.std.proofs.lemmas.Bool.Decides.{nat_tests}
-use Rattle.std.proofs.lemmas.Slice.Eq.{slice_eq-Decides, starts_is}
+use Rattle.std.proofs.lemmas.List.{length-append, take-append-drop}
+use Rattle.std.proofs.Math.Seq.{take-append_seam}
 use Rattle.lf_faults.specs.contracts.fault.FaultPartialEq.TheImpl.{eq-value}
 use Rattle.lf_faults.specs.declared.fault.Parts.{Parts}
 use Rattle.lf_faults.specs.declared.fault.Parts.TheVariants.{Omit, Crash, Pause}
@@ -26,11 +25,15 @@ same (Pause n t) (Omit k l s) h = grind (arith, nat_tests)
 same (Pause n t) (Crash k s) h = grind (arith, nat_tests)
 same (Pause n t) (Pause k s) h = grind (arith, nat_tests)
 
-pub lists-same : (fs gs : List Parts) (result : Bool) → result ≡ pointwise (eq-value).it fs gs → IsTrue result ↔ (fs ≡ gs)
-lists-same fs gs result is = slice_eq-Decides (λ f g. (same f g, λ e. subst (λ x. (eq-value).it f x ≡ true) e (itself f))) fs gs result is
+pub fault-same : (f g : Parts) (result : Bool) → result ≡ (eq-value).it f g → IsTrue result ↔ (f ≡ g)
+fault-same f g result is = (λ h. same f g (sym is ∙ h), λ e. is ∙ subst (λ x. (eq-value).it f x ≡ true) e (itself f))
 
-pub begins : (fs start : List Parts) (result : Bool) → result ≡ starts_with (eq-value).it fs start
-    → IsTrue result ↔ ((rest : List Parts) × (fs ≡ start ++ rest))
-begins fs start result is =
-    let s = starts_is (λ f g. (same f g, λ e. subst (λ x. (eq-value).it f x ≡ true) e (itself f))) fs start result is in
-    (λ h. (drop (length start) fs, s.0 h), λ r. s.1 r.0 r.1)
+-- a list that begins with others is as long as they at least
+pub begun-long : (fs start rest : List Parts) → fs ≡ start ++ rest → length start ≤ length fs
+begun-long fs start rest e = omega (arith, ap (λ (xs : List Parts). length xs) e, length-append start rest)
+
+pub begun : (fs start : List Parts) → take (length start) fs ≡ start → (rest : List Parts) × (fs ≡ start ++ rest)
+begun fs start e = (drop (length start) fs, sym (take-append-drop (length start) fs) ∙ ap (λ l. l ++ drop (length start) fs) e)
+
+pub begins : (fs start rest : List Parts) → fs ≡ start ++ rest → take (length start) fs ≡ start
+begins fs start rest e = ap (take (length start)) e ∙ take-append_seam start rest

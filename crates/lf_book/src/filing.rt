@@ -65,8 +65,9 @@ impl Book {
         Ok(())
     }
 
-    /// Files a finding of a claim of the book.
-    fn file_claimed(&mut self, finding: Finding)
+    /// The same, for a finding that is known to be of a claim of the book, as one is of a job that was taken in the same turn: nothing is
+    /// compared.
+    pub fn file_claimed(&mut self, finding: Finding)
         requires { IsClaimOf self.old finding.job.ticket (arc_value finding.job.scenario) finding.job.path.items (task_of_finding finding) }
         ensures filed { IsFiled finding self.old self.new }
         ensures found { IsFoundOf finding }

@@ -92,11 +92,29 @@ fn fault_at(list: &[Fault], place: usize) -> Fault
 fn begins_with(list: &[Fault], start: &[Fault]) -> bool
     ensures { IsTrue result ↔ ((rest : List Parts) × (list.now ≡ start.now ++ rest)) }
 {
-    list.starts_with(start)
+    if list.len() < start.len() {
+        return false;
+    }
+    are_same(&list[..start.len()], start)
 }
 
 /// Whether two lists of faults are the same, in order.
 fn are_same(one: &[Fault], other: &[Fault]) -> bool
+    ensures { IsTrue result ↔ (one.now ≡ other.now) }
+{
+    if one.len() != other.len() {
+        return false;
+    }
+    'faults: for (i, fault) in one.iter().enumerate() {
+        if !is_same(fault, &other[i]) {
+            return false;
+        }
+    }
+    true
+}
+
+/// Whether two faults are the same.
+fn is_same(one: &Fault, other: &Fault) -> bool
     ensures { IsTrue result ↔ (one.now ≡ other.now) }
 {
     one == other

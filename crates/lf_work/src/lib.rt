@@ -5,10 +5,11 @@
 
 mod finding;
 mod job;
+mod running;
 mod scratch;
 mod working;
 
 pub use finding::Finding;
 pub use job::Job;
 pub use scratch::Scratch;
-pub use working::{work, work_reusing, work_up};
+pub use working::{work, work_on, work_reusing, work_up};

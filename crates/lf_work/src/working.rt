@@ -6,10 +6,12 @@ ghost use Rattle.lf_marks.specs.Answers.{mark_for, reach_of, edges_of};
 ghost use Rattle.lf_sim.specs.Settings.{IsRun, set_of, world_of};
 ghost use Rattle.lf_search.specs.Found.{IsFound};
 ghost use Rattle.lf_work.specs.Jobs.{IsOfJob};
+ghost use Rattle.lf_work.specs.Scratches.{IsScratchFor};
 
 use crate::finding::Finding;
 use crate::job::Job;
-use crate::scratch::{Scratch, run_of};
+use crate::running::{run_of, suit};
+use crate::scratch::Scratch;
 use lf_cone::{put_edges, sharp};
 use lf_faults::{Fault, FaultSet};
 use lf_list::Listed;
@@ -32,6 +34,7 @@ pub fn work(job: &Job) -> Result<Finding, AllocError>
 pub fn work_reusing(job: &Job, scratch: &mut Scratch) -> Result<Finding, AllocError>
     ensures { IfOk result (IsOfJob job.now) }
 {
+    suit(job, scratch);
     let answer = worked(job, scratch)?;
     let job = job.try_clone()?;
     Ok(Finding { job, answer })
@@ -41,14 +44,27 @@ pub fn work_reusing(job: &Job, scratch: &mut Scratch) -> Result<Finding, AllocEr
 pub fn work_up(job: Job, scratch: &mut Scratch) -> Result<Finding, AllocError>
     ensures { IfOk result (IsOfJob job) }
 {
+    suit(&job, scratch);
+    work_on(job, scratch)
+}
+
+/// The same, for a scratch that is known to be of the job's scenario, as a new one is, and one after a job of the same book: the scenarios
+/// aren't compared.
+pub fn work_on(job: Job, scratch: &mut Scratch) -> Result<Finding, AllocError>
+    requires { IsScratchFor (arc_value job.scenario) scratch.old }
+    ensures finding { IfOk result (IsOfJob job) }
+    ensures scratch { IsScratchFor (arc_value job.scenario) scratch.new }
+{
     let answer = worked(&job, scratch)?;
     Ok(Finding { job, answer })
 }
 
 /// What is found of a job's set.
 fn worked(job: &Job, scratch: &mut Scratch) -> Result<Answer, AllocError>
-    ensures { IfOk result (λ answer. IsFound (world_of (arc_value job.now.scenario).setting) (arc_value job.now.scenario).setting.spec
+    requires { IsScratchFor (arc_value job.now.scenario) scratch.old }
+    ensures found { IfOk result (λ answer. IsFound (world_of (arc_value job.now.scenario).setting) (arc_value job.now.scenario).setting.spec
         (arc_value job.now.scenario).formula job.now.set job.now.excluded.items (mark_for answer)) }
+    ensures scratch { IsScratchFor (arc_value job.now.scenario) scratch.new }
 {
     let alloc = *job.excluded.allocator();
     let scenario = job.scenario();

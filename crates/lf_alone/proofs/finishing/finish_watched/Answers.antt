@@ -1,7 +1,8 @@
-use Rattle.std.proofs.Common.{◌∙◌, refl, arith}
+use Rattle.std.proofs.Common.{◌∙◌, refl, sym, subst, arith}
 use Rattle.lf_alone.proofs.KeepLemmas.{keeps_on, reclaimed_keeps}
 use Rattle.lf_alone.proofs.TurnLemmas.{has_ticket, reclaimed_start, spent_of}
 use Rattle.lf_book.specs.Books.{state_of}
+use Rattle.lf_work.specs.Scratches.{IsScratchFor}
 use Rattle.lf_alone.proofs.finishing.finish_watched.Goals as goal
 
 pub returns-in_err-work_level-clause-kept : goal.returns-in_err-work_level-clause-kept
@@ -50,4 +51,5 @@ levels-preserved g c =
       kept = keeps_on free worked (state_of c.after_level.new.book).marks (keeps_on free now worked so.kept c.work_level.ensures.kept)
           c.after_level.ensures.kept;
       scenario = c.after_level.ensures.scenario ∙ c.work_level.ensures.scenario ∙ so.scenario;
+      scratch = subst (λ s. IsScratchFor s c.work_level.new.scratch) (sym c.after_level.ensures.scenario) c.in_ok-work_level.ensures.scratch;
     }

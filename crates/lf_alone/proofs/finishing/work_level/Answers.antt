@@ -33,6 +33,7 @@ sets-preserved g c =
       kept = keeps_on (state_of c.args.book.now).marks (state_of c.sets.book).marks (state_of c.work_next.new.book).marks so.kept
           c.work_next.ensures.kept;
       scenario = c.work_next.ensures.scenario ∙ so.scenario;
+      scratch = c.in_ok-work_next.ensures.scratch;
     }
 
 pub returns-clause-worked : goal.returns-clause-worked

@@ -3,9 +3,10 @@ use Rattle.lf_alone.specs.Turns.{IsUnderway, KeepsAnswers}
 use Rattle.lf_book.specs.Books.{scenario_of, state_of}
 use Rattle.lf_search.specs.Events.{IsUnclaimed}
 use Rattle.lf_search.specs.States.{last_ticket}
+use Rattle.lf_work.specs.Scratches.{IsScratchFor}
 use Rattle.lf_alone.proofs.finishing.work_level.Given as goal
 
--- the level is the same, nothing is claimed, and there is still a ticket for each open set if there was
+-- the level is the same, nothing is claimed, there is still a ticket for each open set if there was, and the scratch is of the scenario
 abbrev pub invariant-sets : goal.invariant-sets
 invariant-sets g l = record {
   free : IsUnclaimed (state_of l.book).marks;
@@ -13,6 +14,7 @@ invariant-sets g l = record {
   underway : IsUnderway (state_of l.initial.book) → IsUnderway (state_of l.book);
   kept : KeepsAnswers (state_of l.initial.book).marks (state_of l.book).marks;
   scenario : scenario_of l.book ≡ scenario_of l.initial.book;
+  scratch : IsScratchFor (scenario_of l.book) l.scratch;
 }
 
 -- each set takes a ticket

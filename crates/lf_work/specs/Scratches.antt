@@ -1,0 +1,15 @@
+-- What a scratch holds.
+use Rattle.std.specs.Prelude.{◌≡◌, IfSome}
+use Rattle.std.specs.Arc.{arc_value}
+use Rattle.lf_scenario.specs.declared.scenario.Scenario.{Scenario}
+use Rattle.lf_sim.specs.Settings.{world_of}
+use Rattle.lf_work.specs.declared.scratch.Played.{Played}
+use Rattle.lf_work.specs.declared.scratch.Scratch.{Scratch}
+
+-- a run of the scenario's world: its protocol on its network, within its bounds
+abbrev pub IsPlayedFor : Scenario → Played → Type 0
+IsPlayedFor s played = world_of (arc_value played.scenario).setting ≡ world_of s.setting
+
+-- no run, or one of the scenario's world
+abbrev pub IsScratchFor : Scenario → Scratch → Type 0
+IsScratchFor s scratch = IfSome scratch.played (IsPlayedFor s)
