@@ -5,3 +5,5 @@
 mod hints;
 #[cfg(test)]
 mod notes;
+#[cfg(test)]
+mod texts;

@@ -1,6 +1,8 @@
 //! What is wrong with the constants that a scenario gives anew.
 
+use crate::known::known_in;
 use crate::names::{at, constants, meant};
+use crate::nodes::nodes_hint;
 use lf_rules::{Given, Sort};
 use lf_written::ProtocolFile;
 use std::alloc::{AllocError, Global};
@@ -19,6 +21,7 @@ fn kind_words(sort: Sort) -> &'static str {
 /// What is wrong with the value at the key `given`. The error, also below, is that memory has run out.
 pub(crate) fn given_hint(
     alloc: Global,
+    source: &[u8],
     table: &Table,
     file: &ProtocolFile,
 ) -> Result<String, AllocError> {
@@ -40,11 +43,15 @@ pub(crate) fn given_hint(
             return format!(in alloc; "given.{name}: `{protocol}` has no such constant{instead}");
         }
     }
+    let known = known_in(alloc, file)?;
     for constant in file.definition().given.as_slice() {
         let name = constant.name.as_str();
         if let Some(value) = given.get(name) {
             if let Some(words) = value_hint(alloc, table, constant.sort, value)? {
                 return format!(in alloc; "given.{name} = {value}: {words}");
+            }
+            if let Some(hint) = nodes_hint(alloc, source, known.as_slice(), name, value)? {
+                return Ok(hint);
             }
         }
     }
@@ -105,8 +112,7 @@ fn may_be(sort: Sort, value: &Value) -> bool {
     }
 }
 
-/// What is wrong where all that is given anew looks right: a list of the file's own that doesn't fit, a text that is no set of nodes, or a
-/// division by 0.
+/// What is wrong where all that is given anew looks right: a list of the file's own that doesn't fit, or a division by 0.
 fn left_hint(alloc: Global, table: &Table, file: &ProtocolFile) -> Result<String, AllocError> {
     for constant in file.definition().given.as_slice() {
         if let Given::Each(values) = &constant.value {
@@ -121,6 +127,6 @@ fn left_hint(alloc: Global, table: &Table, file: &ProtocolFile) -> Result<String
     }
     String::from_str(
         alloc,
-        "given: a text there is no set of nodes, or a number is 0 by which a rule, a fact or a let divides",
+        "given: a number is 0 by which a rule, a fact or a let divides",
     )
 }

@@ -5,9 +5,13 @@
 #![tactic(auto)]
 
 mod given;
+mod known;
 mod names;
+mod nodes;
+mod outcome;
 mod run;
 mod scenario;
+mod size;
 
 pub use run::run_notes;
 pub use scenario::own_hint;

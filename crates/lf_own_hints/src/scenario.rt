@@ -2,6 +2,7 @@
 
 use crate::given::given_hint;
 use crate::names::{meant, outcomes, text_at};
+use crate::outcome::outcome_hint;
 use lf_hints::scenario_hint;
 use lf_scenario::{Key, ScenarioError};
 use lf_written::ProtocolFile;
@@ -51,23 +52,19 @@ fn table_hint(
 ) -> Result<String, AllocError> {
     match error {
         ScenarioError::Protocol => protocol_hint(alloc, table, file),
-        ScenarioError::Missing(Key::Protocol) => {
-            let name = file.name();
-            format!(in alloc;
-                "protocol: missing; the protocol file is of `{name}`: protocol = \"{name}\""
-            )
-        }
+        ScenarioError::Missing(Key::Protocol) => name_hint(alloc, "missing", file),
+        ScenarioError::WrongKind(Key::Protocol) => name_hint(alloc, "no text", file),
         ScenarioError::UnknownKey => unknown_hint(alloc, table),
         ScenarioError::OtherProtocol(Key::Given)
         | ScenarioError::WrongKind(Key::Given)
-        | ScenarioError::OutOfRange(Key::Given) => given_hint(alloc, table, file),
+        | ScenarioError::OutOfRange(Key::Given) => given_hint(alloc, text, table, file),
         ScenarioError::OtherProtocol(key) => {
             let (key, name) = (key.name(), file.name());
             format!(in alloc;
-                "{key}: a key of shipped protocols; constants of `{name}` stand in `given`"
+                "{key}: a key of built-in protocols; constants of `{name}` stand in `given`"
             )
         }
-        ScenarioError::Outcome => outcome_hint(alloc, table, file),
+        ScenarioError::Outcome => outcome_hint(alloc, text, table, file),
         ScenarioError::Missing(Key::Outcome) | ScenarioError::WrongKind(Key::Outcome) => {
             let names = outcome_names(alloc, file)?;
             format!(in alloc; "outcome: a text: {names}")
@@ -80,6 +77,12 @@ fn table_hint(
         }
         _ => scenario_hint(alloc, text, error),
     }
+}
+
+/// What is wrong where a scenario names no protocol, and which it has to name.
+fn name_hint(alloc: Global, what: &str, file: &ProtocolFile) -> Result<String, AllocError> {
+    let name = file.name();
+    format!(in alloc; "protocol: {what}; the protocol file is of `{name}`: protocol = \"{name}\"")
 }
 
 /// That the scenario names another protocol than the file.
@@ -110,14 +113,4 @@ fn outcome_names(alloc: Global, file: &ProtocolFile) -> Result<String, AllocErro
     }
     text.push_str("or one in the protocol's words, such as \"no clamped\"")?;
     Ok(text)
-}
-
-/// Why a text is no outcome.
-fn outcome_hint(alloc: Global, table: &Table, file: &ProtocolFile) -> Result<String, AllocError> {
-    let (text, name) = (text_at(table, "outcome"), file.name());
-    let names = outcomes(alloc, file)?;
-    let instead = meant(alloc, text, names.as_slice())?;
-    format!(in alloc;
-        "outcome = {text:?}: neither an outcome of `{name}` nor a text in its words, or one whose formula is too large{instead}"
-    )
 }

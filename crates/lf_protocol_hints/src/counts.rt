@@ -24,6 +24,14 @@ pub(crate) fn summary(
     for (i, form) in definition.notes.as_slice().iter().enumerate() {
         put_name(&mut text, i, form.name.as_str())?;
     }
+    put_count(&mut text, "lets", definition.lets.len())?;
+    for (i, named) in definition.lets.as_slice().iter().enumerate() {
+        put_name(&mut text, i, named.name.as_str())?;
+    }
+    put_count(&mut text, "facts", definition.facts.len())?;
+    for (i, guard) in definition.facts.as_slice().iter().enumerate() {
+        put_name(&mut text, i, guard.name.as_str())?;
+    }
     put_count(&mut text, "rules", rules_in(definition))?;
     put_count(&mut text, "outcomes", outcomes.len())?;
     for (i, outcome) in outcomes.iter().enumerate() {

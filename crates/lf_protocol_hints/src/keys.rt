@@ -1,8 +1,6 @@
 //! Keys that protocol files or their rules don't have.
 
-use crate::found::rule_at;
-use crate::hint::{Hint, instead, is_one_of};
-use crate::place::Place;
+use lf_hint_places::{Hint, Place, instead, is_one_of, rule_at};
 use std::alloc::{AllocError, Global};
 use toml::{Table, Value};
 

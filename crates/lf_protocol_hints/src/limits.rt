@@ -1,33 +1,54 @@
 //! What passes a limit.
 
-use crate::found::found_at;
-use crate::hint::{Hint, in_quotes, is_of_word, said};
-use crate::place::Place;
-use crate::spot::Spot;
-use crate::wanted::wanted;
-use lf_tokens::{MOST_OPEN, MOST_TOKENS, TokenError, read_tokens};
+use lf_hint_places::{Hint, Place, Spot, Told, found_at, said, wanted, with_line};
+use lf_text_hints::limit_told;
 use std::alloc::{AllocError, Global};
 use toml::{Table, Value};
 
 /// The most items of a list of a constant's values.
 const MOST_VALUES: usize = 8;
 
-/// What passes a limit at a place. The error, also below, is that memory has run out.
+/// What passes a limit at a place of a file. The error, also below, is that memory has run out.
 pub(crate) fn limit_hint(
     alloc: Global,
+    source: &[u8],
     table: &Table,
     place: &Place<'_>,
-) -> Result<Hint, AllocError> {
+) -> Result<String, AllocError> {
     let Some(found) = found_at(table, place) else {
-        return Ok(said(place.text, wanted(place)));
+        return String::from_str(alloc, said(place.text, wanted(place)).as_str());
     };
     match found.value {
+        Value::String(text) => {
+            let text = text.as_str();
+            let told = past_told(alloc, place, text)?;
+            with_line(alloc, source, place, text, &told)
+        }
+        value => String::from_str(alloc, past_hint(alloc, place, value)?.as_str()),
+    }
+}
+
+/// What passes a limit in a text at a place.
+fn past_told(alloc: Global, place: &Place<'_>, text: &str) -> Result<Told, AllocError> {
+    Ok(match limit_told(alloc, place.text, text)? {
+        Some(told) => told,
+        None => Told {
+            hint: said(place.text, most_in(Spot::of(place))),
+            before: 0,
+            length: text.chars().count(),
+        },
+    })
+}
+
+/// What passes a limit in a value at a place that is no text.
+fn past_hint(alloc: Global, place: &Place<'_>, value: &Value) -> Result<Hint, AllocError> {
+    match value {
         Value::Table(entries) => Ok(count_hint(place, entries.len(), "entries")),
         Value::Array(items) if place.entry.is_none() => {
             Ok(count_hint(place, items.len(), "items"))
         }
         Value::Array(items) => list_hint(alloc, place, items.as_slice()),
-        other => value_hint(alloc, place, "", other),
+        other => Ok(number_hint(place, "", other)),
     }
 }
 
@@ -58,57 +79,33 @@ fn list_hint(alloc: Global, place: &Place<'_>, items: &[Value]) -> Result<Hint, 
         )));
     }
     for item in items {
-        if is_past(alloc, item)? {
-            return value_hint(alloc, place, "an item is ", item);
+        if let Some(hint) = item_hint(alloc, place, item)? {
+            return Ok(hint);
         }
     }
     Ok(said(place.text, wanted(place)))
 }
 
-/// Whether a value of a constant passes a limit.
-fn is_past(alloc: Global, value: &Value) -> Result<bool, AllocError> {
-    match value {
-        Value::Integer(number) => Ok(*number < 0 || 255 < *number),
-        Value::String(text) => match read_tokens(alloc, text.as_str().as_bytes()) {
-            Ok(_) | Err(TokenError::Stray) => Ok(false),
-            Err(TokenError::Memory) => Err(AllocError),
-            Err(_) => Ok(true),
+/// What passes a limit in an item of a constant's list. None where nothing does.
+fn item_hint(alloc: Global, place: &Place<'_>, item: &Value) -> Result<Option<Hint>, AllocError> {
+    match item {
+        Value::Integer(number) if *number < 0 || 255 < *number => {
+            Ok(Some(number_hint(place, "an item is ", item)))
+        }
+        Value::String(text) => match limit_told(alloc, place.text, text.as_str())? {
+            Some(told) => Ok(Some(told.hint)),
+            None => Ok(None),
         },
-        _ => Ok(false),
+        _ => Ok(None),
     }
 }
 
-/// What passes a limit in a value.
-fn value_hint(
-    alloc: Global,
-    place: &Place<'_>,
-    intro: &str,
-    value: &Value,
-) -> Result<Hint, AllocError> {
-    match value {
-        Value::String(text) => text_hint(alloc, place, text.as_str()),
-        other => Ok(Hint::of(format_args!(
-            "{}: {intro}{other}; a number from 0 to 255 may stand there",
-            place.text
-        ))),
-    }
-}
-
-/// What passes a limit in a text.
-fn text_hint(alloc: Global, place: &Place<'_>, text: &str) -> Result<Hint, AllocError> {
-    Ok(match read_tokens(alloc, text.as_bytes()) {
-        Err(TokenError::Memory) => return Err(AllocError),
-        Err(TokenError::TooLarge) => large_hint(place, text),
-        Err(TokenError::TooMany) => Hint::of(format_args!(
-            "{}: a text of more than {MOST_TOKENS} numbers, words and signs",
-            place.text
-        )),
-        Err(TokenError::TooDeep) => Hint::of(format_args!(
-            "{}: more than {MOST_OPEN} brackets are open at once",
-            place.text
-        )),
-        _ => said(place.text, most_in(Spot::of(place))),
-    })
+/// That a number of a constant passes its limits.
+fn number_hint(place: &Place<'_>, intro: &str, number: &Value) -> Hint {
+    Hint::of(format_args!(
+        "{}: {intro}{number}; a number from 0 to 255 may stand there",
+        place.text
+    ))
 }
 
 /// How many parts a text may have.
@@ -120,30 +117,4 @@ fn most_in(spot: Spot) -> &'static str {
         Spot::Send => "a rule sends at most 8 notes",
         _ => "a limit is passed",
     }
-}
-
-/// That a number of a text is too large.
-fn large_hint(place: &Place<'_>, text: &str) -> Hint {
-    for piece in text.split(is_no_part_of_word) {
-        let number = piece.trim_start_matches('0');
-        if number.starts_with(is_digit) && number.parse::<u8>().is_err() {
-            let number = in_quotes(number);
-            return Hint::of(format_args!(
-                "{}: {}; numbers are 0 to 255",
-                place.text,
-                number.as_str()
-            ));
-        }
-    }
-    said(place.text, "a number over 255; numbers are 0 to 255")
-}
-
-/// Whether a character may not stand in a word or a number.
-fn is_no_part_of_word(c: char) -> bool {
-    !is_of_word(c)
-}
-
-/// Whether a character is a digit.
-fn is_digit(c: char) -> bool {
-    c.is_ascii_digit()
 }

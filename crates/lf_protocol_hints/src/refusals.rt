@@ -1,18 +1,16 @@
 //! What is wrong with the text of a protocol file.
 
-use crate::found::found_at;
-use crate::hint::{Hint, said};
 use crate::keys::unknown_hint;
 use crate::limits::limit_hint;
-use crate::place::{Place, place_of};
+use crate::title::{place_under, titled};
 use crate::unfit::unfit_hint;
-use crate::wanted::{kind_of, wanted};
+use lf_hint_places::{Hint, Place, found_at, kind_of, place_of, said, wanted};
 use lf_protocol_file::{LONGEST, ProtocolError};
 use std::alloc::{AllocError, Global};
 use toml::{Table, Value};
 
-/// What is wrong with a text that `read_protocol` refuses with this error: its place, what stands there, and what may. The error here,
-/// also below, is that memory has run out.
+/// What is wrong with a text that `read_protocol` refuses with this error: its place, what stands there, and what may; and under that the line
+/// where it stands, where that is known. There is no last line feed. The error here, also below, is that memory has run out.
 pub fn protocol_hint(
     alloc: Global,
     text: &[u8],
@@ -22,7 +20,7 @@ pub fn protocol_hint(
         1 => format!(in alloc; "the protocol is longer than {LONGEST} bytes: its comments count"),
         8 => Err(AllocError),
         number => match toml::table_from_slice(alloc, text) {
-            Ok(table) => table_hint(alloc, &table, number, error),
+            Ok(table) => table_hint(alloc, text, &table, number, error),
             Err(fault) => toml_hint(alloc, text, &fault),
         },
     }
@@ -31,6 +29,7 @@ pub fn protocol_hint(
 /// What is wrong with the table of a text.
 fn table_hint(
     alloc: Global,
+    text: &[u8],
     table: &Table,
     number: u32,
     error: &ProtocolError,
@@ -39,13 +38,14 @@ fn table_hint(
         return Ok(String::new(alloc));
     };
     let shown = format!(in alloc; "{path}")?;
-    let place = place_of(shown.as_str());
+    let title = titled(table, &place_of(shown.as_str()));
+    let place = place_under(title.as_str());
     let hint = match number {
         3 => missing_hint(&place),
         4 => unknown_hint(alloc, table, &place)?,
         5 => kind_hint(table, &place),
-        6 => limit_hint(alloc, table, &place)?,
-        _ => unfit_hint(alloc, table, &place)?,
+        6 => return limit_hint(alloc, text, table, &place),
+        _ => return unfit_hint(alloc, text, table, &place),
     };
     String::from_str(alloc, hint.as_str())
 }
@@ -59,7 +59,7 @@ fn missing_hint(place: &Place<'_>) -> Hint {
 fn kind_hint(table: &Table, place: &Place<'_>) -> Hint {
     match found_at(table, place) {
         Some(found) => Hint::of(format_args!(
-            "{}: {}; {} may stand there",
+            "{}: {}; there has to stand {}",
             place.text,
             kinds_of(found.value).as_str(),
             wanted(place)

@@ -1,36 +1,43 @@
 //! Texts and names that can't stand where they stand.
 
-use crate::events::{event_hint, note_hint, shown_hint};
-use crate::expressions::expression_hint;
-use crate::found::{Found, found_at, text_of};
-use crate::hint::{Hint, said, said_of};
-use crate::known::{Class, Known, first_named, names_of, put_fields};
-use crate::place::Place;
-use crate::spot::Spot;
-use crate::states::state_hint;
-use crate::wanted::{NAME, wanted};
+use crate::chains::misplaced;
+use lf_expression_hints::{Class, Known, first_named};
+use lf_hint_places::{
+    Found, Hint, NAME, Place, Spot, Told, found_at, rule_at, said, said_of, text_at, text_of,
+    wanted, with_line,
+};
+use lf_text_hints::{names_of, text_told};
 use lf_texts::{is_name, is_reserved};
 use std::alloc::{AllocError, Global};
 use toml::{Table, Value};
 
-/// What can't stand at a place: a name, or else a text. The error, also below, is that memory has run out.
+/// What can't stand at a place of a file: a name, or else a text. The error, also below, is that memory has run out.
 pub(crate) fn unfit_hint(
     alloc: Global,
+    source: &[u8],
     table: &Table,
     place: &Place<'_>,
-) -> Result<Hint, AllocError> {
+) -> Result<String, AllocError> {
     let Some(found) = found_at(table, place) else {
-        return Ok(said(place.text, wanted(place)));
+        return plain(alloc, said(place.text, wanted(place)));
     };
-    let mut names = names_of(alloc, table)?;
+    let names = names_of(alloc, table)?;
     if let Some(hint) = name_hint(names.as_slice(), place, found) {
-        return Ok(hint);
+        return plain(alloc, hint);
     }
-    if Spot::of(place).is_in_rule() {
-        put_fields(&mut names, table, place.entry.unwrap_or(""))?;
+    let text = text_of(found.value);
+    if let Some(told) = misplaced(alloc, table, place, text)? {
+        return with_line(alloc, source, place, text, &told);
     }
-    let told = text_hint(alloc, table, names.as_slice(), place, found)?;
-    Ok(told.unwrap_or(plain_hint(place, found.value)))
+    match told_of(alloc, table, names.as_slice(), place, found)? {
+        Some(told) => with_line(alloc, source, place, text, &told),
+        None => plain(alloc, plain_hint(place, found.value)),
+    }
+}
+
+/// The text of a hint alone.
+fn plain(alloc: Global, hint: Hint) -> Result<String, AllocError> {
+    String::from_str(alloc, hint.as_str())
 }
 
 /// What a text is not, without a word of which that can be told.
@@ -56,17 +63,11 @@ fn name_hint(names: &[Known<'_>], place: &Place<'_>, found: Found<'_>) -> Option
         }
         _ => return None,
     };
-    new_hint(names, place, found.key, own, "")
+    new_hint(names, place, found.key, own)
 }
 
 /// Why a name can't be given to something new of a class. None where it can.
-pub(crate) fn new_hint(
-    names: &[Known<'_>],
-    place: &Place<'_>,
-    name: &str,
-    own: Class,
-    of: &str,
-) -> Option<Hint> {
+fn new_hint(names: &[Known<'_>], place: &Place<'_>, name: &str, own: Class) -> Option<Hint> {
     if !is_name(name) {
         return Some(said_of(place.text, name, NAME));
     }
@@ -78,49 +79,41 @@ pub(crate) fn new_hint(
         ));
     }
     let known = first_named(names, name)?;
-    if is_own(known, own, of) {
+    if known.class == own || (own == Class::Variable && known.class == Class::Flag) {
         return None;
     }
-    let already = Hint::of(format_args!("{} has this name already", known.class.words()));
+    let already = Hint::of(format_args!("{} has this name already", known.words().as_str()));
     Some(said_of(place.text, name, already.as_str()))
 }
 
-/// Whether a known name is that of a class itself.
-fn is_own(known: Known<'_>, own: Class, of: &str) -> bool {
-    known.of == of && (known.class == own || (own == Class::Variable && known.class == Class::Flag))
-}
-
-/// Why a text can't stand at a place, where that can be told.
-fn text_hint(
+/// What is wrong with the text at a place, or with the first that is of a list of texts.
+fn told_of<'a>(
     alloc: Global,
-    table: &Table,
-    names: &[Known<'_>],
+    table: &'a Table,
+    names: &[Known<'a>],
     place: &Place<'_>,
-    found: Found<'_>,
-) -> Result<Option<Hint>, AllocError> {
-    let text = text_of(found.value);
-    match Spot::of(place) {
-        Spot::State => state_hint(alloc, names, place, found.key, text),
-        Spot::Note => note_hint(alloc, table, names, place, text),
-        Spot::On => event_hint(alloc, table, names, place, text),
-        Spot::Shown => shown_hint(alloc, names, place, text),
-        _ => match found.value {
-            Value::Array(items) => items_hint(alloc, table, names, place, items.as_slice()),
-            _ => expression_hint(alloc, table, names, place, text),
+    found: Found<'a>,
+) -> Result<Option<Told>, AllocError> {
+    let on = match place.entry {
+        Some(number) if place.section == "rules" => match rule_at(table, number) {
+            Some(rule) => text_at(rule, "on"),
+            None => "",
         },
-    }
-}
-
-/// Why a text of a list of a constant's values can't stand there, where that can be told.
-fn items_hint(
-    alloc: Global,
-    table: &Table,
-    names: &[Known<'_>],
-    place: &Place<'_>,
-    items: &[Value],
-) -> Result<Option<Hint>, AllocError> {
-    for item in items {
-        let told = expression_hint(alloc, table, names, place, text_of(item))?;
+        _ => "",
+    };
+    let Value::Array(items) = found.value else {
+        return text_told(
+            alloc,
+            table,
+            place,
+            names,
+            found.key,
+            on,
+            text_of(found.value),
+        );
+    };
+    for item in items.as_slice() {
+        let told = text_told(alloc, table, place, names, found.key, on, text_of(item))?;
         if told.is_some() {
             return Ok(told);
         }

@@ -34,16 +34,16 @@ fn warn_of_notes(text: &mut String, definition: &Definition) -> Result<(), Alloc
     Ok(())
 }
 
-/// Of constants, named expressions and named guards that nothing uses.
+/// Of constants, lets and facts that nothing uses.
 fn warn_of_names(text: &mut String, definition: &Definition, uses: Uses) -> Result<(), AllocError> {
     for (i, constant) in definition.given.as_slice().iter().enumerate() {
         warn_of_unused(text, "constant", &constant.name, uses.constants, i)?;
     }
     for (i, named) in definition.lets.as_slice().iter().enumerate() {
-        warn_of_unused(text, "expression", &named.name, uses.lets, i)?;
+        warn_of_unused(text, "let", &named.name, uses.lets, i)?;
     }
     for (i, guard) in definition.facts.as_slice().iter().enumerate() {
-        warn_of_unused(text, "guard", &guard.name, uses.facts, i)?;
+        warn_of_unused(text, "fact", &guard.name, uses.facts, i)?;
     }
     Ok(())
 }

@@ -8,14 +8,14 @@ const LONGEST_KEY: usize = 24;
 
 /// What stands at a place.
 #[derive(Clone, Copy, Debug)]
-pub(crate) struct Found<'a> {
+pub struct Found<'a> {
     /// Its key, which is empty where it is an item.
     pub key: &'a str,
     pub value: &'a Value,
 }
 
 /// What stands at a place in a table. None where nothing does.
-pub(crate) fn found_at<'a>(table: &'a Table, place: &Place<'_>) -> Option<Found<'a>> {
+pub fn found_at<'a>(table: &'a Table, place: &Place<'_>) -> Option<Found<'a>> {
     let section = entry_at(table, place.section)?;
     let Some(entry) = place.entry else {
         return Some(section);
@@ -71,7 +71,7 @@ fn is_plain(c: char) -> bool {
 }
 
 /// The table of a section. None where there is none, or the section is no table.
-pub(crate) fn table_at<'a>(table: &'a Table, section: &str) -> Option<&'a Table> {
+pub fn table_at<'a>(table: &'a Table, section: &str) -> Option<&'a Table> {
     match table.get(section) {
         Some(Value::Table(entries)) => Some(entries),
         _ => None,
@@ -79,7 +79,7 @@ pub(crate) fn table_at<'a>(table: &'a Table, section: &str) -> Option<&'a Table>
 }
 
 /// The items of a section. None where there is none, or the section is no list.
-pub(crate) fn items_at<'a>(table: &'a Table, section: &str) -> &'a [Value] {
+pub fn items_at<'a>(table: &'a Table, section: &str) -> &'a [Value] {
     match table.get(section) {
         Some(Value::Array(items)) => items.as_slice(),
         _ => &[],
@@ -87,7 +87,7 @@ pub(crate) fn items_at<'a>(table: &'a Table, section: &str) -> &'a [Value] {
 }
 
 /// The text of a value, which is empty where it is none.
-pub(crate) fn text_of(value: &Value) -> &str {
+pub fn text_of(value: &Value) -> &str {
     match value {
         Value::String(text) => text.as_str(),
         _ => "",
@@ -95,7 +95,7 @@ pub(crate) fn text_of(value: &Value) -> &str {
 }
 
 /// The text at a key, which is empty where none stands there.
-pub(crate) fn text_at<'a>(value: &'a Value, key: &str) -> &'a str {
+pub fn text_at<'a>(value: &'a Value, key: &str) -> &'a str {
     match value {
         Value::Table(table) => match table.get(key) {
             Some(value) => text_of(value),
@@ -106,6 +106,6 @@ pub(crate) fn text_at<'a>(value: &'a Value, key: &str) -> &'a str {
 }
 
 /// The rule with a number, from 1.
-pub(crate) fn rule_at<'a>(table: &'a Table, number: &str) -> Option<&'a Value> {
+pub fn rule_at<'a>(table: &'a Table, number: &str) -> Option<&'a Value> {
     item_at(items_at(table, "rules"), number)
 }

@@ -2,7 +2,7 @@
 
 /// A place in a protocol file: a section, in it the name of an entry or the number of an item, and in a rule a part.
 #[derive(Clone, Copy, Debug)]
-pub(crate) struct Place<'a> {
+pub struct Place<'a> {
     /// The whole place, as it is shown.
     pub text: &'a str,
     pub section: &'a str,
@@ -11,7 +11,7 @@ pub(crate) struct Place<'a> {
 }
 
 /// The place that a text shows: keys and numbers, with points between.
-pub(crate) fn place_of(text: &str) -> Place<'_> {
+pub fn place_of(text: &str) -> Place<'_> {
     let (section, behind) = parted(text);
     let (entry, part) = match behind {
         Some(behind) => {

@@ -4,7 +4,7 @@ use crate::place::Place;
 
 /// What a place is for.
 #[derive(Clone, Copy, Debug, PartialEq, Eq)]
-pub(crate) enum Spot {
+pub enum Spot {
     /// The protocol's name.
     Name,
     /// A whole section.
@@ -15,9 +15,9 @@ pub(crate) enum Spot {
     State,
     /// A form of notes.
     Note,
-    /// A named expression.
+    /// A let.
     Let,
-    /// A named guard.
+    /// A fact.
     Fact,
     /// A whole rule.
     Rule,
@@ -39,7 +39,7 @@ pub(crate) enum Spot {
 
 impl Spot {
     /// What a place is for.
-    pub(crate) fn of(place: &Place<'_>) -> Spot {
+    pub fn of(place: &Place<'_>) -> Spot {
         match place.entry {
             Some(_) => match place.section {
                 "given" => Spot::Given,
@@ -56,9 +56,14 @@ impl Spot {
         }
     }
 
-    /// Whether it is a part of a rule in which the step, fields and named guards may be named.
-    pub(crate) fn is_in_rule(self) -> bool {
+    /// Whether it is a part of a rule in which the step, fields and facts may be named.
+    pub fn is_in_rule(self) -> bool {
         matches!(self, Spot::When | Spot::Set | Spot::Send)
+    }
+
+    /// Whether a node's state may be named there.
+    pub fn knows_state(self) -> bool {
+        matches!(self, Spot::Let | Spot::Fact) || self.is_in_rule()
     }
 }
 

@@ -5,15 +5,15 @@ use crate::spot::Spot;
 use toml::Value;
 
 /// What a name is.
-pub(crate) const NAME: &str =
+pub const NAME: &str =
     "no name, which is a small letter and at most 23 small letters, digits and _, and doesn't begin with not_";
 
 /// What a note's name is.
-pub(crate) const NOTE_NAME: &str =
+pub const NOTE_NAME: &str =
     "no note's name, which is a capital and at most 23 capitals, digits and _";
 
 /// What may stand at a place.
-pub(crate) fn wanted(place: &Place<'_>) -> &'static str {
+pub fn wanted(place: &Place<'_>) -> &'static str {
     match Spot::of(place) {
         Spot::Name => "a name, such as \"two_phase\"",
         Spot::Section => section_wanted(place.section),
@@ -27,7 +27,7 @@ pub(crate) fn wanted(place: &Place<'_>) -> &'static str {
             "a name in capitals, with fields where it has any, such as \"PREPARE\" or \"VOTE(yes: flag, round: 0..9)\""
         }
         Spot::Let => "an expression, such as \"(me + 1) mod nodes\"",
-        Spot::Fact => "a guard, such as \"phase = prepared and not refused\"",
+        Spot::Fact => "a fact, such as \"phase = prepared and not refused\"",
         Spot::Outcome => {
             "an outcome, such as \"each done or each idle\", \"always at most one leads\" or \"down 0\"; neither always nor ever stands within one of the two"
         }
@@ -62,8 +62,8 @@ fn section_wanted(section: &str) -> &'static str {
         "given" => "a table of constants, such as { patience = 4 }",
         "state" => "a table of variables, such as { phase = \"idle | busy\", since = \"step\" }",
         "notes" => "a list of notes' names, such as [\"PREPARE\", \"VOTE(yes: flag)\"]",
-        "lets" => "a table of expressions, such as { next = \"(me + 1) mod nodes\" }",
-        "facts" => "a table of guards, such as { free = \"phase != prepared\" }",
+        "lets" => "a table of named expressions, such as { next = \"(me + 1) mod nodes\" }",
+        "facts" => "a table of facts, such as { free = \"phase != prepared\" }",
         "rules" => "a list of rules, such as [{ on = \"begin\", set = \"since = t\" }]",
         "outcomes" => "a table of outcomes, such as { agreement = \"each done or each idle\" }",
         _ => "a list of variables, such as [\"phase\"]",
@@ -71,7 +71,7 @@ fn section_wanted(section: &str) -> &'static str {
 }
 
 /// What a value is.
-pub(crate) fn kind_of(value: &Value) -> &'static str {
+pub fn kind_of(value: &Value) -> &'static str {
     match value {
         Value::String(_) => "a text",
         Value::Integer(_) => "a whole number",

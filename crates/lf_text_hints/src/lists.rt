@@ -1,0 +1,247 @@
+//! What rules set and send.
+
+use crate::known::{fields_in, inside_of};
+use lf_expression_hints::{
+    Class, Near, Reader, Stop, behind, first_named, fixed, instead_of, read_number_or_set,
+    read_truth,
+};
+use lf_hint_places::{Sort, Words, in_quotes, is_of_word};
+use toml::Table;
+
+/// Reads what a rule sets: variables with values, and commas between.
+pub(crate) fn read_sets(reader: &Reader<'_>) -> Result<(), Stop> {
+    let mut at = 0;
+    for _ in 0..=reader.pieces.len() {
+        at = read_set(reader, at)?;
+        if reader.is_end(at) {
+            return Ok(());
+        }
+        at = past_comma(reader, at, "the next assignment")?;
+    }
+    Ok(())
+}
+
+/// Goes on behind a comma.
+fn past_comma(reader: &Reader<'_>, at: usize, what: &'static str) -> Result<usize, Stop> {
+    let piece = reader.piece(at);
+    if piece == "," {
+        return Ok(behind(at));
+    }
+    if piece == ";" || piece == "and" {
+        let words = Words::of(format_args!("{what} stands behind a comma"));
+        return Err(Stop::at(at, words));
+    }
+    let is_next = match first_named(reader.names, piece) {
+        Some(known) => known.class.is_variable() || known.class == Class::Note,
+        None => false,
+    };
+    if is_next {
+        return Err(Stop::at(at, Words::of("a comma has to stand before it")));
+    }
+    Err(reader.left(at))
+}
+
+/// Reads an assignment, and gives the number of the piece behind.
+fn read_set(reader: &Reader<'_>, at: usize) -> Result<usize, Stop> {
+    let name = reader.piece(at);
+    if reader.is_end(at) {
+        return Err(nothing(reader, at, "an assignment has to, such as `x = 1`"));
+    }
+    let sort = match first_named(reader.names, name) {
+        Some(known) if known.class.is_variable() => known.sort,
+        Some(known) => {
+            let words = known.words();
+            let words = Words::of(format_args!("{}, and only variables are set", words.as_str()));
+            return Err(Stop::at(at, words));
+        }
+        None => return Err(no_variable(reader, at)),
+    };
+    if is_set_before(reader, at) {
+        return Err(Stop::at(
+            at,
+            Words::of("it is set before: a rule sets a variable once"),
+        ));
+    }
+    if reader.piece(behind(at)) == "==" {
+        return Err(Stop::at(behind(at), Words::of("an assignment is written `=`")));
+    }
+    let first = reader.past(behind(at), "=")?;
+    let value = read_truth(reader, first)?;
+    let why = Words::of(format_args!("`{name}` is {}", kind_words(reader, sort).as_str()));
+    reader.wants(&value, sort, why.as_str())?;
+    Ok(value.to)
+}
+
+/// That nothing stands where something has to.
+fn nothing(reader: &Reader<'_>, at: usize, what: &str) -> Stop {
+    match at.checked_sub(1) {
+        Some(last) => {
+            let words = Words::of(format_args!("nothing stands behind it; {what}"));
+            Stop::at(last, words)
+        }
+        None => Stop::at(at, Words::of(format_args!("nothing stands there; {what}"))),
+    }
+}
+
+/// That no variable stands at a piece.
+fn no_variable(reader: &Reader<'_>, at: usize) -> Stop {
+    let piece = reader.piece(at);
+    if piece.starts_with(is_of_word) {
+        return Stop::at(
+            at,
+            Words::of("no variable of this name, and only variables are set"),
+        )
+        .near(Near::Variables);
+    }
+    match instead_of(piece) {
+        Some(words) => Stop::at(at, Words::of(words)),
+        None => Stop::at(
+            at,
+            Words::of("an assignment begins with a variable, such as `x = 1`"),
+        ),
+    }
+}
+
+/// Whether the variable at a piece is set before, where no bracket is open.
+fn is_set_before(reader: &Reader<'_>, at: usize) -> bool {
+    let name = reader.piece(at);
+    let mut begins = true;
+    let mut depth: u32 = 0;
+    for piece in reader.pieces.iter().take(at) {
+        if begins && piece.text == name {
+            return true;
+        }
+        match piece.text {
+            "(" | "{" => depth = depth.saturating_add(1),
+            ")" | "}" => depth = depth.saturating_sub(1),
+            _ => {}
+        }
+        begins = depth == 0 && piece.text == ",";
+    }
+    false
+}
+
+/// What a variable or a field takes, in words.
+fn kind_words(reader: &Reader<'_>, sort: Sort<'_>) -> Words {
+    match sort {
+        Sort::Truth => Words::of("a flag, and takes true, false or a condition"),
+        Sort::Word(variable) => {
+            Words::of(format_args!("{}", reader.words_in(variable).as_str()))
+        }
+        _ => Words::of(sort.words()),
+    }
+}
+
+/// Reads what a rule sends: notes with their values and receivers, and commas between.
+pub(crate) fn read_sends(reader: &Reader<'_>, table: &Table) -> Result<(), Stop> {
+    let mut at = 0;
+    for _ in 0..=reader.pieces.len() {
+        at = read_send(reader, table, at)?;
+        if reader.is_end(at) {
+            return Ok(());
+        }
+        at = past_comma(reader, at, "the next note")?;
+    }
+    Ok(())
+}
+
+/// Reads a note with its receivers, and gives the number of the piece behind.
+fn read_send(reader: &Reader<'_>, table: &Table, at: usize) -> Result<usize, Stop> {
+    if reader.is_end(at) {
+        return Err(nothing(
+            reader,
+            at,
+            "a note with its receivers has to, such as `NO to all`",
+        ));
+    }
+    let note = match first_named(reader.names, reader.piece(at)) {
+        Some(known) if known.class == Class::Note => known,
+        Some(known) => {
+            let words = known.words();
+            let words = Words::of(format_args!("{}, and only notes are sent", words.as_str()));
+            return Err(Stop::at(at, words));
+        }
+        None => return Err(Stop::at(at, Words::of("no note of this name")).near(Near::Notes)),
+    };
+    let to = read_values(reader, table, note.of, at)?;
+    let piece = reader.piece(to);
+    if piece != "to" && !reader.is_end(to) && piece.starts_with(is_of_word) {
+        return Err(no_to(reader, to));
+    }
+    let first = reader.past(to, "to")?;
+    if reader.piece(first) == "*" {
+        return Err(Stop::at(first, Words::of("to all nodes is written `to all`")));
+    }
+    let nodes = read_number_or_set(reader, first)?;
+    reader.wants_nodes(&nodes, "behind `to` stands a node or a set of nodes")?;
+    Ok(nodes.to)
+}
+
+/// That `to` doesn't stand at a piece.
+fn no_to(reader: &Reader<'_>, at: usize) -> Stop {
+    let piece = reader.piece(at);
+    if first_named(reader.names, piece).is_some() || fixed(piece).is_some() {
+        return Stop::at(
+            at,
+            Words::of("`to` has to stand before it, between a note and its receivers"),
+        );
+    }
+    Stop::at(
+        at,
+        Words::of("`to` has to stand there, between a note and its receivers"),
+    )
+    .near(Near::Word("to"))
+}
+
+/// Reads the values for the fields of the note at a piece, whose text is given, and gives the number of the piece behind.
+fn read_values(reader: &Reader<'_>, table: &Table, form: &str, at: usize) -> Result<usize, Stop> {
+    let (name, count) = (reader.piece(at), fields_in(form));
+    let opened = behind(at);
+    if count == 0 {
+        if reader.piece(opened) == "(" {
+            let words = Words::of(format_args!(
+                "`{name}` has no fields, and is sent without brackets"
+            ));
+            return Err(Stop::at(opened, words));
+        }
+        return Ok(opened);
+    }
+    if reader.piece(opened) != "(" {
+        let form = in_quotes(form);
+        let words = Words::of(format_args!(
+            "a value for each field has to stand behind it, in brackets: {}",
+            form.as_str()
+        ));
+        return Err(Stop::at(at, words));
+    }
+    let mut to = behind(opened);
+    let mut given: usize = 0;
+    for field in inside_of(form).unwrap_or("").split(',') {
+        to = read_value(reader, table, field, to)?;
+        given = given.saturating_add(1);
+        if reader.piece(to) != "," || given == count {
+            break;
+        }
+        to = behind(to);
+    }
+    if reader.piece(to) == "," || (given < count && reader.piece(to) == ")") {
+        let form = in_quotes(form);
+        let words = Words::of(format_args!(
+            "a value for each field has to stand in the brackets: {}",
+            form.as_str()
+        ));
+        return Err(Stop::over(at, behind(to), words));
+    }
+    reader.closed_list(opened, to, ")")
+}
+
+/// Reads the value for a field, and gives the number of the piece behind.
+fn read_value(reader: &Reader<'_>, table: &Table, field: &str, at: usize) -> Result<usize, Stop> {
+    let value = read_truth(reader, at)?;
+    let (name, kind) = field.split_once(':').unwrap_or((field, ""));
+    let sort = Sort::of_kind(table, name.trim(), kind);
+    let kind = kind_words(reader, sort);
+    let why = Words::of(format_args!("the field `{}` is {}", name.trim(), kind.as_str()));
+    reader.wants(&value, sort, why.as_str())?;
+    Ok(value.to)
+}

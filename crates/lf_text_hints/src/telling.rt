@@ -1,0 +1,175 @@
+//! What is told of where reading stops.
+
+use crate::events::EVENTS;
+use crate::kinds::KINDS;
+use lf_expression_hints::{
+    CALLS, Class, Near, OPERATORS, Reader, Stop, first_named, fixed, meant_by, unknown_here,
+};
+use lf_hint_places::{LONGEST_PART, Place, Sort, Spot, Told, Words, near_name, said, said_of};
+use lf_outcome_hints::UNITS;
+use std::alloc::{AllocError, Global};
+
+/// Values that have a name in the language.
+const VALUES: [&str; 9] = [
+    "t", "me", "sender", "nodes", "all", "true", "false", "clamped", "replaced",
+];
+
+/// What is told of a stop. The error, also below, is that memory has run out.
+pub(crate) fn tell_stop(
+    alloc: Global,
+    reader: &Reader<'_>,
+    place: &Place<'_>,
+    text: &str,
+    stop: &Stop,
+) -> Result<Told, AllocError> {
+    let source = reader.source(stop.from, stop.to);
+    let hint = if source.is_empty() {
+        said(place.text, stop.words.as_str())
+    } else {
+        said_of(place.text, source, stop.words.as_str())
+    };
+    let (denied, word) = parted(stop.near, reader.piece(stop.from));
+    let hint = match meant(alloc, reader, stop, word)? {
+        Some(meant) => hint.and(
+            format_args!("; did you mean `{denied}{meant}`?"),
+            LONGEST_PART,
+        ),
+        None => hint.and_str(listed(reader, stop.near).as_str(), LONGEST_PART),
+    };
+    let behind = match reader.pieces.get(stop.from) {
+        Some(piece) => piece.from.len(),
+        None => 0,
+    };
+    Ok(Told {
+        hint,
+        before: text.len().saturating_sub(behind),
+        length: source.chars().count(),
+    })
+}
+
+/// What stands before the name in a word, and the name: `not_` may stand before a fact's.
+fn parted(near: Near, word: &str) -> (&str, &str) {
+    match word.strip_prefix("not_") {
+        Some(name) if near == Near::Facts => ("not_", name),
+        _ => ("", word),
+    }
+}
+
+/// The names that may stand at a stop, where they are few.
+fn listed(reader: &Reader<'_>, near: Near) -> Words {
+    let is_few = match near {
+        Near::Notes | Near::Events | Near::Variables | Near::Facts => true,
+        Near::Values => matches!(reader.spot, Spot::Who | Spot::Given),
+        _ => false,
+    };
+    let mut words = Words::of("");
+    for known in reader.names {
+        if is_few && may_be(reader.spot, near, known.class) {
+            let before = if words.as_str().is_empty() {
+                "; there are "
+            } else {
+                ", "
+            };
+            words = words.and(format_args!("{before}{}", known.name), LONGEST_NAME);
+        }
+    }
+    words
+}
+
+/// How many bytes a name takes at most that is told, with what stands before it.
+const LONGEST_NAME: usize = 40;
+
+/// The word that is meant by one at a stop.
+fn meant<'a>(
+    alloc: Global,
+    reader: &Reader<'a>,
+    stop: &Stop,
+    word: &str,
+) -> Result<Option<&'a str>, AllocError> {
+    let close = of_kind(alloc, reader, stop)?;
+    if let Some(near) = near_name(alloc, word, close.as_slice())? {
+        return Ok(Some(near));
+    }
+    let names = candidates(alloc, reader, stop.near)?;
+    match meant_by(word, names.as_slice()) {
+        Some(meant) => Ok(Some(meant)),
+        None => near_name(alloc, word, names.as_slice()),
+    }
+}
+
+/// The names that are of the kind of what a word is compared to.
+fn of_kind<'a>(
+    alloc: Global,
+    reader: &Reader<'a>,
+    stop: &Stop,
+) -> Result<Vec<&'a str>, AllocError> {
+    let mut names = Vec::new(alloc);
+    if stop.near != Near::Values || !matches!(reader.before(stop.from), "=" | "!=") {
+        return Ok(names);
+    }
+    let left = reader.before(stop.from.saturating_sub(1));
+    let Some(compared) = first_named(reader.names, left) else {
+        return Ok(names);
+    };
+    for known in reader.names {
+        if known.sort == compared.sort
+            && compared.sort != Sort::Unknown
+            && known.class.is_value(reader.spot)
+        {
+            names.push(known.name)?;
+        }
+    }
+    Ok(names)
+}
+
+/// The names that may be meant.
+fn candidates<'a>(
+    alloc: Global,
+    reader: &Reader<'a>,
+    near: Near,
+) -> Result<Vec<&'a str>, AllocError> {
+    let mut names = Vec::new(alloc);
+    for known in reader.names {
+        if may_be(reader.spot, near, known.class) {
+            names.push(known.name)?;
+        }
+    }
+    match near {
+        Near::Values => {
+            for value in VALUES {
+                if fixed(value).is_some() && unknown_here(reader, value).is_none() {
+                    names.push(value)?;
+                }
+            }
+            put(&mut names, &["not"])?;
+        }
+        Near::Calls => put(&mut names, &CALLS)?,
+        Near::Operators => put(&mut names, &OPERATORS)?,
+        Near::Facts => put(&mut names, &["clamped", "replaced"])?,
+        Near::Units => put(&mut names, &UNITS)?,
+        Near::Events => put(&mut names, &EVENTS)?,
+        Near::Kinds => put(&mut names, &KINDS)?,
+        Near::Word(word) => names.push(word)?,
+        Near::Nothing | Near::Notes | Near::Variables => {}
+    }
+    Ok(names)
+}
+
+/// Puts words behind others.
+fn put<'a>(names: &mut Vec<&'a str>, words: &[&'static str]) -> Result<(), AllocError> {
+    for word in words {
+        names.push(*word)?;
+    }
+    Ok(())
+}
+
+/// Whether a name of a class may be meant.
+fn may_be(spot: Spot, near: Near, class: Class) -> bool {
+    match near {
+        Near::Values => class.is_value(spot),
+        Near::Facts => class.is_fact(),
+        Near::Notes | Near::Events => class == Class::Note,
+        Near::Variables | Near::Kinds => class.is_variable(),
+        _ => false,
+    }
+}

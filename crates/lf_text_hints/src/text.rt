@@ -1,0 +1,200 @@
+//! What is wrong with a text.
+
+use crate::events::read_event;
+use crate::kinds::read_state;
+use crate::known::{head_of, inside_of, put_fields};
+use crate::lists::{read_sends, read_sets};
+use crate::notes::read_form;
+use crate::shown::shown_stop;
+use crate::telling::tell_stop;
+use lf_expression_hints::{
+    Class, Known, Near, Reader, Stop, first_named, pieces_of, read_number_or_set, read_truth,
+};
+use lf_hint_places::{Place, Sort, Spot, Told, Words};
+use lf_outcome_hints::read_outcome;
+use std::alloc::{AllocError, Global};
+use toml::Table;
+
+/// What is wrong with a text at a place, where that can be told: `key` is the name of the entry that it is of, and `on` what the rule is on that it
+/// is of. The error, also below, is that memory has run out.
+pub fn text_told<'a>(
+    alloc: Global,
+    table: &'a Table,
+    place: &Place<'_>,
+    names: &[Known<'a>],
+    key: &str,
+    on: &'a str,
+    text: &'a str,
+) -> Result<Option<Told>, AllocError> {
+    let spot = Spot::of(place);
+    let mut known = copy_of(alloc, names)?;
+    if spot.is_in_rule() {
+        put_fields(&mut known, table, on)?;
+    }
+    let pieces = pieces_of(alloc, text)?;
+    let reader = Reader {
+        pieces: pieces.as_slice(),
+        names: known.as_slice(),
+        spot,
+    };
+    let stopped = match spot {
+        Spot::On => read_event(&reader),
+        Spot::Note => read_form(&reader, number_of(place)),
+        Spot::State => read_state(&reader, key),
+        Spot::Send => read_sends(&reader, table),
+        Spot::Shown => Err(shown_stop(&reader, text)),
+        _ => read_expression(&reader),
+    };
+    match stopped {
+        Ok(()) => Ok(None),
+        Err(stop) => {
+            let stop = without_field(&reader, on, stop);
+            Ok(Some(tell_stop(alloc, &reader, place, text, &stop)?))
+        }
+    }
+}
+
+/// The same stop, or, at a word that is no name but that of a field of the note which a rule is on, one that says so.
+fn without_field(reader: &Reader<'_>, on: &str, stop: Stop) -> Stop {
+    let note = match first_named(reader.names, head_of(on)) {
+        Some(known) if known.class == Class::Note && stop.near == Near::Values => known,
+        _ => return stop,
+    };
+    let word = reader.piece(stop.from);
+    for field in inside_of(note.of).unwrap_or("").split(',') {
+        if field.split_once(':').unwrap_or(("", "")).0.trim() == word {
+            let name = note.name;
+            return Stop::at(
+                stop.from,
+                Words::of(format_args!(
+                    "a field of {name}, and here it has the name that `on` gives it, such as `{word}` in `on = \"{name}({word})\"`"
+                )),
+            );
+        }
+    }
+    stop
+}
+
+/// What is wrong with the text of an outcome, where that can be told, of a protocol with these names.
+pub fn outcome_told<'a>(
+    alloc: Global,
+    place: &str,
+    names: &'a [Known<'a>],
+    text: &'a str,
+) -> Result<Option<Told>, AllocError> {
+    let place = Place {
+        text: place,
+        section: "outcomes",
+        entry: Some(place),
+        part: None,
+    };
+    expression_told(alloc, &place, names, text)
+}
+
+/// What is wrong with an expression or an outcome at a place, where that can be told and nothing has a name but these.
+pub fn expression_told<'a>(
+    alloc: Global,
+    place: &Place<'_>,
+    names: &'a [Known<'a>],
+    text: &'a str,
+) -> Result<Option<Told>, AllocError> {
+    let pieces = pieces_of(alloc, text)?;
+    let reader = Reader {
+        pieces: pieces.as_slice(),
+        names,
+        spot: Spot::of(place),
+    };
+    match read_expression(&reader) {
+        Ok(()) => Ok(None),
+        Err(stop) => Ok(Some(tell_stop(alloc, &reader, place, text, &stop)?)),
+    }
+}
+
+/// The number of a note's place, from 0.
+fn number_of(place: &Place<'_>) -> usize {
+    let number = place.entry.unwrap_or("").parse::<usize>().unwrap_or(0);
+    number.saturating_sub(1)
+}
+
+/// The same names.
+fn copy_of<'a>(alloc: Global, names: &[Known<'a>]) -> Result<Vec<Known<'a>>, AllocError> {
+    let mut copy = Vec::new(alloc);
+    for known in names {
+        copy.push(*known)?;
+    }
+    Ok(copy)
+}
+
+/// Reads an expression, what a rule sets, or an outcome.
+fn read_expression(reader: &Reader<'_>) -> Result<(), Stop> {
+    let end = match reader.spot {
+        Spot::Set => return read_sets(reader),
+        Spot::Outcome => return read_outcome(reader),
+        Spot::When if reader.piece(0) == "else" => {
+            if reader.is_end(1) {
+                return Ok(());
+            }
+            read_guard(reader, 1)?
+        }
+        Spot::When | Spot::Fact => read_guard(reader, 0)?,
+        Spot::Let => read_truth(reader, 0)?.to,
+        _ => {
+            let nodes = read_number_or_set(reader, 0)?;
+            reader.wants_nodes(
+                &nodes,
+                "a set of nodes has to stand there, or the number of one",
+            )?;
+            nodes.to
+        }
+    };
+    if reader.is_end(end) {
+        Ok(())
+    } else {
+        Err(reader.left(end))
+    }
+}
+
+/// Reads a guard, and gives the number of the piece behind.
+fn read_guard(reader: &Reader<'_>, at: usize) -> Result<usize, Stop> {
+    let guard = read_truth(reader, at)?;
+    if reader.is_end(guard.to) {
+        let why = match reader.spot {
+            Spot::Fact => "a fact is true or false",
+            _ => "a guard is true or false",
+        };
+        reader.wants(&guard, Sort::Truth, why)?;
+    }
+    Ok(guard.to)
+}
+
+/// What the text of a let is as a value, as far as it can be read.
+pub(crate) fn sort_of_text<'a>(
+    alloc: Global,
+    names: &[Known<'a>],
+    text: &str,
+) -> Result<Sort<'a>, AllocError> {
+    let pieces = pieces_of(alloc, text)?;
+    let reader = Reader {
+        pieces: pieces.as_slice(),
+        names,
+        spot: Spot::Let,
+    };
+    Ok(match read_truth(&reader, 0) {
+        Ok(part) => named_sort(names, part.sort),
+        Err(_) => Sort::Unknown,
+    })
+}
+
+/// The same sort, with the name of its variable as the names have it.
+fn named_sort<'a>(names: &[Known<'a>], sort: Sort<'_>) -> Sort<'a> {
+    match sort {
+        Sort::Number => Sort::Number,
+        Sort::Truth => Sort::Truth,
+        Sort::Nodes => Sort::Nodes,
+        Sort::Word(variable) => match first_named(names, variable) {
+            Some(known) => known.sort,
+            None => Sort::Unknown,
+        },
+        Sort::Unknown => Sort::Unknown,
+    }
+}
