@@ -2,7 +2,7 @@
 //!
 //! In a table each line is a command line, `|`, and what it asks for. Before each word stands `;`.
 
-use lf_words::{Asked, Unasked, asked};
+use lf_words::{Asked, Shown, Unasked, asked};
 use std::alloc::{AllocError, Global};
 use std::process::Abort;
 
@@ -40,6 +40,7 @@ fn wrong(unasked: &Unasked) -> &'static str {
         Unasked::Wrong(_) if text.starts_with("error: ") => "wrong",
         Unasked::Wrong(_) if text.contains(": no such command; ") => "wrong",
         Unasked::Wrong(_) if text.starts_with("--rules: ") => "rules of none",
+        Unasked::Wrong(_) if text.starts_with("--rules, --changes") => "told twice",
         _ => "something else",
     }
 }
@@ -85,13 +86,22 @@ fn parts(asked: &Asked) -> (&str, (&str, &str), &str) {
             };
             ("search", behind, stillness(*quiet))
         }
-        Asked::Run { faults, rules, .. } => {
-            let told = if *rules { ";rules" } else { "" };
-            ("run", (";", faults.as_str()), told)
-        }
+        Asked::Run { faults, shown, .. } => ("run", (";", faults.as_str()), told_by(shown)),
+        Asked::Draw { faults, .. } => ("draw", (";", faults.as_str()), ""),
         Asked::Check { tree, quiet, .. } => ("check", (";", tree.as_str()), stillness(*quiet)),
         Asked::Answer { quiet, .. } => ("answer", ("", ""), stillness(*quiet)),
         Asked::Protocol { .. } => ("protocol", ("", ""), ""),
+    }
+}
+
+/// What is to be told of a run; of a run beside another its faults are told apart.
+fn told_by(shown: &Shown) -> &str {
+    match shown {
+        Shown::Whole => "",
+        Shown::Rules => ";rules",
+        Shown::Changes => ";changes",
+        Shown::Json => ";json",
+        Shown::Beside(_) => ";beside",
     }
 }
 
@@ -116,6 +126,13 @@ fn end_of(
         write!(&mut end, ";{workers}")?;
     }
     end.push_str(rest)?;
+    if let Asked::Run {
+        shown: Shown::Beside(other),
+        ..
+    } = asked
+    {
+        write!(&mut end, ";{other}")?;
+    }
     if let Some(protocol) = asked.protocol_file() {
         write!(&mut end, ";of;{protocol}")?;
     }
@@ -211,6 +228,15 @@ fn runs_name_their_file_and_their_faults(rt: HostRuntime) {
         ";run;a;;--protocol;p;--rules|;run;a;;rules;of;p\n",
         ";run;--rules;--protocol=p;a;crash 0 @1|;run;a;crash 0 @1;rules;of;p\n",
         ";run;a;;--rules|rules of none\n",
+        ";run;a;;--changes|;run;a;;changes\n",
+        ";run;a;crash 0 @1;--beside;|;run;a;crash 0 @1;beside;\n",
+        ";run;a;;--beside;crash 0 @1;--protocol;p|;run;a;;beside;crash 0 @1;of;p\n",
+        ";run;a;;--json|;run;a;;json\n",
+        ";run;a;;--json;--changes|told twice\n",
+        ";run;a;;--changes;--beside;|told twice\n",
+        ";run;a;;--rules;--changes;--protocol;p|told twice\n",
+        ";draw;a;crash 0 @1|;draw;a;crash 0 @1\n",
+        ";draw;a;;--protocol;p|;draw;a;;of;p\n",
     );
     check_lines(&rt, rt.alloc(), table);
 }
@@ -297,6 +323,8 @@ fn wrong_words_are_refused(rt: HostRuntime) {
         ";Search;a|wrong\n",
         ";run|wrong\n",
         ";run;a|wrong\n",
+        ";draw;a|wrong\n",
+        ";draw;a;;--changes|wrong\n",
         ";run;a;crash 0 @1;crash 1 @1|wrong\n",
         ";run;a;-x|wrong\n",
         ";check;a|wrong\n",

@@ -19,7 +19,7 @@ use Rattle.leastfault.specs.declared.reply.Searched.{Searched}
 use Rattle.leastfault.specs.Checks.{IsGiven, IsReplyTo}
 use Rattle.leastfault.specs.Commands.{GetsCertified, IsAlone, IsCauseAt, IsCauseFor, IsCertified, IsCertifiedBy, IsDoneFor, IsUncertified, IsWritten}
 use Rattle.leastfault.specs.Commands.{certificate_of, wanted_of}
-use Rattle.leastfault.specs.Engines.{IsMadeHere, IsMadeOfBoth, NoCause, OfBoth, OfHeld, OfReply, Remakes, TookAtMost}
+use Rattle.leastfault.specs.Engines.{IsMadeHere, IsMadeOfBoth, NoCause, OfBoth, OfHeld, OfReply, Remakes, TookAtMost, WasRead}
 use Rattle.leastfault.specs.Replies.{HandsOut, IsAnswerReply, IsCheckReply, IsPoolCause, IsReplyWith, IsRunReply, IsSearchedWith, IsSharedWith, MayWork}
 use Rattle.leastfault.specs.Replies.{reports_of}
 use Rattle.leastfault.proofs.EngineLemmas.{both_wider, remade}
@@ -194,15 +194,21 @@ module _ {R S : Type 0} (left : R → Option (List ℕ)) (stuck : R → Bool) (l
   abbrev TookBoth : Type 0
   TookBoth = TookAtMost (longest + 1) (left old) (left new) × TookAtMost (most_bytes + 1) (left_too old_too) (left_too new_too)
 
+  abbrev WereRead : Type 0
+  WereRead = WasRead (longest + 1) (left old) (left new) × WasRead (most_bytes + 1) (left_too old_too) (left_too new_too)
+
   pub judged : (made : Result Given BytesFault) (result : Result (Reply ℕ) BytesFault)
       → IsMadeOfBoth left stuck left_too stuck_too (IsGiven known) NoCause old new old_too new_too made → Remakes IsReplyTo made result
       → IsMadeOfBoth left stuck left_too stuck_too (λ text. OfReply (IsCheckReply known text)) NoCause old new old_too new_too result
   judged made result is related =
-      remade (λ (g : Given). OfBoth (λ text certificate. IsGiven known text certificate g) (left old) (left_too old_too))
-      (λ (r : Reply ℕ). OfBoth (λ text certificate. OfReply (IsCheckReply known text) certificate r) (left old) (left_too old_too))
+      remade (λ (g : Given). OfBoth (λ text certificate. IsGiven known text certificate g) (left old) (left_too old_too) × WereRead)
+      (λ (r : Reply ℕ). OfBoth (λ text certificate. OfReply (IsCheckReply known text) certificate r) (left old) (left_too old_too) × WereRead)
       (λ number. OfHeld (λ text. NoCause text number) (left old)) (λ number. OfHeld (λ text. NoCause text number) (left old))
       (stuck new || stuck_too new_too) (stuck new || stuck_too new_too) TookBoth TookBoth IsReplyTo made result is related
-      (λ g r told replies. both_wider (λ text certificate. IsGiven known text certificate g)
-      (λ text certificate. OfReply (IsCheckReply known text) certificate r) (left old) (left_too old_too)
-      (λ text certificate is_given. check_replies known text certificate g r is_given replies) told)
+      (λ g r told replies. (
+        both_wider (λ text certificate. IsGiven known text certificate g)
+            (λ text certificate. OfReply (IsCheckReply known text) certificate r) (left old) (left_too old_too)
+            (λ text certificate is_given. check_replies known text certificate g r is_given replies) told.0,
+        told.1,
+      ))
       (λ number cause. cause) refl (λ took. took)

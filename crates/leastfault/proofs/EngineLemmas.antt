@@ -1,8 +1,8 @@
 -- From the bytes that were read to what an engine promises.
 use Rattle.std.proofs.Common.{◌≡◌, ℕ, ◌+◌, Bool, true, false, List, length, take, refl, sym, ap, ◌∙◌, subst, inl, inr, arith, string_bytes}
-use Rattle.std.specs.Prelude.{◌||◌, Option, None, Some, is_some, IfSome, Result, Ok, Err}
+use Rattle.std.specs.Prelude.{◌||◌, drop, Option, None, Some, is_some, IfSome, Result, Ok, Err}
 use Rattle.std.proofs.lemmas.Bool.{cases_lt}
-use Rattle.std.proofs.lemmas.List.{take_all}
+use Rattle.std.proofs.lemmas.List.{drop_all, length-take-le, take_all}
 use Rattle.std.proofs.lemmas.Result.{IfOk-weaker}
 use Rattle.lf_scenario.specs.Limits.{longest}
 use Rattle.lf_tree.specs.Texts.{most_bytes}
@@ -10,7 +10,7 @@ use Rattle.leastfault.specs.declared.fault.BytesFault.{BytesFault}
 use Rattle.leastfault.specs.declared.fault.BytesFault.TheVariants as faults
 use Rattle.leastfault.specs.declared.reply.Reply.{Reply}
 use Rattle.leastfault.specs.Engines.{IsEngine, IsEngineOfBoth, IsFront, IsFrontOf, IsMade, IsMadeHere, IsMadeOfAll, IsMadeOfBoth, IsMadeOfOne, IsSent, NoCause}
-use Rattle.leastfault.specs.Engines.{OfAsked, OfBoth, OfHeld, OfReply, Remakes, TookAtMost, WasSent, tells_write}
+use Rattle.leastfault.specs.Engines.{OfAsked, OfBoth, OfHeld, OfReply, Remakes, TookAtMost, WasRead, WasReadWhere, WasSent, tells_write}
 use Rattle.leastfault.proofs.ReplyLemmas.{GoesByFront}
 
 -- what follows of any text follows of what a source held,
@@ -30,6 +30,19 @@ asked_wider : (b : Bool) (Says Means : Option (List ℕ) → Type 0) (held : Opt
     → OfAsked b Says held → OfAsked b Means held
 asked_wider false Says Means held wider is = wider None is
 asked_wider true Says Means held wider is = held_wider (λ text. Says (Some text)) (λ text. Means (Some text)) held (λ text. wider (Some text)) is
+
+-- where the bytes at the front were taken, and no others, so many were, or all
+drop_front : (n : ℕ) (h : List ℕ) → drop (length (take n h)) h ≡ drop n h
+drop_front n h = elim (cases_lt (length h) n) [
+  | inl more ↦ ap (λ bs. drop (length bs) h) (take_all n h (omega (arith, more))) ∙ drop_all (length h) h (omega arith)
+      ∙ sym (drop_all n h (omega (arith, more)))
+  | inr few ↦ ap (λ k. drop k h) (length-take-le n h few)
+]
+
+pub was_read : (most : ℕ) (held left : Option (List ℕ)) (bytes : List ℕ)
+    → IfSome held (λ h. (bytes ≡ take most h) × (left ≡ Some (drop (length bytes) h))) → WasRead most held left
+was_read most None left bytes is = tt
+was_read most (Some h) left bytes is = is.1 ∙ ap Some (ap (λ bs. drop (length bs) h) is.0 ∙ drop_front most h)
 
 -- what is said of the bytes that were read is said of what the source held
 module _ (most : ℕ) (Says : List ℕ → Type 0) (by_front : GoesByFront most Says) where
@@ -124,33 +137,44 @@ module _ {Y Z : Type 0} (IsOne : Y → Type 0) (IsOther : Z → Type 0) (IsCause
 module _ {R : Type 0} (left : R → Option (List ℕ)) (stuck : R → Bool) (old new : R) where
   pub made_here : {V Y : Type 0} (items_of : V → List ℕ) (IsOther : List ℕ → Y → Type 0) (IsCause : List ℕ → ℕ → Type 0) (v : V) (text : List ℕ)
       (made : Result Y BytesFault) → ((y : Y) → GoesByFront longest (λ t. IsOther t y)) → ((number : ℕ) → GoesByFront longest (λ t. IsCause t number))
-      → IsMade (λ (u : V). IsFront longest (left old) (items_of u)) (λ _. ⊥) (stuck new) (TookAtMost (longest + 1) (left old) (left new)) (Ok v)
+      → IsMade (λ (u : V). IsFront longest (left old) (items_of u) × WasRead (longest + 1) (left old) (left new)) (λ _. ⊥) (stuck new)
+      (TookAtMost (longest + 1) (left old) (left new)) (Ok v)
       → text ≡ items_of v → IsMadeHere (IsOther text) (IsCause text) made → IsMadeOfOne left stuck IsOther IsCause old new made
   made_here {V = V} {Y = Y} items_of IsOther IsCause v text made by_front causes_by_front is same here =
-      made_of (λ (u : V). IsFront longest (left old) (items_of u)) (λ (y : Y). OfHeld (λ t. IsOther t y) (left old)) (λ _. ⊥)
+      made_of (λ (u : V). IsFront longest (left old) (items_of u) × WasRead (longest + 1) (left old) (left new))
+      (λ (y : Y). OfHeld (λ t. IsOther t y) (left old)) (λ _. ⊥)
       (λ number. OfHeld (λ t. IsCause t number) (left old)) (stuck new) (TookAtMost (longest + 1) (left old) (left new)) v (IsOther text) (IsCause text)
       made is here
-      (λ y told. to_held longest (λ t. IsOther t y) (by_front y) (left old) (items_of v) text is.one same told)
-      (λ number cause. to_held longest (λ t. IsCause t number) (causes_by_front number) (left old) (items_of v) text is.one same cause)
+      (λ y told. to_held longest (λ t. IsOther t y) (by_front y) (left old) (items_of v) text is.one.0 same told)
+      (λ number cause. to_held longest (λ t. IsCause t number) (causes_by_front number) (left old) (items_of v) text is.one.0 same cause)
 
   -- or of the texts of two
   pub made_of_both : {S V Y : Type 0} (left_too : S → Option (List ℕ)) (stuck_too : S → Bool) (old_too new_too : S) (items_of other_items_of : V → List ℕ)
       (IsOther : List ℕ → List ℕ → Y → Type 0) (v : V) (text certificate : List ℕ) (made : Result Y BytesFault)
       → ((other : List ℕ) (y : Y) → GoesByFront longest (λ t. IsOther t other y)) → ((one : List ℕ) (y : Y) → GoesByFront most_bytes (λ t. IsOther one t y))
-      → IsMade (λ (u : V). IsFront longest (left old) (items_of u) × IsFront most_bytes (left_too old_too) (other_items_of u)) (λ _. ⊥)
+      → IsMade
+      (λ (u : V). (IsFront longest (left old) (items_of u) × IsFront most_bytes (left_too old_too) (other_items_of u))
+      × (WasRead (longest + 1) (left old) (left new) × WasRead (most_bytes + 1) (left_too old_too) (left_too new_too))) (λ _. ⊥)
       (stuck new || stuck_too new_too)
       (TookAtMost (longest + 1) (left old) (left new) × TookAtMost (most_bytes + 1) (left_too old_too) (left_too new_too)) (Ok v)
       → text ≡ items_of v → certificate ≡ other_items_of v → IsMadeHere (IsOther text certificate) (λ _. ⊥) made
       → IsMadeOfBoth left stuck left_too stuck_too IsOther NoCause old new old_too new_too made
   made_of_both {V = V} {Y = Y} left_too stuck_too old_too new_too items_of other_items_of IsOther v text certificate made by_front by_front_too is same
       same_too here =
-      made_of (λ (u : V). IsFront longest (left old) (items_of u) × IsFront most_bytes (left_too old_too) (other_items_of u))
-      (λ (y : Y). OfBoth (λ t u. IsOther t u y) (left old) (left_too old_too)) (λ _. ⊥) (λ number. OfHeld (λ t. NoCause t number) (left old))
+      made_of
+      (λ (u : V). (IsFront longest (left old) (items_of u) × IsFront most_bytes (left_too old_too) (other_items_of u))
+      × (WasRead (longest + 1) (left old) (left new) × WasRead (most_bytes + 1) (left_too old_too) (left_too new_too)))
+      (λ (y : Y). OfBoth (λ t u. IsOther t u y) (left old) (left_too old_too)
+      × (WasRead (longest + 1) (left old) (left new) × WasRead (most_bytes + 1) (left_too old_too) (left_too new_too))) (λ _. ⊥)
+      (λ number. OfHeld (λ t. NoCause t number) (left old))
       (stuck new || stuck_too new_too)
       (TookAtMost (longest + 1) (left old) (left new) × TookAtMost (most_bytes + 1) (left_too old_too) (left_too new_too)) v (IsOther text certificate)
       (λ _. ⊥) made is here
-      (λ y told. to_both longest most_bytes (λ t u. IsOther t u y) (λ other. by_front other y) (λ one. by_front_too one y) (left old) (left_too old_too)
-      (items_of v) text (other_items_of v) certificate is.one.0 same is.one.1 same_too told)
+      (λ y told. (
+        to_both longest most_bytes (λ t u. IsOther t u y) (λ other. by_front other y) (λ one. by_front_too one y) (left old) (left_too old_too)
+            (items_of v) text (other_items_of v) certificate is.one.0.0 same is.one.0.1 same_too told,
+        is.one.1,
+      ))
       (λ number no. absurd no)
 
 -- or of the texts of three, of which the first and the last may not be asked for
@@ -167,6 +191,11 @@ module _ {P R S V Y : Type 0} (left : P → Option (List ℕ)) (stuck : P → Bo
   AreFronts u =
       IsFrontOf named longest (left old) (protocol_of u) × IsFront longest (left_too old_too) (text_of u)
       × IsFrontOf judged most_bytes (left_last old_last) (certificate_of u)
+
+  abbrev WereRead : Type 0
+  WereRead =
+      WasReadWhere named (longest + 1) (left old) (left new) × WasRead (longest + 1) (left_too old_too) (left_too new_too)
+      × WasReadWhere judged (most_bytes + 1) (left_last old_last) (left_last new_last)
 
   abbrev TookAll : Type 0
   TookAll =
@@ -213,13 +242,15 @@ module _ {P R S V Y : Type 0} (left : P → Option (List ℕ)) (stuck : P → Bo
       tells.1 refl is)
 
   pub made_of_all : (made : Result Y BytesFault)
-      → IsMade AreFronts (λ _. ⊥) (stuck new || (stuck_too new_too || stuck_last new_last)) TookAll (Ok v)
+      → IsMade (λ (u : V). AreFronts u × WereRead) (λ _. ⊥) (stuck new || (stuck_too new_too || stuck_last new_last)) TookAll (Ok v)
       → IsMadeHere (IsOther (protocol_of v) (text_of v) (certificate_of v)) (IsCause (protocol_of v) (text_of v)) made
       → IsMadeOfAll left stuck left_too stuck_too left_last stuck_last named judged IsOther IsCause old new old_too new_too old_last new_last made
   made_of_all made is here =
-      made_of AreFronts (λ (y : Y). OfAsked named (OfTwo y) (left old)) (λ _. ⊥) (λ number. OfAsked named (OfCause number) (left old))
+      made_of (λ (u : V). AreFronts u × WereRead) (λ (y : Y). OfAsked named (OfTwo y) (left old) × WereRead) (λ _. ⊥)
+      (λ number. OfAsked named (OfCause number) (left old))
       (stuck new || (stuck_too new_too || stuck_last new_last)) TookAll v (IsOther (protocol_of v) (text_of v) (certificate_of v))
-      (IsCause (protocol_of v) (text_of v)) made is here (λ y told. all_told y is.one told) (λ number cause. cause_told number is.one cause)
+      (IsCause (protocol_of v) (text_of v)) made is here (λ y told. (all_told y is.one.0 told, is.one.1))
+      (λ number cause. cause_told number is.one.0 cause)
 
 -- no cause goes by any front
 pub no_cause : (number : ℕ) → GoesByFront longest (λ text. NoCause text number)
@@ -310,7 +341,9 @@ module _ {R X W : Type 0} (left : R → Option (List ℕ)) (stuck : R → Bool) 
         → IsMadeOfBoth left stuck left_too stuck_too (λ text. OfReply (IsReply text)) IsCause old new old_too new_too made
         → IsEngineOfBoth left stuck left_too stuck_too IsReply IsCause old new old_too new_too written has_failed before after result
     sent_of_both IsReply IsCause is =
-        sent (λ reply value. OfBoth (λ text certificate. IsReply text certificate reply value) (left old) (left_too old_too))
+        sent
+        (λ reply value. OfBoth (λ text certificate. IsReply text certificate reply value) (left old) (left_too old_too)
+        × (WasRead (longest + 1) (left old) (left new) × WasRead (most_bytes + 1) (left_too old_too) (left_too new_too)))
         (λ number. OfHeld (λ text. IsCause text number) (left old)) (stuck new || stuck_too new_too)
         (TookAtMost (longest + 1) (left old) (left new) × TookAtMost (most_bytes + 1) (left_too old_too) (left_too new_too))
         written has_failed before after well made result is was

@@ -9,6 +9,7 @@ mod LineTexts
 mod Listing
 mod ReplyLemmas
 mod SetTexts
+mod ShownLemmas
 mod TreeTexts
 mod Uniqueness
 mod Yes

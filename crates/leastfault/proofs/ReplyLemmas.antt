@@ -126,7 +126,7 @@ pub full_for : (wanted : Wanted) (s : Scenario) (level count : ℕ) (found : Rep
 full_for wanted s level count found full is ends none = inl ((level, count, full, is, ends), none)
 
 -- the allowed set that the words name, from the set that they name
-abbrev IsChoice : List ℕ → Bounds → Option (List Parts) → Type 0
+abbrev pub IsChoice : List ℕ → Bounds → Option (List Parts) → Type 0
 IsChoice words b answer =
     (set : List Parts) → (answer ≡ Some set → Names words set × IsAllowed b set) × (Names words set × IsAllowed b set → answer ≡ Some set)
 

@@ -18,8 +18,10 @@ use Rattle.leastfault.specs.declared.reply.Certified.{Certified}
 use Rattle.leastfault.specs.declared.reply.Reply.{Reply}
 use Rattle.leastfault.specs.declared.reply.Searched.{Searched}
 use Rattle.leastfault.specs.Protocols.{IsProtocolReply, RepliesProtocolRefusal}
-use Rattle.leastfault.specs.Replies.{HandsOut, IsAnswerReply, IsCheckReply, IsPoolCause, IsReplyWith, IsRunReply, MayWork, reports_of}
+use Rattle.leastfault.specs.Replies.{HandsOut, IsAnswerReply, IsCheckReply, IsPoolCause, IsReplyWith, MayWork, reports_of}
 use Rattle.leastfault.specs.Reports.{tree_refusal}
+use Rattle.leastfault.specs.Shown.{IsShownReply, IsToldReply}
+use Rattle.leastfault.specs.declared.shown.Told.TheVariants as told
 
 -- the bytes of the certificate, where there is one
 abbrev pub certificate_of : Certified → Option (List ℕ)
@@ -99,15 +101,11 @@ wanted_of true = wanted.AllLeast
 -- the file of the certificate that is to be judged
 abbrev pub tree_file : Asked → Option (List ℕ)
 tree_file (asked.Search file tree all workers quiet protocol) = None
-tree_file (asked.Run file faults rules protocol) = None
+tree_file (asked.Run file faults shown protocol) = None
+tree_file (asked.Draw file faults protocol) = None
 tree_file (asked.Check file tree quiet protocol) = Some (string_bytes tree)
 tree_file (asked.Answer file quiet protocol) = None
 tree_file (asked.Protocol file) = None
-
--- the rules that nodes took are told where there is a protocol file that has some
-abbrev pub tells_rules : Option Declared → Bool → Bool
-tells_rules None rules = false
-tells_rules (Some file) rules = rules
 
 module _ (known : Option Declared) where
   -- a search's reply, with a certificate where a file is named for it
@@ -125,8 +123,10 @@ module _ (known : Option Declared) where
   abbrev pub IsDoneFor : Asked → List ℕ → Option (List ℕ) → List ℕ → Certified → Type 0
   IsDoneFor (asked.Search file tree all workers quiet protocol) text certificate reply ended =
       IsSearchFor (written_to (asked.Search file tree all workers quiet protocol)) (wanted_of all) text reply ended × MayWork known workers text
-  IsDoneFor (asked.Run file faults rules protocol) text certificate reply ended =
-      IsRunReply known (tells_rules known rules) (string_bytes faults) text reply ended.status × (certificate_of ended ≡ None)
+  IsDoneFor (asked.Run file faults shown protocol) text certificate reply ended =
+      IsShownReply known shown (string_bytes faults) text reply ended.status × (certificate_of ended ≡ None)
+  IsDoneFor (asked.Draw file faults protocol) text certificate reply ended =
+      IsToldReply told.Picture known (string_bytes faults) text reply ended.status × (certificate_of ended ≡ None)
   IsDoneFor (asked.Check file tree quiet protocol) text certificate reply ended =
       IsCheckOf text certificate reply ended.status × (certificate_of ended ≡ None)
   IsDoneFor (asked.Answer file quiet protocol) text certificate reply ended =
@@ -136,7 +136,8 @@ module _ (known : Option Declared) where
   -- for this cause workers give no answer
   abbrev pub IsCauseFor : Asked → List ℕ → ℕ → Type 0
   IsCauseFor (asked.Search file tree all workers quiet protocol) text number = IsCauseAt known workers text number
-  IsCauseFor (asked.Run file faults rules protocol) text number = ⊥
+  IsCauseFor (asked.Run file faults shown protocol) text number = ⊥
+  IsCauseFor (asked.Draw file faults protocol) text number = ⊥
   IsCauseFor (asked.Check file tree quiet protocol) text number = ⊥
   IsCauseFor (asked.Answer file quiet protocol) text number = ⊥
   IsCauseFor (asked.Protocol file) text number = ⊥

@@ -27,6 +27,14 @@ tells_write (Err (faults.Pool number)) = false
 abbrev pub TookAtMost : ℕ → Option (List ℕ) → Option (List ℕ) → Type 0
 TookAtMost most held left = IfSome held (λ h. (n : ℕ) × (n ≤ most) × (left ≡ Some (drop n h)))
 
+-- so many bytes of a source were taken, or all where it held fewer; and so of one that may not be asked for
+abbrev pub WasRead : ℕ → Option (List ℕ) → Option (List ℕ) → Type 0
+WasRead most held left = IfSome held (λ h. left ≡ Some (drop most h))
+
+abbrev pub WasReadWhere : Bool → ℕ → Option (List ℕ) → Option (List ℕ) → Type 0
+WasReadWhere false most held left = Unit {0}
+WasReadWhere true most held left = WasRead most held left
+
 -- what is said of a text is true of what a source held: where it doesn't tell, of some text
 abbrev pub OfHeld : (List ℕ → Type 0) → Option (List ℕ) → Type 0
 OfHeld Says held = (text : List ℕ) × IfSome held (λ h. text ≡ h) × Says text
@@ -77,18 +85,23 @@ module _ {R : Type 0} (left : R → Option (List ℕ)) (has_failed : R → Bool)
       IsSent (λ reply value. OfHeld (λ text. IsReply text reply value) (left old)) (λ number. OfHeld (λ text. IsCause text number) (left old))
       (has_failed new) (TookAtMost (longest + 1) (left old) (left new))
 
--- of two, a scenario's and a tree's: no more than one byte past the longest text is taken of each
+-- of two, a scenario's and a tree's: no more than one byte past the longest text is taken of each. A reply comes only where both were read, to one
+-- byte past the longest text or to the end
 module _ {R S : Type 0} (left : R → Option (List ℕ)) (has_failed : R → Bool) (left_too : S → Option (List ℕ)) (has_failed_too : S → Bool) where
   abbrev pub IsMadeOfBoth : {Y : Type 0} → (List ℕ → List ℕ → Y → Type 0) → (List ℕ → ℕ → Type 0) → R → R → S → S → Result Y BytesFault → Type 0
   IsMadeOfBoth IsOne IsCause old new old_too new_too =
-      IsMade (λ y. OfBoth (λ text certificate. IsOne text certificate y) (left old) (left_too old_too))
+      IsMade
+      (λ y. OfBoth (λ text certificate. IsOne text certificate y) (left old) (left_too old_too)
+      × (WasRead (longest + 1) (left old) (left new) × WasRead (most_bytes + 1) (left_too old_too) (left_too new_too)))
       (λ number. OfHeld (λ text. IsCause text number) (left old)) (has_failed new || has_failed_too new_too)
       (TookAtMost (longest + 1) (left old) (left new) × TookAtMost (most_bytes + 1) (left_too old_too) (left_too new_too))
 
   abbrev pub IsEngineOfBoth : {X W : Type 0} → (List ℕ → List ℕ → List ℕ → X → Type 0) → (List ℕ → ℕ → Type 0) → R → R → S → S
       → (W → Option (List ℕ)) → (W → Bool) → W → W → Result X BytesFault → Type 0
   IsEngineOfBoth IsReply IsCause old new old_too new_too =
-      IsSent (λ reply value. OfBoth (λ text certificate. IsReply text certificate reply value) (left old) (left_too old_too))
+      IsSent
+      (λ reply value. OfBoth (λ text certificate. IsReply text certificate reply value) (left old) (left_too old_too)
+      × (WasRead (longest + 1) (left old) (left new) × WasRead (most_bytes + 1) (left_too old_too) (left_too new_too)))
       (λ number. OfHeld (λ text. IsCause text number) (left old)) (has_failed new || has_failed_too new_too)
       (TookAtMost (longest + 1) (left old) (left new) × TookAtMost (most_bytes + 1) (left_too old_too) (left_too new_too))
 
@@ -97,7 +110,8 @@ abbrev pub OfAsked : Bool → (Option (List ℕ) → Type 0) → Option (List �
 OfAsked false Says held = Says None
 OfAsked true Says held = OfHeld (λ text. Says (Some text)) held
 
--- of three sources, a protocol file's, a scenario's and a tree's: whether the first and the last are asked for, and then the same
+-- of three sources, a protocol file's, a scenario's and a tree's: whether the first and the last are asked for, and then the same. So nothing is
+-- refused before all that are asked for were read
 module _ {P R S : Type 0} (left : P → Option (List ℕ)) (has_failed : P → Bool) (left_too : R → Option (List ℕ)) (has_failed_too : R → Bool)
     (left_last : S → Option (List ℕ)) (has_failed_last : S → Bool) where
   abbrev pub IsMadeOfAll : {Y : Type 0} → Bool → Bool → (Option (List ℕ) → List ℕ → Option (List ℕ) → Y → Type 0)
@@ -105,7 +119,9 @@ module _ {P R S : Type 0} (left : P → Option (List ℕ)) (has_failed : P → B
   IsMadeOfAll named judged IsOne IsCause old new old_too new_too old_last new_last =
       IsMade
       (λ y. OfAsked named (λ protocol. OfHeld (λ text. OfAsked judged (λ certificate. IsOne protocol text certificate y) (left_last old_last))
-      (left_too old_too)) (left old))
+      (left_too old_too)) (left old)
+      × (WasReadWhere named (longest + 1) (left old) (left new) × WasRead (longest + 1) (left_too old_too) (left_too new_too)
+      × WasReadWhere judged (most_bytes + 1) (left_last old_last) (left_last new_last)))
       (λ number. OfAsked named (λ protocol. OfHeld (λ text. IsCause protocol text number) (left_too old_too)) (left old))
       (has_failed new || (has_failed_too new_too || has_failed_last new_last))
       (TookAtMost (longest + 1) (left old) (left new) × TookAtMost (longest + 1) (left_too old_too) (left_too new_too)

@@ -3,6 +3,7 @@ pub mod Reports
 pub mod Known
 pub mod Replies
 pub mod Searches
+pub mod Shown
 pub mod Engines
 pub mod Protocols
 pub mod Commands

@@ -149,6 +149,11 @@ RepliesTrace rules words s reply status =
     (set : List Parts) × Names words set × IsAllowed s.setting.spec set
     × (reply ≡ told_trace rules s set) × (status ≡ run_status (reaches_in s set))
 
+-- the rules that nodes took are told where there is a protocol file that has some
+abbrev pub tells_rules : Option Declared → Bool → Bool
+tells_rules None rules = false
+tells_rules (Some file) rules = rules
+
 -- the reply of a run of the set that the words name, with the rules that nodes took or without: the scenario's refusal comes before the words
 abbrev pub IsRunReply : Option Declared → Bool → List ℕ → List ℕ → List ℕ → ℕ → Type 0
 IsRunReply known rules words text reply status =

@@ -2,20 +2,19 @@
 
 ghost use Rattle.std.specs.Prelude.{◌≡◌, false, true, None, IfOk, is_some, string_bytes};
 ghost use Rattle.std.specs.Option.{option_map};
-ghost use Rattle.leastfault.specs.Commands.{IsAlone, IsCause, IsCauseFor, IsCheckOf, IsDone, IsDoneFor, tells_rules, tree_file, wanted_of};
+ghost use Rattle.leastfault.specs.Commands.{IsAlone, IsCause, IsCauseFor, IsCheckOf, IsDone, IsDoneFor, tree_file, wanted_of};
 ghost use Rattle.lf_words.specs.Words.{protocol_file, written_to};
 ghost use Rattle.leastfault.specs.Engines.{IsMadeHere, IsMadeOfAll, Remakes};
 ghost use Rattle.leastfault.specs.Known.{known_of};
-ghost use Rattle.leastfault.specs.Replies.{IsRunReply};
 
-use crate::answering::{Wanted, answer_reply, run_reply};
+use crate::answering::{Wanted, answer_reply};
 use crate::certified::{certified_reply, reply_by};
 use crate::checking::check_reply;
 use crate::fault::BytesFault;
 use crate::protocol::{protocol_refused, protocol_reply};
 use crate::reading::{CommandTexts, read_command};
 use crate::reply::{Certified, Reply, Searched, without_certificate};
-use crate::ruled::rules_reply;
+use crate::shown::{Told, shown_reply, told_reply};
 use lf_protocol_file::read_protocol;
 use lf_streams::Source;
 use lf_watch::Watch;
@@ -35,8 +34,11 @@ pub fn tree_file(asked: &Asked) -> Option<&str>
 {
     match asked {
         Asked::Check { tree, .. } => Some(tree.as_str()),
-        Asked::Search { .. } | Asked::Run { .. } | Asked::Answer { .. } | Asked::Protocol { .. } =>
-            None,
+        Asked::Search { .. }
+        | Asked::Run { .. }
+        | Asked::Draw { .. }
+        | Asked::Answer { .. }
+        | Asked::Protocol { .. } => None,
     }
 }
 
@@ -51,6 +53,7 @@ pub fn certificate_file(asked: &Asked) -> Option<&str>
         } => Some(tree.as_str()),
         Asked::Search { .. }
         | Asked::Run { .. }
+        | Asked::Draw { .. }
         | Asked::Check { .. }
         | Asked::Answer { .. }
         | Asked::Protocol { .. } => None,
@@ -101,6 +104,7 @@ fn names_protocol(asked: &Asked) -> bool
     match asked {
         Asked::Search { protocol, .. }
         | Asked::Run { protocol, .. }
+        | Asked::Draw { protocol, .. }
         | Asked::Check { protocol, .. }
         | Asked::Answer { protocol, .. } => protocol.is_some(),
         Asked::Protocol { .. } => false,
@@ -161,37 +165,16 @@ fn reply_knowing<T: Threads + Wait + Clock + Sync, V: Watch>(
             None => uncertified(reply_by(rt, alloc, known, wanted_of(*all), *workers, text, watch)),
         },
         Asked::Answer { .. } => Ok(alone(answer_reply(alloc, known, text, watch)?)),
-        Asked::Run { faults, rules, .. } => {
-            Ok(alone(run_asked(alloc, known, *rules, text, faults.as_str())?))
+        Asked::Run { faults, shown, .. } => {
+            Ok(alone(shown_reply(alloc, known, shown, text, faults.as_str())?))
+        }
+        Asked::Draw { faults, .. } => {
+            Ok(alone(told_reply(alloc, known, Told::Picture, text, faults.as_str())?))
         }
         Asked::Check { .. } => {
             Ok(alone(check_asked(rt, alloc, known, text, &texts.tree, watch)?))
         }
         Asked::Protocol { .. } => Ok(alone(protocol_reply(alloc, text)?)),
-    }
-}
-
-/// The reply of a run to a scenario's text and the words that name a set of faults, with the rules that nodes took where they are to be
-/// told and there is a protocol file that has some.
-fn run_asked(
-    alloc: Global,
-    known: Option<&ProtocolFile>,
-    rules: bool,
-    text: &[u8],
-    faults: &str,
-) -> Result<Reply<u8>, AllocError>
-    ensures { IfOk result (λ reply. IsRunReply (known_of known.entry) (tells_rules (known_of known.entry) rules) faults.now text.now
-        (string_bytes reply.text) reply.value) }
-{
-    match known {
-        Some(file) => {
-            if rules {
-                rules_reply(alloc, file, text, faults)
-            } else {
-                run_reply(alloc, Some(file), text, faults)
-            }
-        }
-        None => run_reply(alloc, None, text, faults),
     }
 }
 

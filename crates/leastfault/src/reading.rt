@@ -3,7 +3,7 @@
 ghost use Rattle.std.specs.Prelude.{◌≡◌, ◌+◌, ◌||◌, false, option_map};
 ghost use Rattle.lf_scenario.specs.Limits.{longest};
 ghost use Rattle.lf_tree.specs.Texts.{most_bytes};
-ghost use Rattle.leastfault.specs.Engines.{IsFront, IsFrontOf, IsMade, TookAtMost};
+ghost use Rattle.leastfault.specs.Engines.{IsFront, IsFrontOf, IsMade, TookAtMost, WasRead, WasReadWhere};
 
 use crate::fault::BytesFault;
 use lf_scenario::LONGEST;
@@ -29,13 +29,14 @@ pub(crate) struct CommandTexts {
 }
 
 /// What the source holds, or as much of it as tells that it is longer than `limit`.
+#[tactic(auto, using(crate::proofs::EngineLemmas::was_read))]
 pub(crate) fn read_text<R: Source>(
     alloc: Global,
     reader: &mut R,
     limit: usize,
 ) -> Result<Vec<u8>, BytesFault>
     requires { R.has_failed reader.old ≡ false }
-    ensures { IsMade (λ text. IsFront limit (R.left reader.old) text.items) (λ _. ⊥)
+    ensures { IsMade (λ text. IsFront limit (R.left reader.old) text.items × WasRead (limit + 1) (R.left reader.old) (R.left reader.new)) (λ _. ⊥)
         (R.has_failed reader.new) (TookAtMost (limit + 1) (R.left reader.old) (R.left reader.new)) result }
 {
     match read_up_to(alloc, reader, limit) {
@@ -53,7 +54,8 @@ pub(crate) fn read_texts<R: Source, S: Source>(
 ) -> Result<Texts, BytesFault>
     requires scenario { R.has_failed reader.old ≡ false }
     requires tree { S.has_failed tree_reader.old ≡ false }
-    ensures { IsMade (λ texts. IsFront longest (R.left reader.old) texts.scenario.items × IsFront most_bytes (S.left tree_reader.old) texts.tree.items)
+    ensures { IsMade (λ texts. (IsFront longest (R.left reader.old) texts.scenario.items × IsFront most_bytes (S.left tree_reader.old) texts.tree.items)
+        × (WasRead (longest + 1) (R.left reader.old) (R.left reader.new) × WasRead (most_bytes + 1) (S.left tree_reader.old) (S.left tree_reader.new)))
         (λ _. ⊥) (R.has_failed reader.new || S.has_failed tree_reader.new)
         (TookAtMost (longest + 1) (R.left reader.old) (R.left reader.new)
         × TookAtMost (most_bytes + 1) (S.left tree_reader.old) (S.left tree_reader.new)) result }
@@ -71,7 +73,8 @@ fn read_where<R: Source>(
     limit: usize,
 ) -> Result<Option<Vec<u8>>, BytesFault>
     requires { R.has_failed reader.old ≡ false }
-    ensures made { IsMade (λ text. IsFrontOf is_asked limit (R.left reader.old) (option_map (λ bytes. bytes.items) text)) (λ _. ⊥)
+    ensures made { IsMade (λ text. IsFrontOf is_asked limit (R.left reader.old) (option_map (λ bytes. bytes.items) text)
+        × WasReadWhere is_asked (limit + 1) (R.left reader.old) (R.left reader.new)) (λ _. ⊥)
         (R.has_failed reader.new) (TookAtMost (limit + 1) (R.left reader.old) (R.left reader.new)) result }
     ensures unread { is_asked ≡ false → reader.new ≡ reader.old }
 {
@@ -94,9 +97,12 @@ pub(crate) fn read_command<P: Source, R: Source, S: Source>(
     requires protocol { P.has_failed protocol_reader.old ≡ false }
     requires scenario { R.has_failed reader.old ≡ false }
     requires tree { S.has_failed tree_reader.old ≡ false }
-    ensures made { IsMade (λ texts. IsFrontOf is_named longest (P.left protocol_reader.old) (option_map (λ bytes. bytes.items) texts.protocol)
+    ensures made { IsMade (λ texts. (IsFrontOf is_named longest (P.left protocol_reader.old) (option_map (λ bytes. bytes.items) texts.protocol)
         × IsFront longest (R.left reader.old) texts.scenario.items
         × IsFrontOf is_judged most_bytes (S.left tree_reader.old) (option_map (λ bytes. bytes.items) texts.tree))
+        × (WasReadWhere is_named (longest + 1) (P.left protocol_reader.old) (P.left protocol_reader.new)
+        × WasRead (longest + 1) (R.left reader.old) (R.left reader.new)
+        × WasReadWhere is_judged (most_bytes + 1) (S.left tree_reader.old) (S.left tree_reader.new)))
         (λ _. ⊥) (P.has_failed protocol_reader.new || (R.has_failed reader.new || S.has_failed tree_reader.new))
         (TookAtMost (longest + 1) (P.left protocol_reader.old) (P.left protocol_reader.new)
         × TookAtMost (longest + 1) (R.left reader.old) (R.left reader.new)

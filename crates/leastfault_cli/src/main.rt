@@ -3,7 +3,8 @@
 //!
 //!     leastfault search FILE [--protocol PROTOCOL] [--all] [--tree TREE] [--workers N] [--quiet]
 //!     leastfault answer FILE [--protocol PROTOCOL] [--quiet]
-//!     leastfault run FILE FAULTS [--protocol PROTOCOL [--rules]]
+//!     leastfault run FILE FAULTS [--protocol PROTOCOL] [--rules | --changes | --json | --beside FAULTS]
+//!     leastfault draw FILE FAULTS [--protocol PROTOCOL]
 //!     leastfault check FILE TREE [--protocol PROTOCOL] [--quiet]
 //!     leastfault protocol FILE
 //!
@@ -18,7 +19,8 @@
 //! it makes no certificate.
 //!
 //! With `--protocol` the scenario may name the protocol of that file, and give its constants anew; `run --rules` prints under each step which
-//! of its rules each node took.
+//! of its rules each node took. `run --changes` prints of each step only the nodes that change, and the notes; `run --beside FAULTS` prints
+//! only the lines that differ from those of the run with these faults; `run --json` prints it as a JSON document. `draw` prints the run as a picture, an SVG document.
 //!
 //! `protocol` prints `ok` where the file is a protocol file, and else `refused protocol NUMBER PLACE`, without the place where the file as
 //! a whole is refused.
@@ -43,8 +45,8 @@ mod stop;
 
 use devices::{Text, name_of, opened, opened_by_name, print, put};
 use leastfault::{
-    Asked, BytesFault, Certified, ProtocolFile, Reply, TreeFault, Unasked, asked, certificate_file,
-    execute, read_known, read_protocol, tree_file,
+    Asked, BytesFault, Certified, ProtocolFile, Reply, Scenario, Shown, TreeFault, Unasked, asked,
+    certificate_file, execute, read_known, read_protocol, tree_file,
 };
 use lf_hints::{
     Wanted, all_hint, certificate_hint, check_hint, judged_hint, level_hint, run_hint, search_hint,
@@ -163,7 +165,7 @@ fn is_quiet(asked: &Asked) -> bool {
         Asked::Search { quiet, .. } | Asked::Answer { quiet, .. } | Asked::Check { quiet, .. } => {
             *quiet
         }
-        Asked::Run { .. } | Asked::Protocol { .. } => true,
+        Asked::Run { .. } | Asked::Draw { .. } | Asked::Protocol { .. } => true,
     }
 }
 
@@ -256,10 +258,13 @@ fn with_notes(
     Ok(notes)
 }
 
-/// Where the run without faults passes a range or replaces a note: of a search or a run of a protocol file's scenario.
+/// Where the run without faults passes a range or replaces a note: of a search, a run or a picture of a protocol file's scenario.
 fn notes_of(alloc: Global, asked: &Asked, texts: &Texts<'_>) -> Result<String, AllocError> {
     if asked.protocol_file().is_none()
-        || !matches!(asked, Asked::Search { .. } | Asked::Run { .. })
+        || !matches!(
+            asked,
+            Asked::Search { .. } | Asked::Run { .. } | Asked::Draw { .. }
+        )
     {
         return Ok(String::new(alloc));
     }
@@ -345,11 +350,40 @@ fn refused_hint(
         }
         Asked::Search { all: true, .. } => all_hint(alloc, text, reply.as_bytes())?,
         Asked::Search { .. } | Asked::Answer { .. } => search_hint(alloc, text, reply.as_bytes())?,
-        Asked::Run { faults, .. } => run_hint(alloc, text, faults.as_str())?,
+        Asked::Run { faults, shown, .. } => shown_hint(alloc, text, faults.as_str(), shown)?,
+        Asked::Draw { faults, .. } => run_hint(alloc, text, faults.as_str())?,
         Asked::Check { .. } => check_hint(alloc, text, texts.certificate)?,
         Asked::Protocol { .. } => String::new(alloc),
     };
     with_option(alloc, reply, words)
+}
+
+/// What is wrong with the text of a scenario, or with the words for the faults of a run, or else with those of the run beside it.
+fn shown_hint(
+    alloc: Global,
+    text: &[u8],
+    faults: &str,
+    shown: &Shown,
+) -> Result<String, AllocError> {
+    let words = run_hint(alloc, text, faults)?;
+    match shown {
+        Shown::Beside(other) if words.is_empty() => run_hint(alloc, text, other.as_str()),
+        _ => Ok(words),
+    }
+}
+
+/// The same of a scenario's words for faults alone.
+fn sets_hint(
+    alloc: Global,
+    scenario: &Scenario,
+    faults: &str,
+    shown: &Shown,
+) -> Result<String, AllocError> {
+    let words = set_hint(alloc, scenario, faults)?;
+    match shown {
+        Shown::Beside(other) if words.is_empty() => set_hint(alloc, scenario, other.as_str()),
+        _ => Ok(words),
+    }
 }
 
 /// The words, and that `--protocol` may have been forgotten, where the protocol is unknown or constants are given.
@@ -385,7 +419,8 @@ fn known_hint(
             level_hint(alloc, &scenario, Wanted::AllLeast, reply.as_bytes())
         }
         Asked::Search { .. } => level_hint(alloc, &scenario, Wanted::Answer, reply.as_bytes()),
-        Asked::Run { faults, .. } => set_hint(alloc, &scenario, faults.as_str()),
+        Asked::Run { faults, shown, .. } => { sets_hint(alloc, &scenario, faults.as_str(), shown) }
+        Asked::Draw { faults, .. } => set_hint(alloc, &scenario, faults.as_str()),
         Asked::Check { .. } => certificate_hint(alloc, texts.certificate),
         Asked::Answer { .. } | Asked::Protocol { .. } => Ok(String::new(alloc)),
     }

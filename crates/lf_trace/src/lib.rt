@@ -9,5 +9,5 @@ mod telling;
 mod worded;
 
 pub use naming::{names_are_one, read_faults};
-pub use telling::{end_word, push_step, trace};
+pub use telling::{Step, end_word, push_step, trace};
 pub use worded::Worded;

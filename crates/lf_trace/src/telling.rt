@@ -10,9 +10,9 @@ use lf_outcome::{Formula, holds};
 use lf_sim::{Machine, Run, Setting};
 use std::alloc::{AllocError, Global};
 
-/// A step of a run of a setting.
+/// A step of a run of a setting, to be told.
 #[derive(Drop)]
-struct Step<'a, M: Machine> {
+pub struct Step<'a, M: Machine> {
     setting: &'a Setting<M>,
     run: &'a Run<M>,
     number: u32,
@@ -58,12 +58,7 @@ pub fn push_step<M: Worded>(
     ensures { IfOk result (λ _. string_bytes text.new ≡ string_bytes text.old
         ++ step_lines_by (M.words setting.now.machine) (world_of setting.now) (set_of run.now) number) }
 {
-    let step = Step {
-        setting,
-        run,
-        number,
-    };
-    step.push(text)
+    Step::new(setting, run, number).push(text)
 }
 
 /// The last line's word.
@@ -82,9 +77,24 @@ pub fn end_word<M: Machine>(
     }
 }
 
-impl<M: Worded> Step<'_, M> {
-    /// Adds the lines of the step.
-    fn push(&self, text: &mut String) -> Result<(), AllocError>
+impl<'a, M: Worded> Step<'a, M> {
+    /// The step with this number, of a run of this setting.
+    pub fn new(setting: &'a Setting<M>, run: &'a Run<M>, number: u32) -> Step<'a, M>
+        requires first { 1 ≤ number }
+        requires last { number ≤ (world_of setting.now).horizon }
+        ensures setting { result.setting ≡ setting.entry }
+        ensures run { result.run ≡ run.entry }
+        ensures number { result.number ≡ number }
+    {
+        Step {
+            setting,
+            run,
+            number,
+        }
+    }
+
+    /// Adds the lines of the step: `step T`, a line for each node, and one for each note that is sent at the step.
+    pub fn push(&self, text: &mut String) -> Result<(), AllocError>
         requires run { IsRun (world_of self.now.setting.now) self.now.run.now }
         ensures { IfOk result (λ _. string_bytes text.new ≡ string_bytes text.old
             ++ step_lines_by (M.words self.now.setting.now.machine) (world_of self.now.setting.now) (set_of self.now.run.now) self.now.number) }
@@ -97,7 +107,7 @@ impl<M: Worded> Step<'_, M> {
     }
 
     /// Adds a node's line.
-    fn push_node(&self, node: u32, text: &mut String) -> Result<(), AllocError>
+    pub fn push_node(&self, node: u32, text: &mut String) -> Result<(), AllocError>
         requires run { IsRun (world_of self.now.setting.now) self.now.run.now }
         requires node { node < (world_of self.now.setting.now).rules.nodes }
         ensures { IfOk result (λ _. string_bytes text.new ≡ string_bytes text.old
@@ -108,8 +118,8 @@ impl<M: Worded> Step<'_, M> {
         text.push('\n')
     }
 
-    /// Adds a node's words: its state after the step, or that it is down.
-    fn push_standing(&self, node: u32, text: &mut String) -> Result<(), AllocError>
+    /// Adds a node's words: its state after the step, or `down` where it isn't up.
+    pub fn push_standing(&self, node: u32, text: &mut String) -> Result<(), AllocError>
         requires run { IsRun (world_of self.now.setting.now) self.now.run.now }
         requires node { node < (world_of self.now.setting.now).rules.nodes }
         ensures { IfOk result (λ _. string_bytes text.new ≡ string_bytes text.old
@@ -123,8 +133,8 @@ impl<M: Worded> Step<'_, M> {
         }
     }
 
-    /// Adds the lines of the notes that are sent at the step.
-    fn push_notes(&self, text: &mut String) -> Result<(), AllocError>
+    /// Adds the lines of the notes that are sent at the step, by sender and then by receiver.
+    pub fn push_notes(&self, text: &mut String) -> Result<(), AllocError>
         requires run { IsRun (world_of self.now.setting.now) self.now.run.now }
         ensures { IfOk result (λ _. string_bytes text.new ≡ string_bytes text.old
             ++ note_lines (M.words self.now.setting.now.machine) (world_of self.now.setting.now) (set_of self.now.run.now) self.now.number) }
@@ -149,7 +159,7 @@ impl<M: Worded> Step<'_, M> {
     }
 
     /// Adds the line of a slot, where its sender sends in it.
-    fn push_slot(&self, from: u32, to: u32, text: &mut String) -> Result<(), AllocError>
+    pub fn push_slot(&self, from: u32, to: u32, text: &mut String) -> Result<(), AllocError>
         requires run { IsRun (world_of self.now.setting.now) self.now.run.now }
         requires from { from < (world_of self.now.setting.now).rules.nodes }
         requires to { to < (world_of self.now.setting.now).rules.nodes }

@@ -9,7 +9,7 @@ use Rattle.clap.specs.Lexer.{long_of, short_of, strip_byte}
 use Rattle.clap.proofs.OnLiterals.{clap_on_literals}
 use Rattle.lf_words.specs.Commands.{program}
 use Rattle.lf_words.specs.Plain.{is_plain}
-use Rattle.lf_words.specs.Words.{is_set}
+use Rattle.lf_words.specs.Words.{Flags, is_set, shown_flags}
 
 -- what `clap` looks for in a word
 pub record IsTaken (word : Text) : Type 0 where
@@ -44,9 +44,13 @@ is_taken (x ∷ y ∷ rest) plain = taken_other x (y ∷ rest) (not-true (x == 4
 abbrev named_known : Text × List Row → Option Text
 named_known p = first_of (codes "protocol") p.1
 
--- a run's name, its file, its faults, its flag, and the file of a protocol
-abbrev pub named_run : Text × List Row → Text × Option Text × Option Text × Bool × Option Text
-named_run p = (p.0, first_of (codes "file") p.1, first_of (codes "faults") p.1, is_set (first_of (codes "rules") p.1), named_known p)
+-- a run's name, its file, its faults, its flags, and the file of a protocol
+abbrev pub named_run : Text × List Row → Text × Option Text × Option Text × Flags × Option Text
+named_run p = (p.0, first_of (codes "file") p.1, first_of (codes "faults") p.1, shown_flags p.1, named_known p)
+
+-- a command's name, its file, its faults, and the file of a protocol
+abbrev pub named_draw : Text × List Row → Text × Option Text × Option Text × Option Text
+named_draw p = (p.0, first_of (codes "file") p.1, first_of (codes "faults") p.1, named_known p)
 
 -- whether nothing is to be told on the way
 abbrev named_quiet : Text × List Row → Bool
@@ -113,9 +117,18 @@ unfolding clap_on_literals
 run_fault file faults taken taken_too = rw (taken.no_end, taken.no_long, taken.no_short, taken_too.no_end, taken_too.no_long, taken_too.no_short) refl
 
 pub run_names : (file faults : Text) → IsTaken file → IsTaken faults
-    → option_map named_run (subcommand_of program (codes "run" ∷ file ∷ faults ∷ [])) ≡ Some (codes "run", Some file, Some faults, false, None)
+    → option_map named_run (subcommand_of program (codes "run" ∷ file ∷ faults ∷ [])) ≡ Some (codes "run", Some file, Some faults, (false, false, false, None), None)
 unfolding clap_on_literals
 run_names file faults taken taken_too = rw (taken.no_end, taken.no_long, taken.no_short, taken_too.no_end, taken_too.no_long, taken_too.no_short) refl
+
+pub draw_fault : (file faults : Text) → IsTaken file → IsTaken faults → fault_of program (codes "draw" ∷ file ∷ faults ∷ []) ≡ []
+unfolding clap_on_literals
+draw_fault file faults taken taken_too = rw (taken.no_end, taken.no_long, taken.no_short, taken_too.no_end, taken_too.no_long, taken_too.no_short) refl
+
+pub draw_names : (file faults : Text) → IsTaken file → IsTaken faults
+    → option_map named_draw (subcommand_of program (codes "draw" ∷ file ∷ faults ∷ [])) ≡ Some (codes "draw", Some file, Some faults, None)
+unfolding clap_on_literals
+draw_names file faults taken taken_too = rw (taken.no_end, taken.no_long, taken.no_short, taken_too.no_end, taken_too.no_long, taken_too.no_short) refl
 
 pub check_fault : (file tree : Text) → IsTaken file → IsTaken tree → fault_of program (codes "check" ∷ file ∷ tree ∷ []) ≡ []
 unfolding clap_on_literals
@@ -162,8 +175,8 @@ unfolding clap_on_literals
 short_version_fault words = refl
 
 pub unknown_fault : (word : Text) (words : List Text) → IsTaken word → bytes_eq (codes "search") word ≡ false → bytes_eq (codes "run") word ≡ false
-    → bytes_eq (codes "check") word ≡ false → bytes_eq (codes "answer") word ≡ false → bytes_eq (codes "protocol") word ≡ false
+    → bytes_eq (codes "draw") word ≡ false → bytes_eq (codes "check") word ≡ false → bytes_eq (codes "answer") word ≡ false → bytes_eq (codes "protocol") word ≡ false
     → fault_of program (word ∷ words) ≡ kind.UnknownArgument ∷ kind.InvalidSubcommand ∷ []
 unfolding clap_on_literals
-unknown_fault word words taken no_search no_run no_check no_answer no_protocol =
-    rw (no_search, no_run, no_check, no_answer, no_protocol, taken.no_end, taken.no_long, taken.no_short) refl
+unknown_fault word words taken no_search no_run no_draw no_check no_answer no_protocol =
+    rw (no_search, no_run, no_draw, no_check, no_answer, no_protocol, taken.no_end, taken.no_long, taken.no_short) refl

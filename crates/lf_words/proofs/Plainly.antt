@@ -13,18 +13,23 @@ use Rattle.lf_words.specs.Commands.{program}
 use Rattle.lf_words.specs.Plain.{asks_help, asks_version, is_plain, is_plain_command, is_unknown, takes_one, takes_two}
 use Rattle.lf_words.specs.Statuses.{exit_status, status_of}
 use Rattle.lf_words.specs.Words.{AreNamed, Asks, CanBeDone, HasStatus, IsAskedIn, IsPlainly, IsRefusal, IsUncounted}
-use Rattle.lf_words.specs.Words.{is_input, lacks_protocol, overwrites, shares_input, texts_of, written_to}
+use Rattle.lf_words.specs.Words.{Flags, flags_of, is_input, lacks_protocol, overwrites, shares_input, texts_of, written_to}
 use Rattle.lf_words.specs.declared.types.Asked.{Asked}
 use Rattle.lf_words.specs.declared.types.Asked.TheVariants as asked
+use Rattle.lf_words.specs.declared.types.Shown.{Shown}
+use Rattle.lf_words.specs.declared.types.Shown.TheVariants as shown
 use Rattle.lf_words.specs.declared.unasked.Unasked.{Unasked}
 use Rattle.lf_words.specs.declared.unasked.Unasked.TheVariants as unasked
-use Rattle.lf_words.proofs.Plain.{IsTaken, is_taken, named_alone, named_check, named_one, named_run, named_search}
-use Rattle.lf_words.proofs.Plain.{answer_fault, answer_names, check_fault, check_names, run_fault, run_names, search_fault, search_names}
+use Rattle.lf_words.proofs.Plain.{IsTaken, is_taken, named_alone, named_check, named_draw, named_one, named_run, named_search}
+use Rattle.lf_words.proofs.Plain.{answer_fault, answer_names, check_fault, check_names, draw_fault, draw_names, run_fault, run_names, search_fault, search_names}
 use Rattle.lf_words.proofs.Plain.{help_fault, protocol_fault, protocol_names, short_help_fault, short_version_fault, unknown_fault, version_fault}
 use Rattle.lf_words.proofs.Reading.{apart, no_truth}
 
 abbrev Run : Type 0
-Run = Text × Option Text × Option Text × Bool × Option Text
+Run = Text × Option Text × Option Text × Flags × Option Text
+
+abbrev Draw : Type 0
+Draw = Text × Option Text × Option Text × Option Text
 
 abbrev Check : Type 0
 Check = Text × Option Text × Option Text × Bool × Option Text
@@ -66,6 +71,21 @@ run_or_search name is_run is_search = apart 114 115 (omega arith) (ap first (sym
 pub check_or_search : (name : Text) → name ≡ codes "check" → name ≡ codes "search" → ⊥
 check_or_search name is_check is_search = apart 99 115 (omega arith) (ap first (sym is_check ∙ is_search))
 
+pub draw_or_search : (name : Text) → name ≡ codes "draw" → name ≡ codes "search" → ⊥
+draw_or_search name is_draw is_search = apart 100 115 (omega arith) (ap first (sym is_draw ∙ is_search))
+
+draw_or_run : (name : Text) → name ≡ codes "draw" → name ≡ codes "run" → ⊥
+draw_or_run name is_draw is_run = apart 100 114 (omega arith) (ap first (sym is_draw ∙ is_run))
+
+check_or_draw : (name : Text) → name ≡ codes "check" → name ≡ codes "draw" → ⊥
+check_or_draw name is_check is_draw = apart 99 100 (omega arith) (ap first (sym is_check ∙ is_draw))
+
+answer_or_draw : (name : Text) → name ≡ codes "answer" → name ≡ codes "draw" → ⊥
+answer_or_draw name is_answer is_draw = apart 97 100 (omega arith) (ap first (sym is_answer ∙ is_draw))
+
+protocol_or_draw : (name : Text) → name ≡ codes "protocol" → name ≡ codes "draw" → ⊥
+protocol_or_draw name is_protocol is_draw = apart 100 112 (omega arith) (ap first (sym is_draw ∙ is_protocol))
+
 check_or_run : (name : Text) → name ≡ codes "check" → name ≡ codes "run" → ⊥
 check_or_run name is_check is_run = apart 99 114 (omega arith) (ap first (sym is_check ∙ is_run))
 
@@ -106,9 +126,12 @@ search_of words (Some p) file (asked.Search own tree all workers quiet protocol)
       shipped = sym asked.0.6 ∙ ap (λ (q : Search). q.6) found;
       short = refl;
     }
-search_of words (Some p) file (asked.Run own faults rules protocol) names asked =
+search_of words (Some p) file (asked.Run own faults shown protocol) names asked =
     let found : named_search p ≡ (codes "search", Some file, None, false, None, false, None) = some_is _ _ names in
     absurd (run_or_search p.0 asked.0.0 (ap (λ (q : Search). q.0) found))
+search_of words (Some p) file (asked.Draw own drawn_faults protocol) names asked =
+    let found : named_search p ≡ (codes "search", Some file, None, false, None, false, None) = some_is _ _ names in
+    absurd (draw_or_search p.0 asked.0.0 (ap (λ (q : Search). q.0) found))
 search_of words (Some p) file (asked.Check own tree quiet protocol) names asked =
     let found : named_search p ≡ (codes "search", Some file, None, false, None, false, None) = some_is _ _ names in
     absurd (check_or_search p.0 asked.0.0 (ap (λ (q : Search). q.0) found))
@@ -137,15 +160,23 @@ asks_search words (Some p) file names is =
       rw (is) (inl (refl, inl (refl, tt))),
     )
 
+-- a run of which no flag is set is told whole
+whole_is : (told : Shown) → flags_of told ≡ (false, false, false, None) → told ≡ shown.Whole
+whole_is shown.Whole is = refl
+whole_is shown.Rules is = absurd (no_truth (sym (ap (λ (q : Flags). q.0) is)))
+whole_is shown.Changes is = absurd (no_truth (sym (ap (λ (q : Flags). q.1) is)))
+whole_is shown.Json is = absurd (no_truth (sym (ap (λ (q : Flags). q.2) is)))
+whole_is (shown.Beside other) is = absurd (no_thing _ (sym (ap (λ (q : Flags). q.3) is)))
+
 run_of : (words : List Text) (o : Option (Text × List Row)) (file faults : Text) (a : Asked)
-    → option_map named_run o ≡ Some (codes "run", Some file, Some faults, false, None)
+    → option_map named_run o ≡ Some (codes "run", Some file, Some faults, (false, false, false, None), None)
     → IsAskedIn words o a → IsPlainly (codes "run" ∷ file ∷ faults ∷ []) a
 run_of words None file faults a names asked = elim asked [ ]
 run_of words (Some p) file faults (asked.Search own tree all workers quiet protocol) names asked =
-    let pair : named_run p ≡ (codes "run", Some file, Some faults, false, None) = some_is _ _ names in
+    let pair : named_run p ≡ (codes "run", Some file, Some faults, (false, false, false, None), None) = some_is _ _ names in
     absurd (run_or_search p.0 (ap (λ (q : Run). q.0) pair) asked.0.0)
-run_of words (Some p) file faults (asked.Run own own_faults rules protocol) names asked =
-    let pair : named_run p ≡ (codes "run", Some file, Some faults, false, None) = some_is _ _ names in
+run_of words (Some p) file faults (asked.Run own own_faults shown protocol) names asked =
+    let pair : named_run p ≡ (codes "run", Some file, Some faults, (false, false, false, None), None) = some_is _ _ names in
     let same : own.bytes.items ≡ file = some_is _ _ (sym asked.0.1 ∙ ap (λ (q : Run). q.1) pair) in
     let same_too : own_faults.bytes.items ≡ faults = some_is _ _ (sym asked.0.2 ∙ ap (λ (q : Run). q.2) pair) in
     record {
@@ -155,24 +186,27 @@ run_of words (Some p) file faults (asked.Run own own_faults rules protocol) name
       alone = refl;
       told = refl;
       shipped = sym asked.0.4 ∙ ap (λ (q : Run). q.4) pair;
-      short = sym asked.0.3 ∙ ap (λ (q : Run). q.3) pair;
+      short = whole_is shown (sym asked.0.3 ∙ ap (λ (q : Run). q.3) pair);
     }
+run_of words (Some p) file faults (asked.Draw own drawn_faults protocol) names asked =
+    let pair : named_run p ≡ (codes "run", Some file, Some faults, (false, false, false, None), None) = some_is _ _ names in
+    absurd (draw_or_run p.0 asked.0.0 (ap (λ (q : Run). q.0) pair))
 run_of words (Some p) file faults (asked.Check own tree quiet protocol) names asked =
-    let pair : named_run p ≡ (codes "run", Some file, Some faults, false, None) = some_is _ _ names in
+    let pair : named_run p ≡ (codes "run", Some file, Some faults, (false, false, false, None), None) = some_is _ _ names in
     absurd (check_or_run p.0 asked.0.0 (ap (λ (q : Run). q.0) pair))
 run_of words (Some p) file faults (asked.Answer own quiet protocol) names asked =
-    let pair : named_run p ≡ (codes "run", Some file, Some faults, false, None) = some_is _ _ names in
+    let pair : named_run p ≡ (codes "run", Some file, Some faults, (false, false, false, None), None) = some_is _ _ names in
     absurd (answer_or_run p.0 asked.0.0 (ap (λ (q : Run). q.0) pair))
 run_of words (Some p) file faults (asked.Protocol own) names asked =
-    let pair : named_run p ≡ (codes "run", Some file, Some faults, false, None) = some_is _ _ names in
+    let pair : named_run p ≡ (codes "run", Some file, Some faults, (false, false, false, None), None) = some_is _ _ names in
     absurd (protocol_or_run p.0 asked.0.0 (ap (λ (q : Run). q.0) pair))
 
 asks_run : (words : List Text) (o : Option (Text × List Row)) (file faults : String Global)
-    → option_map named_run o ≡ Some (codes "run", Some (string_bytes file), Some (string_bytes faults), false, None)
-    → words ≡ codes "run" ∷ string_bytes file ∷ string_bytes faults ∷ [] → IsAskedIn words o (asked.Run file faults false None)
+    → option_map named_run o ≡ Some (codes "run", Some (string_bytes file), Some (string_bytes faults), (false, false, false, None), None)
+    → words ≡ codes "run" ∷ string_bytes file ∷ string_bytes faults ∷ [] → IsAskedIn words o (asked.Run file faults shown.Whole None)
 asks_run words None file faults names is = absurd (no_thing _ names)
 asks_run words (Some p) file faults names is =
-    let pair : named_run p ≡ (codes "run", Some (string_bytes file), Some (string_bytes faults), false, None) = some_is _ _ names in (
+    let pair : named_run p ≡ (codes "run", Some (string_bytes file), Some (string_bytes faults), (false, false, false, None), None) = some_is _ _ names in (
       (
         ap (λ (q : Run). q.0) pair,
         ap (λ (q : Run). q.1) pair,
@@ -183,6 +217,49 @@ asks_run words (Some p) file faults names is =
       rw (is) (inl (refl, inl (refl, inl (refl, tt)))),
     )
 
+draw_of : (words : List Text) (o : Option (Text × List Row)) (file faults : Text) (a : Asked)
+    → option_map named_draw o ≡ Some (codes "draw", Some file, Some faults, None)
+    → IsAskedIn words o a → IsPlainly (codes "draw" ∷ file ∷ faults ∷ []) a
+draw_of words None file faults a names asked = elim asked [ ]
+draw_of words (Some p) file faults (asked.Search own tree all workers quiet protocol) names asked =
+    let pair : named_draw p ≡ (codes "draw", Some file, Some faults, None) = some_is _ _ names in
+    absurd (draw_or_search p.0 (ap (λ (q : Draw). q.0) pair) asked.0.0)
+draw_of words (Some p) file faults (asked.Run own own_faults shown protocol) names asked =
+    let pair : named_draw p ≡ (codes "draw", Some file, Some faults, None) = some_is _ _ names in
+    absurd (draw_or_run p.0 (ap (λ (q : Draw). q.0) pair) asked.0.0)
+draw_of words (Some p) file faults (asked.Draw own own_faults protocol) names asked =
+    let pair : named_draw p ≡ (codes "draw", Some file, Some faults, None) = some_is _ _ names in
+    let same : own.bytes.items ≡ file = some_is _ _ (sym asked.0.1 ∙ ap (λ (q : Draw). q.1) pair) in
+    let same_too : own_faults.bytes.items ≡ faults = some_is _ _ (sym asked.0.2 ∙ ap (λ (q : Draw). q.2) pair) in
+    record {
+      texts = rw (same, same_too) refl;
+      unwritten = refl;
+      one = refl;
+      alone = refl;
+      told = refl;
+      shipped = sym asked.0.3 ∙ ap (λ (q : Draw). q.3) pair;
+      short = refl;
+    }
+draw_of words (Some p) file faults (asked.Check own tree quiet protocol) names asked =
+    let pair : named_draw p ≡ (codes "draw", Some file, Some faults, None) = some_is _ _ names in
+    absurd (check_or_draw p.0 asked.0.0 (ap (λ (q : Draw). q.0) pair))
+draw_of words (Some p) file faults (asked.Answer own quiet protocol) names asked =
+    let pair : named_draw p ≡ (codes "draw", Some file, Some faults, None) = some_is _ _ names in
+    absurd (answer_or_draw p.0 asked.0.0 (ap (λ (q : Draw). q.0) pair))
+draw_of words (Some p) file faults (asked.Protocol own) names asked =
+    let pair : named_draw p ≡ (codes "draw", Some file, Some faults, None) = some_is _ _ names in
+    absurd (protocol_or_draw p.0 asked.0.0 (ap (λ (q : Draw). q.0) pair))
+
+asks_draw : (words : List Text) (o : Option (Text × List Row)) (file faults : String Global)
+    → option_map named_draw o ≡ Some (codes "draw", Some (string_bytes file), Some (string_bytes faults), None)
+    → words ≡ codes "draw" ∷ string_bytes file ∷ string_bytes faults ∷ [] → IsAskedIn words o (asked.Draw file faults None)
+asks_draw words None file faults names is = absurd (no_thing _ names)
+asks_draw words (Some p) file faults names is =
+    let pair : named_draw p ≡ (codes "draw", Some (string_bytes file), Some (string_bytes faults), None) = some_is _ _ names in (
+      (ap (λ (q : Draw). q.0) pair, ap (λ (q : Draw). q.1) pair, ap (λ (q : Draw). q.2) pair, ap (λ (q : Draw). q.3) pair),
+      rw (is) (inl (refl, inl (refl, inl (refl, tt)))),
+    )
+
 check_of : (words : List Text) (o : Option (Text × List Row)) (file tree : Text) (a : Asked)
     → option_map named_check o ≡ Some (codes "check", Some file, Some tree, false, None)
     → IsAskedIn words o a → IsPlainly (codes "check" ∷ file ∷ tree ∷ []) a
@@ -190,9 +267,12 @@ check_of words None file tree a names asked = elim asked [ ]
 check_of words (Some p) file tree (asked.Search own written all workers quiet protocol) names asked =
     let pair : named_check p ≡ (codes "check", Some file, Some tree, false, None) = some_is _ _ names in
     absurd (check_or_search p.0 (ap (λ (q : Check). q.0) pair) asked.0.0)
-check_of words (Some p) file tree (asked.Run own faults rules protocol) names asked =
+check_of words (Some p) file tree (asked.Run own faults shown protocol) names asked =
     let pair : named_check p ≡ (codes "check", Some file, Some tree, false, None) = some_is _ _ names in
     absurd (check_or_run p.0 (ap (λ (q : Check). q.0) pair) asked.0.0)
+check_of words (Some p) file tree (asked.Draw own drawn_faults protocol) names asked =
+    let pair : named_check p ≡ (codes "check", Some file, Some tree, false, None) = some_is _ _ names in
+    absurd (check_or_draw p.0 (ap (λ (q : Check). q.0) pair) asked.0.0)
 check_of words (Some p) file tree (asked.Check own own_tree quiet protocol) names asked =
     let pair : named_check p ≡ (codes "check", Some file, Some tree, false, None) = some_is _ _ names in
     let same : own.bytes.items ≡ file = some_is _ _ (sym asked.0.1 ∙ ap (λ (q : Check). q.1) pair) in
@@ -235,9 +315,12 @@ answer_of words None file a names asked = elim asked [ ]
 answer_of words (Some p) file (asked.Search own tree all workers quiet protocol) names asked =
     let found : named_one p ≡ (codes "answer", Some file, false, None) = some_is _ _ names in
     absurd (answer_or_search p.0 (ap (λ (q : One). q.0) found) asked.0.0)
-answer_of words (Some p) file (asked.Run own faults rules protocol) names asked =
+answer_of words (Some p) file (asked.Run own faults shown protocol) names asked =
     let found : named_one p ≡ (codes "answer", Some file, false, None) = some_is _ _ names in
     absurd (answer_or_run p.0 (ap (λ (q : One). q.0) found) asked.0.0)
+answer_of words (Some p) file (asked.Draw own drawn_faults protocol) names asked =
+    let found : named_one p ≡ (codes "answer", Some file, false, None) = some_is _ _ names in
+    absurd (answer_or_draw p.0 (ap (λ (q : One). q.0) found) asked.0.0)
 answer_of words (Some p) file (asked.Check own tree quiet protocol) names asked =
     let found : named_one p ≡ (codes "answer", Some file, false, None) = some_is _ _ names in
     absurd (answer_or_check p.0 (ap (λ (q : One). q.0) found) asked.0.0)
@@ -273,9 +356,12 @@ protocol_of words None file a names asked = elim asked [ ]
 protocol_of words (Some p) file (asked.Search own tree all workers quiet protocol) names asked =
     let found : named_alone p ≡ (codes "protocol", Some file) = some_is _ _ names in
     absurd (protocol_or_search p.0 (ap (λ (q : Alone). q.0) found) asked.0.0)
-protocol_of words (Some p) file (asked.Run own faults rules protocol) names asked =
+protocol_of words (Some p) file (asked.Run own faults shown protocol) names asked =
     let found : named_alone p ≡ (codes "protocol", Some file) = some_is _ _ names in
     absurd (protocol_or_run p.0 (ap (λ (q : Alone). q.0) found) asked.0.0)
+protocol_of words (Some p) file (asked.Draw own drawn_faults protocol) names asked =
+    let found : named_alone p ≡ (codes "protocol", Some file) = some_is _ _ names in
+    absurd (protocol_or_draw p.0 (ap (λ (q : Alone). q.0) found) asked.0.0)
 protocol_of words (Some p) file (asked.Check own tree quiet protocol) names asked =
     let found : named_alone p ≡ (codes "protocol", Some file) = some_is _ _ names in
     absurd (protocol_or_check p.0 (ap (λ (q : Alone). q.0) found) asked.0.0)
@@ -299,7 +385,8 @@ asks_protocol words (Some p) file names is =
 pub counted : (words : List Text) (o : Option (Text × List Row)) (a : Asked) → IsAskedIn words o a → IsUncounted o → ⊥
 counted words None a asked uncounted = elim asked [ ]
 counted words (Some p) (asked.Search file tree all workers quiet protocol) asked uncounted = uncounted.1 workers asked.0.4
-counted words (Some p) (asked.Run file faults rules protocol) asked uncounted = run_or_search p.0 asked.0.0 uncounted.0
+counted words (Some p) (asked.Run file faults shown protocol) asked uncounted = run_or_search p.0 asked.0.0 uncounted.0
+counted words (Some p) (asked.Draw file faults protocol) asked uncounted = draw_or_search p.0 asked.0.0 uncounted.0
 counted words (Some p) (asked.Check file tree quiet protocol) asked uncounted = check_or_search p.0 asked.0.0 uncounted.0
 counted words (Some p) (asked.Answer file quiet protocol) asked uncounted = answer_or_search p.0 asked.0.0 uncounted.0
 counted words (Some p) (asked.Protocol file) asked uncounted = protocol_or_search p.0 asked.0.0 uncounted.0
@@ -336,15 +423,19 @@ one_is command file plain =
 
 abbrev IsOfTwo : Text → Text → Text → Type 0
 IsOfTwo command one other =
-    (command ≡ codes "run") ⊎ ((command ≡ codes "check") × (not (is_input one && is_input other) ≡ true))
+    (command ≡ codes "run") ⊎ ((command ≡ codes "draw") ⊎ ((command ≡ codes "check") × (not (is_input one && is_input other) ≡ true)))
 
 command_is : (command one other : Text) → takes_two command one other ≡ true → IsOfTwo command one other
 command_is command one other takes =
-    elim (either (bytes_eq command (codes "run")) (bytes_eq command (codes "check") && not (is_input one && is_input other)) takes) [
+    let checks = bytes_eq command (codes "check") && not (is_input one && is_input other) in
+    elim (either (bytes_eq command (codes "run")) (bytes_eq command (codes "draw") || checks) takes) [
       | inl run ↦ inl ((bytes_eq-Decides command (codes "run")).0 run)
-      | inr check ↦
-          let h = both (bytes_eq command (codes "check")) (not (is_input one && is_input other)) check in
-          inr ((bytes_eq-Decides command (codes "check")).0 h.0, h.1)
+      | inr other_one ↦ inr (elim (either (bytes_eq command (codes "draw")) checks other_one) [
+        | inl draw ↦ inl ((bytes_eq-Decides command (codes "draw")).0 draw)
+        | inr check ↦
+            let h = both (bytes_eq command (codes "check")) (not (is_input one && is_input other)) check in
+            inr ((bytes_eq-Decides command (codes "check")).0 h.0, h.1)
+      ])
     ]
 
 two_are : (command one other : Text) → is_plain_command (command ∷ one ∷ other ∷ []) ≡ true → IsOfTwo command one other × IsTaken one × IsTaken other
@@ -371,7 +462,9 @@ asks_plainly (command ∷ one ∷ other ∷ []) a plain asks =
     elim is.0 [
       | inl run ↦ subst (λ c. Asks (c ∷ one ∷ other ∷ []) a → IsPlainly (c ∷ one ∷ other ∷ []) a) (sym run)
           (λ h. run_of _ (subcommand_of program (codes "run" ∷ one ∷ other ∷ [])) one other a (run_names one other is.1 is.2) h.1) asks
-      | inr check ↦ subst (λ c. Asks (c ∷ one ∷ other ∷ []) a → IsPlainly (c ∷ one ∷ other ∷ []) a) (sym check.0)
+      | inr (inl draw) ↦ subst (λ c. Asks (c ∷ one ∷ other ∷ []) a → IsPlainly (c ∷ one ∷ other ∷ []) a) (sym draw)
+          (λ h. draw_of _ (subcommand_of program (codes "draw" ∷ one ∷ other ∷ [])) one other a (draw_names one other is.1 is.2) h.1) asks
+      | inr (inr check) ↦ subst (λ c. Asks (c ∷ one ∷ other ∷ []) a → IsPlainly (c ∷ one ∷ other ∷ []) a) (sym check.0)
           (λ h. check_of _ (subcommand_of program (codes "check" ∷ one ∷ other ∷ [])) one other a (check_names one other is.1 is.2) h.1) asks
     ]
 asks_plainly (command ∷ one ∷ other ∷ more ∷ rest) a plain asks = absurd (no_truth plain)
@@ -380,11 +473,13 @@ asks_plainly (command ∷ one ∷ other ∷ more ∷ rest) a plain asks = absurd
 shared_not_plain : (a : Asked) (shared : Bool) → shares_input a ≡ shared → is_plain_command (texts_of a) ≡ true → shares_input a ≡ false
 shared_not_plain a false is plain = is
 shared_not_plain (asked.Search file tree all workers quiet protocol) true is plain = absurd (no_truth is)
-shared_not_plain (asked.Run file faults rules protocol) true is plain = absurd (no_truth is)
+shared_not_plain (asked.Run file faults shown protocol) true is plain = absurd (no_truth is)
+shared_not_plain (asked.Draw file faults protocol) true is plain = absurd (no_truth is)
 shared_not_plain (asked.Check file tree quiet protocol) true is plain =
     elim (two_are (codes "check") file.bytes.items tree.bytes.items plain).0 [
       | inl run ↦ absurd (check_or_run (codes "check") refl run)
-      | inr check ↦ absurd (no_truth (sym (not-true _ check.1) ∙ is))
+      | inr (inl draw) ↦ absurd (check_or_draw (codes "check") refl draw)
+      | inr (inr check) ↦ absurd (no_truth (sym (not-true _ check.1) ∙ is))
     ]
 shared_not_plain (asked.Answer file quiet protocol) true is plain = absurd (no_truth is)
 shared_not_plain (asked.Protocol file) true is plain = absurd (no_truth is)
@@ -393,7 +488,8 @@ shared_not_plain (asked.Protocol file) true is plain = absurd (no_truth is)
 unwritten_is_kept : (a : Asked) → written_to a ≡ None → overwrites a ≡ false
 unwritten_is_kept (asked.Search file None all workers quiet protocol) unwritten = refl
 unwritten_is_kept (asked.Search file (Some tree) all workers quiet protocol) unwritten = absurd (no_thing _ (sym unwritten))
-unwritten_is_kept (asked.Run file faults rules protocol) unwritten = refl
+unwritten_is_kept (asked.Run file faults shown protocol) unwritten = refl
+unwritten_is_kept (asked.Draw file faults protocol) unwritten = refl
 unwritten_is_kept (asked.Check file tree quiet protocol) unwritten = refl
 unwritten_is_kept (asked.Answer file quiet protocol) unwritten = refl
 unwritten_is_kept (asked.Protocol file) unwritten = refl
@@ -447,13 +543,22 @@ asks_some (command ∷ one ∷ other ∷ []) plain =
       | inl run ↦
           let words = codes "run" ∷ string_bytes one ∷ string_bytes other ∷ [] in
           subst (λ c. (a : Asked) × Asks (c ∷ string_bytes one ∷ string_bytes other ∷ []) a) (sym run) (
-            asked.Run one other false None,
+            asked.Run one other shown.Whole None,
             (
               run_fault (string_bytes one) (string_bytes other) is.1 is.2,
               asks_run words (subcommand_of program words) one other (run_names (string_bytes one) (string_bytes other) is.1 is.2) refl,
             ),
           )
-      | inr check ↦
+      | inr (inl draw) ↦
+          let words = codes "draw" ∷ string_bytes one ∷ string_bytes other ∷ [] in
+          subst (λ c. (a : Asked) × Asks (c ∷ string_bytes one ∷ string_bytes other ∷ []) a) (sym draw) (
+            asked.Draw one other None,
+            (
+              draw_fault (string_bytes one) (string_bytes other) is.1 is.2,
+              asks_draw words (subcommand_of program words) one other (draw_names (string_bytes one) (string_bytes other) is.1 is.2) refl,
+            ),
+          )
+      | inr (inr check) ↦
           let words = codes "check" ∷ string_bytes one ∷ string_bytes other ∷ [] in
           subst (λ c. (a : Asked) × Asks (c ∷ string_bytes one ∷ string_bytes other ∷ []) a) (sym check.0) (
             asked.Check one other false None,
@@ -499,7 +604,8 @@ size (x ∷ y ∷ z ∷ more ∷ rest) = 4
 
 shared_is : (a : Asked) → texts_of a ≡ shared_words → shares_input a ≡ true
 shared_is (asked.Search file tree all workers quiet protocol) is = absurd (apart 2 3 (omega arith) (ap size is))
-shared_is (asked.Run file faults rules protocol) is = absurd (check_or_run (codes "check") refl (sym (ap head is)))
+shared_is (asked.Run file faults shown protocol) is = absurd (check_or_run (codes "check") refl (sym (ap head is)))
+shared_is (asked.Draw file faults protocol) is = absurd (check_or_draw (codes "check") refl (sym (ap head is)))
 shared_is (asked.Check file tree quiet protocol) is =
     let one : is_input file.bytes.items ≡ true = (bytes_eq-Decides file.bytes.items (codes "-")).1 (ap second is) in
     let other : is_input tree.bytes.items ≡ true = (bytes_eq-Decides tree.bytes.items (codes "-")).1 (ap third is) in
@@ -564,13 +670,15 @@ unknown_is [] unknown = absurd (no_truth unknown)
 unknown_is (word ∷ words) unknown =
     let no_answer = not (bytes_eq (codes "answer") word) && not (bytes_eq (codes "protocol") word) in
     let no_check = not (bytes_eq (codes "check") word) && no_answer in
-    let no_run = not (bytes_eq (codes "run") word) && no_check in
+    let no_draw = not (bytes_eq (codes "draw") word) && no_check in
+    let no_run = not (bytes_eq (codes "run") word) && no_draw in
     let h = both (is_plain word) (not (bytes_eq (codes "search") word) && no_run) unknown in
     let k = both (not (bytes_eq (codes "search") word)) no_run h.1 in
-    let l = both (not (bytes_eq (codes "run") word)) no_check k.1 in
-    let m = both (not (bytes_eq (codes "check") word)) no_answer l.1 in
+    let l = both (not (bytes_eq (codes "run") word)) no_draw k.1 in
+    let d = both (not (bytes_eq (codes "draw") word)) no_check l.1 in
+    let m = both (not (bytes_eq (codes "check") word)) no_answer d.1 in
     let n = both (not (bytes_eq (codes "answer") word)) (not (bytes_eq (codes "protocol") word)) m.1 in
-    unknown_fault word words (is_taken word h.0) (not-true _ k.0) (not-true _ l.0) (not-true _ m.0) (not-true _ n.0) (not-true _ n.1)
+    unknown_fault word words (is_taken word h.0) (not-true _ k.0) (not-true _ l.0) (not-true _ d.0) (not-true _ m.0) (not-true _ n.0) (not-true _ n.1)
 
 abbrev kinds_count : Kinds → ℕ
 kinds_count [] = 0

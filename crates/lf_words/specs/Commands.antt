@@ -46,6 +46,18 @@ known = option (codes "protocol")
 abbrev pub rules : Rule
 rules = flag (codes "rules")
 
+-- the flag --changes
+abbrev pub changes : Rule
+changes = flag (codes "changes")
+
+-- the flag --json
+abbrev pub json : Rule
+json = flag (codes "json")
+
+-- the option --beside FAULTS
+abbrev pub beside : Rule
+beside = option (codes "beside")
+
 -- a command with this name and the argument FILE
 abbrev pub of_file : Text → App
 of_file name = with_rule (new_app name) file
@@ -79,12 +91,32 @@ abbrev pub bare_run : App
 bare_run = with_rule (of_file (codes "run")) faults
 
 -- run FILE FAULTS, with --rules alone
+abbrev pub ruled_run : App
+ruled_run = with_rule bare_run rules
+
+-- run FILE FAULTS, with --rules and --changes
+abbrev pub changed_run : App
+changed_run = with_rule ruled_run changes
+
+-- run FILE FAULTS, with --rules, --changes and --json
+abbrev pub written_run : App
+written_run = with_rule changed_run json
+
+-- run FILE FAULTS, without --protocol
 abbrev pub shipped_run : App
-shipped_run = with_rule bare_run rules
+shipped_run = with_rule written_run beside
 
 -- run FILE FAULTS
 abbrev pub run : App
 run = with_rule shipped_run known
+
+-- draw FILE FAULTS, without its option
+abbrev pub shipped_draw : App
+shipped_draw = with_rule (of_file (codes "draw")) faults
+
+-- draw FILE FAULTS
+abbrev pub draw : App
+draw = with_rule shipped_draw known
 
 -- the argument TREE
 abbrev pub tree : Rule
@@ -126,8 +158,11 @@ plain = on_top (λ s. record s {
 abbrev pub without_run : App
 without_run = with_subcommand plain search.top
 
+abbrev pub without_draw : App
+without_draw = with_subcommand without_run run.top
+
 abbrev pub without_check : App
-without_check = with_subcommand without_run run.top
+without_check = with_subcommand without_draw draw.top
 
 abbrev pub without_answer : App
 without_answer = with_subcommand without_check check.top

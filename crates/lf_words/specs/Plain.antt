@@ -13,13 +13,14 @@ is_plain (x ∷ y ∷ rest) = not (x == 45)
 -- the command takes two words, and these: `check` takes standard input for one of them at most
 abbrev pub takes_two : Text → Text → Text → Bool
 takes_two command one other =
-    bytes_eq command (codes "run") || (bytes_eq command (codes "check") && not (is_input one && is_input other))
+    bytes_eq command (codes "run")
+    || (bytes_eq command (codes "draw") || (bytes_eq command (codes "check") && not (is_input one && is_input other)))
 
 -- the command takes one word
 abbrev pub takes_one : Text → Bool
 takes_one command = bytes_eq command (codes "search") || (bytes_eq command (codes "answer") || bytes_eq command (codes "protocol"))
 
--- search FILE, answer FILE, protocol FILE, run FILE FAULTS, or check FILE TREE
+-- search FILE, answer FILE, protocol FILE, run FILE FAULTS, draw FILE FAULTS, or check FILE TREE
 abbrev pub is_plain_command : List Text → Bool
 is_plain_command (command ∷ file ∷ []) = takes_one command && is_plain file
 is_plain_command (command ∷ one ∷ other ∷ []) = takes_two command one other && (is_plain one && is_plain other)
@@ -46,4 +47,5 @@ abbrev pub is_unknown : List Text → Bool
 is_unknown [] = false
 is_unknown (word ∷ words) =
     is_plain word && (not (bytes_eq (codes "search") word) && (not (bytes_eq (codes "run") word)
-    && (not (bytes_eq (codes "check") word) && (not (bytes_eq (codes "answer") word) && not (bytes_eq (codes "protocol") word)))))
+    && (not (bytes_eq (codes "draw") word) && (not (bytes_eq (codes "check") word)
+    && (not (bytes_eq (codes "answer") word) && not (bytes_eq (codes "protocol") word))))))

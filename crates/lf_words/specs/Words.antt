@@ -10,6 +10,8 @@ use Rattle.lf_words.specs.Commands.{program}
 use Rattle.lf_words.specs.Statuses.{status_of}
 use Rattle.lf_words.specs.declared.types.Asked.{Asked}
 use Rattle.lf_words.specs.declared.types.Asked.TheVariants as asked
+use Rattle.lf_words.specs.declared.types.Shown.{Shown}
+use Rattle.lf_words.specs.declared.types.Shown.TheVariants as shown
 use Rattle.lf_words.specs.declared.unasked.Unasked.{Unasked}
 use Rattle.lf_words.specs.declared.unasked.Unasked.TheVariants as unasked
 
@@ -22,7 +24,8 @@ IsPartOf (text ∷ texts) (word ∷ words) = ((text ≡ word) × IsPartOf texts 
 -- the file of the scenario, or of the protocol
 abbrev pub file_of : Asked → Text
 file_of (asked.Search file tree all workers quiet protocol) = file.bytes.items
-file_of (asked.Run file faults rules protocol) = file.bytes.items
+file_of (asked.Run file faults shown protocol) = file.bytes.items
+file_of (asked.Draw file faults protocol) = file.bytes.items
 file_of (asked.Check file tree quiet protocol) = file.bytes.items
 file_of (asked.Answer file quiet protocol) = file.bytes.items
 file_of (asked.Protocol file) = file.bytes.items
@@ -30,7 +33,8 @@ file_of (asked.Protocol file) = file.bytes.items
 -- the command, and what it requires
 abbrev pub texts_of : Asked → List Text
 texts_of (asked.Search file tree all workers quiet protocol) = codes "search" ∷ file.bytes.items ∷ []
-texts_of (asked.Run file faults rules protocol) = codes "run" ∷ file.bytes.items ∷ faults.bytes.items ∷ []
+texts_of (asked.Run file faults shown protocol) = codes "run" ∷ file.bytes.items ∷ faults.bytes.items ∷ []
+texts_of (asked.Draw file faults protocol) = codes "draw" ∷ file.bytes.items ∷ faults.bytes.items ∷ []
 texts_of (asked.Check file tree quiet protocol) = codes "check" ∷ file.bytes.items ∷ tree.bytes.items ∷ []
 texts_of (asked.Answer file quiet protocol) = codes "answer" ∷ file.bytes.items ∷ []
 texts_of (asked.Protocol file) = codes "protocol" ∷ file.bytes.items ∷ []
@@ -38,7 +42,8 @@ texts_of (asked.Protocol file) = codes "protocol" ∷ file.bytes.items ∷ []
 -- the file for a certificate that is to be written
 abbrev pub written_to : Asked → Option Text
 written_to (asked.Search file tree all workers quiet protocol) = option_map (λ t. t.bytes.items) tree
-written_to (asked.Run file faults rules protocol) = None
+written_to (asked.Run file faults shown protocol) = None
+written_to (asked.Draw file faults protocol) = None
 written_to (asked.Check file tree quiet protocol) = None
 written_to (asked.Answer file quiet protocol) = None
 written_to (asked.Protocol file) = None
@@ -46,7 +51,8 @@ written_to (asked.Protocol file) = None
 -- all least sets are to be told
 abbrev pub wants_all : Asked → Bool
 wants_all (asked.Search file tree all workers quiet protocol) = all
-wants_all (asked.Run file faults rules protocol) = false
+wants_all (asked.Run file faults shown protocol) = false
+wants_all (asked.Draw file faults protocol) = false
 wants_all (asked.Check file tree quiet protocol) = false
 wants_all (asked.Answer file quiet protocol) = false
 wants_all (asked.Protocol file) = false
@@ -54,7 +60,8 @@ wants_all (asked.Protocol file) = false
 -- how many workers are to do it
 abbrev pub workers_of : Asked → ℕ
 workers_of (asked.Search file tree all workers quiet protocol) = workers
-workers_of (asked.Run file faults rules protocol) = 1
+workers_of (asked.Run file faults shown protocol) = 1
+workers_of (asked.Draw file faults protocol) = 1
 workers_of (asked.Check file tree quiet protocol) = 1
 workers_of (asked.Answer file quiet protocol) = 1
 workers_of (asked.Protocol file) = 1
@@ -62,7 +69,8 @@ workers_of (asked.Protocol file) = 1
 -- nothing is to be told on the way
 abbrev pub is_quiet : Asked → Bool
 is_quiet (asked.Search file tree all workers quiet protocol) = quiet
-is_quiet (asked.Run file faults rules protocol) = false
+is_quiet (asked.Run file faults shown protocol) = false
+is_quiet (asked.Draw file faults protocol) = false
 is_quiet (asked.Check file tree quiet protocol) = quiet
 is_quiet (asked.Answer file quiet protocol) = quiet
 is_quiet (asked.Protocol file) = false
@@ -70,18 +78,28 @@ is_quiet (asked.Protocol file) = false
 -- the file of the protocol that the scenario may name besides the shipped ones
 abbrev pub protocol_file : Asked → Option Text
 protocol_file (asked.Search file tree all workers quiet protocol) = option_map (λ t. t.bytes.items) protocol
-protocol_file (asked.Run file faults rules protocol) = option_map (λ t. t.bytes.items) protocol
+protocol_file (asked.Run file faults shown protocol) = option_map (λ t. t.bytes.items) protocol
+protocol_file (asked.Draw file faults protocol) = option_map (λ t. t.bytes.items) protocol
 protocol_file (asked.Check file tree quiet protocol) = option_map (λ t. t.bytes.items) protocol
 protocol_file (asked.Answer file quiet protocol) = option_map (λ t. t.bytes.items) protocol
 protocol_file (asked.Protocol file) = None
 
+-- what is to be told of a run
+abbrev pub shown_of : Asked → Shown
+shown_of (asked.Search file tree all workers quiet protocol) = shown.Whole
+shown_of (asked.Run file faults shown protocol) = shown
+shown_of (asked.Draw file faults protocol) = shown.Whole
+shown_of (asked.Check file tree quiet protocol) = shown.Whole
+shown_of (asked.Answer file quiet protocol) = shown.Whole
+shown_of (asked.Protocol file) = shown.Whole
+
 -- the rules that were taken are to be told
-abbrev pub shows_rules : Asked → Bool
-shows_rules (asked.Search file tree all workers quiet protocol) = false
-shows_rules (asked.Run file faults rules protocol) = rules
-shows_rules (asked.Check file tree quiet protocol) = false
-shows_rules (asked.Answer file quiet protocol) = false
-shows_rules (asked.Protocol file) = false
+abbrev pub are_rules : Shown → Bool
+are_rules shown.Whole = false
+are_rules shown.Rules = true
+are_rules shown.Changes = false
+are_rules shown.Json = false
+are_rules (shown.Beside other) = false
 
 -- just these words are asked for, and no option
 pub record IsPlainly (words : List Text) (a : Asked) : Type 0 where
@@ -91,7 +109,7 @@ pub record IsPlainly (words : List Text) (a : Asked) : Type 0 where
   pub alone : workers_of a ≡ 1
   pub told : is_quiet a ≡ false
   pub shipped : protocol_file a ≡ None
-  pub short : shows_rules a ≡ false
+  pub short : shown_of a ≡ shown.Whole
 
 -- the file is standard input
 abbrev pub is_input : Text → Bool
@@ -100,7 +118,8 @@ is_input file = bytes_eq file (codes "-")
 -- two texts are to be read from standard input
 abbrev pub shares_input : Asked → Bool
 shares_input (asked.Search file tree all workers quiet protocol) = false
-shares_input (asked.Run file faults rules protocol) = false
+shares_input (asked.Run file faults shown protocol) = false
+shares_input (asked.Draw file faults protocol) = false
 shares_input (asked.Check file tree quiet protocol) = is_input file.bytes.items && is_input tree.bytes.items
 shares_input (asked.Answer file quiet protocol) = false
 shares_input (asked.Protocol file) = false
@@ -117,14 +136,15 @@ overwrites (asked.Search file None all workers quiet protocol) = false
 overwrites (asked.Search file (Some tree) all workers quiet protocol) =
     (not (is_input file.bytes.items) && bytes_eq file.bytes.items tree.bytes.items)
     || has_name tree.bytes.items (option_map (λ t. t.bytes.items) protocol)
-overwrites (asked.Run file faults rules protocol) = false
+overwrites (asked.Run file faults shown protocol) = false
+overwrites (asked.Draw file faults protocol) = false
 overwrites (asked.Check file tree quiet protocol) = false
 overwrites (asked.Answer file quiet protocol) = false
 overwrites (asked.Protocol file) = false
 
 -- rules are to be told, and there is no protocol file that has some
 abbrev pub lacks_protocol : Asked → Bool
-lacks_protocol a = shows_rules a && is_none (protocol_file a)
+lacks_protocol a = are_rules (shown_of a) && is_none (protocol_file a)
 
 -- what is asked for can be done
 pub record CanBeDone (a : Asked) : Type 0 where
@@ -147,15 +167,42 @@ AreNamed None n = n ≡ 1
 AreNamed (Some text) n =
     IsNumeral 10 (without_leading_plus text) × (digits_value 10 (without_leading_plus text) ≡ n) × IsWorkers n
 
+-- what `clap` has of --rules, --changes, --json and --beside
+abbrev pub Flags : Type 0
+Flags = Bool × Bool × Bool × Option Text
+
+abbrev pub shown_flags : List Row → Flags
+shown_flags rows = (
+  is_set (first_of (codes "rules") rows),
+  is_set (first_of (codes "changes") rows),
+  is_set (first_of (codes "json") rows),
+  first_of (codes "beside") rows,
+)
+
+-- by these this is told of a run: one of them at most is there
+abbrev pub flags_of : Shown → Flags
+flags_of shown.Whole = (false, false, false, None)
+flags_of shown.Rules = (true, false, false, None)
+flags_of shown.Changes = (false, true, false, None)
+flags_of shown.Json = (false, false, true, None)
+flags_of (shown.Beside other) = (false, false, false, Some other.bytes.items)
+
+-- the same of what may be nothing, where nothing is told by these
+abbrev pub IsShownBy : Flags → Option Shown → Type 0
+IsShownBy flags (Some told) = flags ≡ flags_of told
+IsShownBy flags None = (told : Shown) → flags ≡ flags_of told → ⊥
+
 -- the command of this name with these matches asks for this
 abbrev pub IsMatched : Text → List Row → Asked → Type 0
 IsMatched name rows (asked.Search file tree all workers quiet protocol) = (name ≡ codes "search") × (first_of (codes "file") rows ≡ Some file.bytes.items)
     × (first_of (codes "tree") rows ≡ option_map (λ t. t.bytes.items) tree) × (is_set (first_of (codes "all") rows) ≡ all)
     × AreNamed (first_of (codes "workers") rows) workers × (is_set (first_of (codes "quiet") rows) ≡ quiet)
     × (first_of (codes "protocol") rows ≡ option_map (λ t. t.bytes.items) protocol)
-IsMatched name rows (asked.Run file faults rules protocol) = (name ≡ codes "run") × (first_of (codes "file") rows ≡ Some file.bytes.items)
-    × (first_of (codes "faults") rows ≡ Some faults.bytes.items) × (is_set (first_of (codes "rules") rows) ≡ rules)
+IsMatched name rows (asked.Run file faults shown protocol) = (name ≡ codes "run") × (first_of (codes "file") rows ≡ Some file.bytes.items)
+    × (first_of (codes "faults") rows ≡ Some faults.bytes.items) × (shown_flags rows ≡ flags_of shown)
     × (first_of (codes "protocol") rows ≡ option_map (λ t. t.bytes.items) protocol)
+IsMatched name rows (asked.Draw file faults protocol) = (name ≡ codes "draw") × (first_of (codes "file") rows ≡ Some file.bytes.items)
+    × (first_of (codes "faults") rows ≡ Some faults.bytes.items) × (first_of (codes "protocol") rows ≡ option_map (λ t. t.bytes.items) protocol)
 IsMatched name rows (asked.Check file tree quiet protocol) = (name ≡ codes "check") × (first_of (codes "file") rows ≡ Some file.bytes.items)
     × (first_of (codes "tree") rows ≡ Some tree.bytes.items) × (is_set (first_of (codes "quiet") rows) ≡ quiet)
     × (first_of (codes "protocol") rows ≡ option_map (λ t. t.bytes.items) protocol)

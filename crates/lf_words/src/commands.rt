@@ -2,7 +2,7 @@
 
 ghost use Rattle.std.specs.Prelude.{◌≡◌, IfOk, false};
 ghost use Rattle.clap.specs.Words.{App, Rule, app_of, rule_of, with_rule, with_subcommand};
-ghost use Rattle.lf_words.specs.Commands.{IsBuilt, answer, check, flag, known, of_file, option, plain, positional, program, protocol, quiet, run, search};
+ghost use Rattle.lf_words.specs.Commands.{IsBuilt, answer, check, draw, faults, flag, known, of_file, option, plain, positional, program, protocol, quiet, run, search};
 
 use clap::{Arg, ArgAction, Command};
 use std::alloc::{AllocError, Global};
@@ -21,7 +21,8 @@ const NOTES: &str = "Arguments:
   FAULTS  faults joined by single commas: 'omit 0>1 @2,crash 2 @3'; '' is no fault
   TREE    a certificate, a JSON file; - is standard input, but not for FILE and TREE at once. After --tree it is the file to write
 
-A scenario may name a protocol of your own: --protocol PROTOCOL gives its file, for search, run, check and answer.
+A scenario may name a protocol of your own: --protocol PROTOCOL gives its file, for search, run, draw, check and
+answer.
 
 Exit status:
   0  no allowed faults make the scenario miss its outcome, the run reaches it, or the certificate or the protocol file is right; also help
@@ -47,8 +48,19 @@ Exit status:
   3  out of memory (`memory`), a file or stream failed (`read`, `write`), or the workers gave no answer (`pool NUMBER`)";
 
 /// An example of `run`, and its statuses.
-const RUN_NOTES: &str = "Example:
+const RUN_NOTES: &str = "Examples:
   leastfault run commit.toml 'omit 0>1 @1,crash 0 @2'
+  leastfault run commit.toml 'omit 0>1 @1,crash 0 @2' --beside ''
+
+Exit status:
+  0  the run reaches the outcome
+  1  the run misses the outcome
+  2  the arguments, the protocol file, the scenario or the faults are refused
+  3  out of memory (`memory`), or a file or stream failed (`read`, `write`)";
+
+/// An example of `draw`, and its statuses.
+const DRAW_NOTES: &str = "Example:
+  leastfault draw commit.toml 'omit 0>1 @1,crash 0 @2' > commit.svg
 
 Exit status:
   0  the run reaches the outcome
@@ -95,6 +107,7 @@ pub(crate) fn program<'a>(alloc: Global) -> Result<Command<'a>, AllocError>
 {
     let program = with_command(plain(alloc), search(alloc));
     let program = with_command(program, run(alloc));
+    let program = with_command(program, draw(alloc));
     let program = with_command(program, check(alloc));
     let program = with_command(program, answer(alloc));
     with_command(program, protocol(alloc))
@@ -147,7 +160,7 @@ fn search<'a>(alloc: Global) -> Result<Command<'a>, AllocError>
     with_argument(command, known(alloc))
 }
 
-/// The command `run FILE FAULTS`, with the flag `--rules` and the option `--protocol PROTOCOL`.
+/// The command `run FILE FAULTS`, with the flags `--rules`, `--changes` and `--json` and the options `--beside FAULTS` and `--protocol PROTOCOL`.
 fn run<'a>(alloc: Global) -> Result<Command<'a>, AllocError>
     ensures { IfOk result (IsBuilt run) }
 {
@@ -158,19 +171,53 @@ fn run<'a>(alloc: Global) -> Result<Command<'a>, AllocError>
         "Runs the scenario FILE with the faults FAULTS and prints each step",
         RUN_NOTES,
     );
-    let faults = positional(
-        alloc,
-        "faults",
-        "FAULTS",
-        "Faults joined by single commas: 'omit 0>1 @2,crash 2 @3'; '' is no fault",
-    );
     let rules = flag(
         alloc,
         "rules",
         "Shows under each step which rules of the protocol file PROTOCOL each node took",
     );
-    let command = with_argument(with_argument(command, faults), rules);
+    let changes = flag(
+        alloc,
+        "changes",
+        "Shows of each step only the nodes that change, and the messages",
+    );
+    let json = flag(alloc, "json", "Shows the run as one JSON document");
+    let beside = option(
+        alloc,
+        "beside",
+        "FAULTS",
+        "Shows only the lines that differ from the run with these FAULTS: - for that run, + for this one",
+    );
+    let command = with_argument(with_argument(command, faults(alloc)), rules);
+    let command = with_argument(with_argument(command, changes), json);
+    let command = with_argument(command, beside);
     with_argument(command, known(alloc))
+}
+
+/// The argument FAULTS.
+fn faults<'a>(alloc: Global) -> Arg<'a>
+    ensures { (rule_of result ≡ faults) × (result.global ≡ false) }
+{
+    positional(
+        alloc,
+        "faults",
+        "FAULTS",
+        "Faults joined by single commas: 'omit 0>1 @2,crash 2 @3'; '' is no fault",
+    )
+}
+
+/// The command `draw FILE FAULTS`, with the option `--protocol PROTOCOL`.
+fn draw<'a>(alloc: Global) -> Result<Command<'a>, AllocError>
+    ensures { IfOk result (IsBuilt draw) }
+{
+    let command = of_file(
+        alloc,
+        "draw",
+        SCENARIO,
+        "Draws the run of the scenario FILE with the faults FAULTS: prints an SVG picture",
+        DRAW_NOTES,
+    );
+    with_argument(with_argument(command, faults(alloc)), known(alloc))
 }
 
 /// The command `check FILE TREE`, with the flag `--quiet` and the option `--protocol PROTOCOL`.

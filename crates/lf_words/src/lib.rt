@@ -8,6 +8,6 @@ mod unasked;
 mod words;
 
 pub use refusals::shell_word;
-pub use types::Asked;
+pub use types::{Asked, Shown};
 pub use unasked::Unasked;
 pub use words::{MOST_WORKERS, asked};

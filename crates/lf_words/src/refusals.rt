@@ -5,9 +5,10 @@ use lf_near::nearest;
 use std::alloc::{AllocError, Global};
 
 /// The words that a command line can begin with.
-const FIRST_WORDS: [&str; 7] = [
+const FIRST_WORDS: [&str; 8] = [
     "search",
     "run",
+    "draw",
     "check",
     "answer",
     "protocol",

@@ -4,6 +4,21 @@ ghost use Rattle.std.specs.Prelude.{◌≡◌};
 ghost use Rattle.std.specs.Option.{option_map};
 ghost use Rattle.lf_words.specs.Words.{file_of, has_name, lacks_protocol, overwrites, protocol_file, shares_input};
 
+/// What is to be told of a run.
+#[derive(Debug, PartialEq, Eq, Drop)]
+pub enum Shown {
+    /// Its trace.
+    Whole,
+    /// Its trace, and under each step which rules of the protocol file each node took.
+    Rules,
+    /// Of its trace what changes from step to step.
+    Changes,
+    /// Its trace as a JSON document.
+    Json,
+    /// The lines in which its trace differs from that of the run under these faults, as they were written.
+    Beside(String),
+}
+
 /// What a command line asks for. A file stands here as it was written; `-` is standard input, but for a certificate that is to be
 /// written and for the protocol of a scenario, which are files of that name.
 #[derive(Debug, PartialEq, Eq, Drop)]
@@ -29,8 +44,17 @@ pub enum Asked {
         file: String,
         /// The faults, as they were written.
         faults: String,
-        /// Whether the rules that the nodes took are to be told.
-        rules: bool,
+        /// What is to be told of the run.
+        shown: Shown,
+        /// The file of the protocol that the scenario may name besides the shipped ones, if there is one.
+        protocol: Option<String>,
+    },
+    /// To draw the run of a scenario under faults that are given.
+    Draw {
+        /// The file of the scenario.
+        file: String,
+        /// The faults, as they were written.
+        faults: String,
         /// The file of the protocol that the scenario may name besides the shipped ones, if there is one.
         protocol: Option<String>,
     },
@@ -69,6 +93,7 @@ impl Asked {
         match self {
             Asked::Search { file, .. }
             | Asked::Run { file, .. }
+            | Asked::Draw { file, .. }
             | Asked::Check { file, .. }
             | Asked::Answer { file, .. }
             | Asked::Protocol { file } => file.as_str(),
@@ -82,6 +107,7 @@ impl Asked {
         match self {
             Asked::Search { protocol, .. }
             | Asked::Run { protocol, .. }
+            | Asked::Draw { protocol, .. }
             | Asked::Check { protocol, .. }
             | Asked::Answer { protocol, .. } => protocol.as_deref(),
             Asked::Protocol { .. } => None,
@@ -94,11 +120,13 @@ impl Asked {
     {
         match self {
             Asked::Run {
-                rules,
+                shown: Shown::Rules,
                 protocol,
                 ..
-            } => *rules && protocol.is_none(),
+            } => protocol.is_none(),
             Asked::Search { .. }
+            | Asked::Run { .. }
+            | Asked::Draw { .. }
             | Asked::Check { .. }
             | Asked::Answer { .. }
             | Asked::Protocol { .. } => false,
@@ -113,6 +141,7 @@ impl Asked {
             Asked::Check { file, tree, .. } => file.as_str() == "-" && tree.as_str() == "-",
             Asked::Search { .. }
             | Asked::Run { .. }
+            | Asked::Draw { .. }
             | Asked::Answer { .. }
             | Asked::Protocol { .. } => false,
         }
@@ -134,6 +163,7 @@ impl Asked {
             }
             Asked::Search { .. }
             | Asked::Run { .. }
+            | Asked::Draw { .. }
             | Asked::Check { .. }
             | Asked::Answer { .. }
             | Asked::Protocol { .. } => false,

@@ -8,12 +8,12 @@ ghost use Rattle.lf_words.specs.Commands.{program};
 ghost use Rattle.lf_words.specs.Plain.{asks_help, asks_version, is_overwriting, is_plain, is_plain_command, is_unknown};
 ghost use Rattle.lf_words.specs.Statuses.{exit_status};
 ghost use Rattle.lf_words.specs.Words.{Answers, AreNamed, Asks, CanBeDone, IsAnswer, IsAskedBy, IsAskedIn, IsBarred, IsPartOf, IsPlainly};
-ghost use Rattle.lf_words.specs.Words.{IsRefusal, IsToldFor, IsUnread, IsWorkers, is_set, workers_of};
+ghost use Rattle.lf_words.specs.Words.{IsRefusal, IsShownBy, IsToldFor, IsUnread, IsWorkers, is_set, shown_flags, workers_of};
 ghost use Rattle.lf_words.specs.Words.{IsOfWorkers, IsOverwriting};
 
 use crate::commands::program;
 use crate::refusals::wrong_text;
-use crate::{Asked, Unasked};
+use crate::{Asked, Shown, Unasked};
 use clap::error::ErrorKind;
 use clap::{ArgMatches, Error};
 use std::alloc::{AllocError, Global};
@@ -132,6 +132,7 @@ fn command(
     match name {
         "search" => search(alloc, words, rest),
         "run" => run(alloc, words, rest),
+        "draw" => draw(alloc, words, rest),
         "check" => check(alloc, words, rest),
         "answer" => answer(alloc, words, rest),
         "protocol" => protocol(alloc, words, rest),
@@ -207,10 +208,70 @@ fn run(
     if !are_part_of(&["run", file, faults], words) {
         return Ok(None);
     }
+    let Some(shown) = told_by(alloc, matches)? else {
+        return Ok(None);
+    };
     Ok(Some(Asked::Run {
         file: String::from_str(alloc, file)?,
         faults: String::from_str(alloc, faults)?,
-        rules: is_set(matches, "rules"),
+        shown,
+        protocol: text(alloc, matches, "protocol")?,
+    }))
+}
+
+/// What is to be told of a run. None where more than one of `--rules`, `--changes`, `--json` and `--beside` is among the words.
+fn told_by(alloc: Global, matches: &ArgMatches<'_>) -> Result<Option<Shown>, AllocError>
+    ensures { IfOk result (IsShownBy (shown_flags (rows_of (found_of matches.now)))) }
+{
+    let rules = is_set(matches, "rules");
+    let changes = is_set(matches, "changes");
+    let json = is_set(matches, "json");
+    match value(matches, "beside") {
+        None => Ok(told_by_flags(rules, changes, json)),
+        Some(other) => {
+            if rules || changes || json {
+                Ok(None)
+            } else {
+                Ok(Some(Shown::Beside(String::from_str(alloc, other)?)))
+            }
+        }
+    }
+}
+
+/// What is to be told by these flags, without `--beside`. None where more than one is set.
+fn told_by_flags(rules: bool, changes: bool, json: bool) -> Option<Shown>
+    ensures { IsShownBy (rules, changes, json, None) result }
+{
+    match (rules, changes, json) {
+        (false, false, false) => Some(Shown::Whole),
+        (true, false, false) => Some(Shown::Rules),
+        (false, true, false) => Some(Shown::Changes),
+        (false, false, true) => Some(Shown::Json),
+        _ => None,
+    }
+}
+
+/// What the matches of `draw` ask for. None where they ask for nothing that is among the words.
+fn draw(
+    alloc: Global,
+    words: &[String],
+    matches: &ArgMatches<'_>,
+) -> Result<Option<Asked>, AllocError>
+    ensures { IfOk result (IsAnswer (IsAskedBy (map string_bytes words.now) (codes "draw")
+        (rows_of (found_of matches.now)))) }
+{
+    let Some(file) = value(matches, "file") else {
+        return Ok(None);
+    };
+    let Some(faults) = value(matches, "faults") else {
+        return Ok(None);
+    };
+    if !are_part_of(&["draw", file, faults], words) {
+        return Ok(None);
+    }
+    Ok(Some(Asked::Draw {
+        file: String::from_str(alloc, file)?,
+        faults: String::from_str(alloc, faults)?,
         protocol: text(alloc, matches, "protocol")?,
     }))
 }
@@ -323,7 +384,15 @@ fn unread(alloc: Global, matches: &ArgMatches<'_>) -> Result<Unasked, AllocError
         Some(("search", rest)) if workers(rest).is_none() => {
             Ok(Unasked::Workers(uncounted(alloc, value(rest, "workers").unwrap_or(""))?))
         }
-        _ => Ok(Unasked::Wrong(String::from_str(alloc, "error: nothing is asked for\n")?)),
+        _ => Ok(Unasked::Wrong(String::from_str(alloc, nothing_asked(matches))?)),
+    }
+}
+
+/// What to tell of words that `clap` takes with these matches, where they ask for nothing, and the workers aren't why.
+fn nothing_asked(matches: &ArgMatches<'_>) -> &'static str {
+    match matches.subcommand_name() {
+        Some("run") => "--rules, --changes, --json and --beside: one of them at a time\n",
+        _ => "error: nothing is asked for\n",
     }
 }
 

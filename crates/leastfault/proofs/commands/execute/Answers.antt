@@ -14,7 +14,7 @@ reply_to-requires g c =
     let texts = c.in_ok-texts.texts in
     let same : is_some (option_map (λ bytes. bytes.items) texts.tree) ≡ is_some (tree_file c.args.asked.now) =
     front_is_there c.judges_tree.result most_bytes (g.S.Source.left c.args.tree_reader.now) (option_map (λ bytes. bytes.items) texts.tree)
-    c.in_ok-texts.ensures.made.one.2 ∙ c.judges_tree.ensures in
+    c.in_ok-texts.ensures.made.one.0.2 ∙ c.judges_tree.ensures in
     search (rules, same)
 
 pub returns-clause-done : goal.returns-clause-done

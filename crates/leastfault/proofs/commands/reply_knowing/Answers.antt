@@ -1,9 +1,11 @@
 use Rattle.std.proofs.Common.{◌≡◌, subst, option_map, string_bytes}
 use Rattle.lf_words.specs.declared.types.Asked.TheVariants as asked
-use Rattle.leastfault.specs.Commands.{IsCheckOf, IsDoneFor, tells_rules}
+use Rattle.leastfault.specs.Commands.{IsCheckOf, IsDoneFor}
 use Rattle.leastfault.specs.Known.{known_of}
 use Rattle.leastfault.specs.Protocols.{IsProtocolReply}
-use Rattle.leastfault.specs.Replies.{IsAnswerReply, IsRunReply}
+use Rattle.leastfault.specs.Replies.{IsAnswerReply}
+use Rattle.leastfault.specs.Shown.{IsShownReply, IsToldReply}
+use Rattle.leastfault.specs.declared.shown.Told.TheVariants as tells
 use Rattle.leastfault.proofs.CommandLemmas.{Done, done_alone, done_certified, done_uncertified}
 use Rattle.leastfault.proofs.commands.reply_knowing.Goals as goal
 
@@ -39,20 +41,35 @@ returns-in_ok-answer_reply-in-Answer g c =
     (done_alone known text tree c.args.asked.now (asked.Answer arm.file arm.quiet arm.protocol) (IsAnswerReply known text)
     c.in_ok-answer_reply-in-Answer.field-0 told arm.is (λ reply ended is. is) c.in_ok-answer_reply-in-Answer.ensures c.alone.ensures)
 
-pub returns-in_ok-run_asked-in-Run : goal.returns-in_ok-run_asked-in-Run
-returns-in_ok-run_asked-in-Run g c =
+pub returns-in_ok-shown_reply-in-Run : goal.returns-in_ok-shown_reply-in-Run
+returns-in_ok-shown_reply-in-Run g c =
     let arm = c.in-Run in
     let known = known_of c.args.known in
     let text = c.as_slice-text.result.now in
     let tree = option_map (λ bytes. bytes.items) c.args.texts.now.tree in
-    let made = c.in_ok-run_asked-in-Run.field-0 in
+    let made = c.in_ok-shown_reply-in-Run.field-0 in
     let told = c.alone-in-Run.result in
-    let replied = subst (λ words. IsRunReply known (tells_rules known arm.rules) words text (string_bytes made.text) made.value) c.as_str.ensures.value
-    c.in_ok-run_asked-in-Run.ensures in
+    let replied = subst (λ words. IsShownReply known arm.shown words text (string_bytes made.text) made.value) c.as_str.ensures.value
+    c.in_ok-shown_reply-in-Run.ensures in
     subst (λ t. IsDoneFor known c.args.asked.now t tree (string_bytes told.text) told.value) c.as_slice-text.ensures.value
-    (done_alone known text tree c.args.asked.now (asked.Run arm.file arm.faults arm.rules arm.protocol)
-    (IsRunReply known (tells_rules known arm.rules) (string_bytes arm.faults) text) made told arm.is (λ reply ended is. is) replied
+    (done_alone known text tree c.args.asked.now (asked.Run arm.file arm.faults arm.shown arm.protocol)
+    (IsShownReply known arm.shown (string_bytes arm.faults) text) made told arm.is (λ reply ended is. is) replied
     c.alone-in-Run.ensures)
+
+pub returns-in_ok-told_reply-in-Draw : goal.returns-in_ok-told_reply-in-Draw
+returns-in_ok-told_reply-in-Draw g c =
+    let arm = c.in-Draw in
+    let known = known_of c.args.known in
+    let text = c.as_slice-text.result.now in
+    let tree = option_map (λ bytes. bytes.items) c.args.texts.now.tree in
+    let made = c.in_ok-told_reply-in-Draw.field-0 in
+    let told = c.alone-in-Draw.result in
+    let replied = subst (λ words. IsToldReply tells.Picture known words text (string_bytes made.text) made.value) c.as_str-in-Draw.ensures.value
+    c.in_ok-told_reply-in-Draw.ensures in
+    subst (λ t. IsDoneFor known c.args.asked.now t tree (string_bytes told.text) told.value) c.as_slice-text.ensures.value
+    (done_alone known text tree c.args.asked.now (asked.Draw arm.file arm.faults arm.protocol)
+    (IsToldReply tells.Picture known (string_bytes arm.faults) text) made told arm.is (λ reply ended is. is) replied
+    c.alone-in-Draw.ensures)
 
 pub returns-in_ok-check_asked-in-Check : goal.returns-in_ok-check_asked-in-Check
 returns-in_ok-check_asked-in-Check g c =

@@ -1,0 +1,15 @@
+use Rattle.std.proofs.Common.{ap, ◌∙◌}
+use Rattle.lf_outcome.specs.Truth.{reaches}
+use Rattle.lf_sim.specs.Settings.{world_of}
+use Rattle.leastfault.specs.Reports.{run_status}
+use Rattle.leastfault.proofs.shown.written.Goals as goal
+
+pub returns : goal.returns
+returns c =
+    let s = c.args.scenario.now in
+    let set = c.args.set.now in
+    let setting = c.setting-setting.result.now in
+    let formula = c.formula-formula.result.now in
+    c.run_status.ensures ∙ ap run_status (c.holds.ensures ∙ ap (λ x. reaches (world_of setting) x formula) c.in_ok-played.ensures.set
+    ∙ ap (λ x. reaches (world_of setting) set x) c.formula-formula.ensures.value
+    ∙ ap (λ x. reaches (world_of x) set s.formula) c.setting-setting.ensures)

@@ -1,0 +1,18 @@
+//! A run as a picture: an SVG document in which each node has a column and time goes downward.
+//!
+//! States stand where they change, and notes are arrows from the step at which they are sent to the one at which they arrive: one that
+//! the faults omit is broken off with a cross, and one that nobody takes ends in a bar. Times at which a node is down are grey. A ring
+//! marks each point at which the outcome looks, a red one where it fails, and what the outcome rests on is shaded. The picture has no
+//! script and no font of its own, and is readable on light and on dark ground.
+#![tactic(auto)]
+
+mod arrows;
+mod columns;
+mod drawing;
+mod escape;
+mod labels;
+mod layout;
+mod marks;
+mod style;
+
+pub use drawing::picture;
