@@ -1,5 +1,6 @@
 #!/usr/bin/env bash
-# Tests the built program: every command and option, the examples beside this script, and the commands that the pages show.
+# Tests the built program: every command and option, the examples beside this script, and the commands that the pages show. Besides,
+# it compares the protocol files that a test repeats with those of the examples.
 #
 #     check.sh [--built]
 #
@@ -235,6 +236,31 @@ test_built_ins() {
     done
 }
 
+# bare FILE: the lines of a protocol file, without comments and empty lines.
+bare() {
+    local line
+    while IFS= read -r line; do
+        line=${line%% # *}
+        line=${line%"${line##*[! ]}"}
+        case $line in
+        '' | '#'*) ;;
+        *) printf '%s\n' "$line" ;;
+        esac
+    done <"$1"
+}
+
+# The tests of made scenarios have the files of the built-in protocols in their source, without comments.
+test_copies() {
+    local name first source='' copy
+    slurp source "$top/crates/made_rules_examples/src/files.rt"
+    for name in retry redundant two_phase three_phase primary_backup; do
+        first='name = "'$name'"'$'\n'
+        copy=${source#*'r#"'$'\n'"$first"}
+        copy=$first${copy%%'"#;'*}
+        count "$name.toml and its copy in a test" "$(differ "$name.toml" "$(bare "$here/protocols/$name.toml")"$'\n' "$copy")"
+    done
+}
+
 # ---- commands and options ----
 
 test_search() {
@@ -321,6 +347,88 @@ test_run() {
     expect 2 'refused 6 budget' '?*' "leastfault run examples/out_of_range.toml nonsense"
 }
 
+test_told() {
+    local file text=''
+    expect 1 $'step 1\n- 0>1 data 2\n+ 0>1 data omitted\nstep 2\n- 1 has\n+ 1 lacks\nstep 3\n- 1 has\n+ 1 lacks\nstep 4\n- 1 has\n+ 1 lacks
+- reaches\n+ misses' '' "leastfault run examples/one_try.toml 'omit 0>1 @1' --beside ''"
+    expect 0 '= reaches' '' "leastfault run examples/one_try.toml '' --beside ''"
+    expect 1 $'step 1\n0>1 data omitted\n0>2 data 2\nstep 2\n2 has\nmisses' '' "leastfault run examples/one_try.toml 'omit 0>1 @1' --changes"
+    expect 2 'refused faults' '?*' "leastfault run examples/one_try.toml '' --beside 'crash 0 @1'"
+    expect 2 'refused faults' '?*' "leastfault run examples/one_try.toml 'crash 0 @1' --beside ''"
+    expect 2 'refused faults' '?*' "leastfault run examples/one_try.toml 'crash 0 @1' --changes"
+    expect 2 'refused 6 budget' '?*' "leastfault run examples/out_of_range.toml '' --json"
+    put two.toml "$(printf '%s\n' 'nodes = 2' 'horizon = 2' 'last_omission = 1' 'crashes = 0' 'budget = 1' 'protocol = "retry"' 'tries = 1' \
+        'outcome = "delivered"')"
+    expect 1 '{
+  "nodes": 2,
+  "horizon": 2,
+  "faults": [
+    "omit 0>1 @1"
+  ],
+  "verdict": "misses",
+  "failed": [
+    {
+      "node": 1,
+      "step": 2,
+      "shows": null
+    },
+    {
+      "node": 1,
+      "step": 2,
+      "shows": "has"
+    },
+    {
+      "node": 0,
+      "step": 2,
+      "shows": null
+    },
+    {
+      "node": 0,
+      "step": 2,
+      "shows": "lacks"
+    }
+  ],
+  "start": [
+    "has",
+    "lacks"
+  ],
+  "steps": [
+    {
+      "step": 1,
+      "states": [
+        "has",
+        "lacks"
+      ],
+      "notes": [
+        {
+          "from": 0,
+          "to": 1,
+          "note": "data",
+          "fate": "omitted",
+          "arrival": 2
+        }
+      ]
+    },
+    {
+      "step": 2,
+      "states": [
+        "has",
+        "lacks"
+      ],
+      "notes": []
+    }
+  ]
+}' '' "leastfault run two.toml 'omit 0>1 @1' --json"
+
+    # The pictures of the pages are what the program draws.
+    slurp text "$top/docs/pictures/crash_between_tries.svg"
+    expect 1 "${text%$'\n'}" '' "leastfault draw examples/crash_between_tries.toml 'omit 0>1 @1,crash 0 @2'"
+    slurp text "$top/docs/pictures/raft_election_forgets.svg"
+    expect 1 "${text%$'\n'}" '*' "leastfault draw examples/protocols/scenarios/raft_election_forgets.toml 'pause 2 @4' --protocol examples/protocols/raft_election.toml"
+    ends 0 '</svg>' '' "leastfault draw examples/relayed.toml ''"
+    expect 2 'refused faults' '?*' "leastfault draw examples/one_try.toml 'crash 0 @1'"
+}
+
 # wrong STATUS REPLY OLD NEW: claimed_away.json with one piece changed is judged so.
 wrong() {
     local text=''
@@ -360,7 +468,7 @@ test_check() {
 test_protocol() {
     expect 0 ok 'protocol two_phase*' 'leastfault protocol examples/protocols/two_phase.toml'
     expect 0 ok 'protocol two_phase*' 'leastfault protocol - <examples/protocols/two_phase.toml'
-    expect 2 'refused protocol 7 facts.blocked' 'facts.blocked: `prepare`: *`prepared`?*' \
+    expect 2 'refused protocol 7 facts.blocked' $'facts.blocked: `prepare`: *`prepared`?\nline * | phase = prepare\n* | *^^^^^^^\n' \
         "sed 's/blocked = \"phase = prepared\"/blocked = \"phase = prepare\"/' examples/protocols/two_phase.toml | leastfault protocol -"
     expect 2 'refused protocol 2' '?*' 'leastfault protocol examples/README.md'
 }
@@ -373,13 +481,15 @@ test_own_protocols() {
     expect 0 $'step 1\n0 has\n1 lacks\n2 lacks\n0>1 data 2\n0>2 data 2\n0 rules 3\nstep 2\n0 has\n1 has\n2 has\n1 rules 2\n2 rules 2
 step 3\n0 has\n1 has\n2 has\nstep 4\n0 has\n1 has\n2 has\nreaches' '' "leastfault run $own '' --protocol $protocol --rules"
     run "sed 's/DATA to all/DATE to all/' $protocol >wrong.toml"
-    expect 2 'refused protocol 7 rules.3.send' '*`DATA`?*' "leastfault run $own nonsense --protocol wrong.toml"
+    expect 2 'refused protocol 7 rules.3.send' 'rules.3.send (who = "0", on = "end"): `DATE`: *`DATA`?*' \
+        "leastfault run $own nonsense --protocol wrong.toml"
     expect 2 'refused protocol 7 rules.3.send' '?*' "leastfault answer examples/out_of_range.toml --protocol wrong.toml"
     expect 2 'refused 6 budget' '?*' "leastfault check examples/out_of_range.toml examples/README.md --protocol $protocol"
     expect 2 'refused 9 protocol' '?*' "leastfault search $own --protocol examples/protocols/redundant.toml"
     expect 2 'refused 4 tries' '?*' "leastfault search examples/one_try.toml --protocol $protocol"
     expect 2 'refused 4 given' '?*' "sed 's/^outcome/given = { patience = 3 }\noutcome/' $own | leastfault search - --protocol $protocol"
-    expect 2 'refused 10 outcome' '?*' "sed 's/delivered/each had/' $own | leastfault search - --protocol $protocol"
+    expect 2 'refused 10 outcome' $'outcome: `had`: *`has`?\nline * | each had\n*' \
+        "sed 's/delivered/each had/' $own | leastfault search - --protocol $protocol"
     expect 2 'refused faults' '?*' "leastfault run $own nonsense --protocol $protocol"
     expect 3 '' $'read\n*' "leastfault search $own --protocol nowhere.toml"
     expect 3 '' $'read\n*' "leastfault search nowhere.toml --protocol wrong.toml"
@@ -387,7 +497,7 @@ step 3\n0 has\n1 has\n2 has\nstep 4\n0 has\n1 has\n2 has\nreaches' '' "leastfaul
 
 test_words() {
     local words protocol=examples/protocols/retry.toml own=examples/protocols/scenarios/retry_lost.toml
-    for words in --help -h 'search --help' 'answer --help' 'run --help' 'check --help' 'protocol --help'; do
+    for words in --help -h 'search --help' 'answer --help' 'run --help' 'draw --help' 'check --help' 'protocol --help'; do
         helps "leastfault $words"
     done
     expect 0 'leastfault 0.1.0' '' 'leastfault --version'
@@ -399,7 +509,8 @@ test_words() {
         'search examples/one_try.toml --workers 33' 'search examples/one_try.toml --workers=33' \
         'search nowhere.toml --workers 33' 'search examples/one_try.toml --workers three' \
         'search examples/one_try.toml --all --all' 'search examples/one_try.toml --tree' \
-        'answer examples/one_try.toml --all' "run examples/one_try.toml '' --quiet" 'run examples/one_try.toml' \
+        "run examples/one_try.toml '' --changes --json" "run examples/one_try.toml '' --beside" 'draw examples/one_try.toml' \
+        "draw examples/one_try.toml '' --changes" 'answer examples/one_try.toml --all' "run examples/one_try.toml '' --quiet" 'run examples/one_try.toml' \
         'check examples/claimed_away.toml' "search \$'\\xff'"; do
         expect 2 '' '?*' "leastfault $words"
     done
@@ -459,8 +570,8 @@ status_of() {
     none* | yes* | ok*) echo 0 ;;
     least* | all* | 'no '*) echo 1 ;;
     refused* | full*) echo 2 ;;
-    *$'\nreaches\n') echo 0 ;;
-    *$'\nmisses\n') echo 1 ;;
+    *$'\nreaches\n' | *$'\n+ reaches\n' | *'= reaches'$'\n') echo 0 ;;
+    *$'\nmisses\n' | *$'\n+ misses\n' | *'= misses'$'\n') echo 1 ;;
     'step '*) echo 0 ;; # a part of a trace, cut out by a filter
     '') case $2 in
         read* | write* | memory* | pool*) echo 3 ;;
@@ -479,7 +590,10 @@ test_shown() {
     shown=$out
     [ "$3" = "$out" ] || shown=$out$err
     count "$1: $2" "$(
-        differ status "$(status_of "$out" "$err")" "$status"
+        case $2 in
+        'leastfault draw '*'>'*) [[ $status == [01] ]] || differ status '0 or 1' "$status" ;; # the picture alone tells the verdict
+        *) differ status "$(status_of "$out" "$err")" "$status" ;;
+        esac
         differ 'what is shown' "$3" "$shown"
     )"
 }
@@ -585,11 +699,13 @@ export PATH="$room/bin:$PATH"
 test_examples
 test_protocols
 test_built_ins
+test_copies
 test_search
 test_tree
 test_own_file
 test_full
 test_run
+test_told
 test_check
 test_protocol
 test_own_protocols
