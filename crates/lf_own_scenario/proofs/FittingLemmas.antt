@@ -33,7 +33,7 @@ use Rattle.lf_own_scenario.specs.Constants.{all_declared, left, constant_at, ane
 use Rattle.lf_own_scenario.specs.Values.{wrong_kind, past_limit, as_constant, place_of, number_in, is_of_sort, all_of_sort, count_items, set_in, value_in}
 use Rattle.lf_own_scenario.specs.Values.{values_behind, listed, given_anew}
 use Rattle.lf_own_scenario.specs.Zeros.{definition_divides}
-use Rattle.lf_own_scenario.proofs.SetLemmas.{nodes-typed}
+use Rattle.lf_texts.proofs.Laws.{nodes-sorted}
 
 -- what stands before a step
 step-inv : {A B : Type 0} {y : B} (r : Reading A) (next : A → Reading B) → (r >>= next) ≡ Ok y → (x : A) × (r ≡ Ok x) × (next x ≡ Ok y)
@@ -74,7 +74,7 @@ module _ (file : Declared) where
       let same : values.Nodes e.0 ≡ v = cc in
       ap (is_value d sort) (sym same)
       ∙ and_from (same_sort sort sorts.Nodes) (is_value d sorts.Nodes (values.Nodes e.0)) (turned sorts.Nodes sort is)
-      (nodes-typed at ts.0 e.0 (constant-inv (nodes_in at ts.0) e.0 e.1))
+      (nodes-sorted at ts.0 e.0 (constant-inv (nodes_in at ts.0) e.0 e.1))
 
   number-fits : (sort : Sort) (n : ℕ) (v : Value) → same_sort sorts.Number sort ≡ true → number_in (pos n) ≡ Ok v → is_value d sort v ≡ true
   number-fits sort n v is h =

@@ -3,5 +3,4 @@ mod RangeLemmas
 mod Counts
 mod ZerosLemmas
 mod ReadingLemmas
-mod SetLemmas
 mod FittingLemmas
