@@ -9,7 +9,7 @@ use crate::words::{Asked, Word};
 use lf_alone::Ended;
 use lf_pool::{Gate, NoGate, PoolError, Solved};
 use lf_scenario::Scenario;
-use lf_work::{Finding, Job, Scratch, work_reusing};
+use lf_work::{Finding, Job, Scratch, work_suited};
 use std::alloc::{AllocError, Global};
 use std::rt::Clock;
 use std::sync::atomic::AtomicU64;
@@ -43,7 +43,7 @@ impl Gate for Timed {
         scratch: &mut Scratch,
     ) -> Result<Finding, AllocError> {
         let start = Instant::now(rt);
-        let finding = work_reusing(job, scratch);
+        let finding = work_suited(job, scratch);
         self.worked
             .fetch_add(nanoseconds_since(rt, start.ok()), SeqCst);
         finding

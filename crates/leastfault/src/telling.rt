@@ -2,7 +2,7 @@
 
 use lf_pool::Gate;
 use lf_watch::{Progress, Watch};
-use lf_work::{Finding, Job, Scratch, work_reusing};
+use lf_work::{Finding, Job, Scratch, work_suited};
 use std::alloc::AllocError;
 use std::rt::Clock;
 use std::sync::atomic::{AtomicU64, Ordering};
@@ -51,7 +51,7 @@ impl<'a, V: Watch> Gate for Told<'a, V> {
         job: &Job,
         scratch: &mut Scratch,
     ) -> Result<Finding, AllocError> {
-        let found = work_reusing(job, scratch);
+        let found = work_suited(job, scratch);
         if let Some(progress) = self.one_more(job.set().len()) {
             self.watch.tell(progress);
         }

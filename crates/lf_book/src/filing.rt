@@ -1,6 +1,6 @@
 //! What becomes of claims.
 
-ghost use Rattle.std.specs.Prelude.{◌≡◌, ◌≢◌, ℕ, true, false, List, Some, OnOk, OnErr, IfErr, MatchOption};
+ghost use Rattle.std.specs.Prelude.{◌≡◌, ◌≢◌, ◌↔◌, ℕ, true, false, List, Some, OnOk, OnErr, IfErr, IsTrue, MatchOption};
 ghost use Rattle.std.specs.Arc.{arc_value};
 ghost use Rattle.lf_book.specs.Books.{scenario_of, state_of, task_of_job, task_of_finding, number_of};
 ghost use Rattle.lf_book.specs.Books.{IsRefusedFor, IsFiled, IsFoundOf, IsGivenBack, IsClaimOf};
@@ -9,6 +9,7 @@ ghost use Rattle.lf_marks.specs.Answers.{mark_for};
 ghost use Rattle.lf_marks.specs.Marks.{mark_at, level_of};
 ghost use Rattle.lf_marks.specs.Steps.{Answered, GaveBack, Reclaimed, IsMarked, IsShape};
 ghost use Rattle.lf_marks.specs.Steps as marking;
+ghost use Rattle.lf_scenario.specs.Sameness.{AreSame};
 ghost use Rattle.lf_search.specs.Events.{Reclaims};
 
 use crate::book::Book;
@@ -58,7 +59,27 @@ impl Book {
         ensures unchanged { OnErr result (self.new ≡ self.old) }
         ensures scenario { scenario_of self.new ≡ scenario_of self.old }
     {
-        if let Some(refusal) = self.refusal(finding.job()) {
+        let same = self.scenario.same(finding.scenario());
+        if let Some(refusal) = self.refusal(finding.job(), same) {
+            return Err((refusal, finding));
+        }
+        self.file_claimed(finding);
+        Ok(())
+    }
+
+    /// The same, for a finding that is known to be of the book's scenario: the scenarios aren't compared.
+    pub fn file_same(&mut self, finding: Finding) -> Result<(), (Refusal, Finding)>
+        requires { AreSame (scenario_of self.old) (arc_value finding.job.scenario) }
+        ensures ok { OnOk result (IsClaimOf self.old finding.job.ticket (arc_value finding.job.scenario) finding.job.path.items (task_of_finding finding)) }
+        ensures filed { OnOk result (IsFiled finding self.old self.new) }
+        ensures found { OnOk result (IsFoundOf finding) }
+        ensures refused { IfErr result (λ back. IsRefusedFor self.old finding.job.ticket (arc_value finding.job.scenario) finding.job.path.items
+            (task_of_finding finding) back.0) }
+        ensures back { IfErr result (λ back. back.1 ≡ finding) }
+        ensures unchanged { OnErr result (self.new ≡ self.old) }
+        ensures scenario { scenario_of self.new ≡ scenario_of self.old }
+    {
+        if let Some(refusal) = self.refusal(finding.job(), true) {
             return Err((refusal, finding));
         }
         self.file_claimed(finding);
@@ -90,7 +111,8 @@ impl Book {
         ensures unchanged { OnErr result (self.new ≡ self.old) }
         ensures scenario { scenario_of self.new ≡ scenario_of self.old }
     {
-        if let Some(_refusal) = self.refusal(&job) {
+        let same = self.scenario.same(job.scenario());
+        if let Some(_refusal) = self.refusal(&job, same) {
             return Err(job);
         }
         self.open_claimed(job);
@@ -114,17 +136,18 @@ impl Book {
         mark_unclaimed(&mut self.marks);
     }
 
-    /// Why a job is of no claim of the book. None where it is of one. Its ticket is looked for among the claims only where it doesn't claim
-    /// the set at the path.
-    fn refusal(&self, job: &Job) -> Option<Refusal>
+    /// Why a job is of no claim of the book, where it is known whether their scenarios are the same. None where it is of one. Its ticket is looked
+    /// for among the claims only where it doesn't claim the set at the path.
+    fn refusal(&self, job: &Job, same: bool) -> Option<Refusal>
+        requires { IsTrue same ↔ AreSame (scenario_of self.now) (arc_value job.now.scenario) }
         ensures { MatchOption result
             (IsClaimOf self.now job.now.ticket (arc_value job.now.scenario) job.now.path.items (task_of_job job.now))
             (IsRefusedFor self.now job.now.ticket (arc_value job.now.scenario) job.now.path.items (task_of_job job.now)) }
     {
         if !self.marks.is_claimed_at(job.ticket(), job.path()) {
-            return Some(self.refusal_elsewhere(job));
+            return Some(self.refusal_elsewhere(job, same));
         }
-        if !self.scenario.same(job.scenario()) {
+        if !same {
             return Some(Refusal::OtherScenario);
         }
         if !self.is_task(job.path(), &job.set(), job.excluded()) {
@@ -134,14 +157,15 @@ impl Book {
     }
 
     /// Why a job is refused whose ticket doesn't claim the set at its path.
-    fn refusal_elsewhere(&self, job: &Job) -> Refusal
-        requires { (state_of self.now).marks job.now.path.items ≢ Some (marking.Claimed job.now.ticket) }
+    fn refusal_elsewhere(&self, job: &Job, same: bool) -> Refusal
+        requires elsewhere { (state_of self.now).marks job.now.path.items ≢ Some (marking.Claimed job.now.ticket) }
+        requires same { IsTrue same ↔ AreSame (scenario_of self.now) (arc_value job.now.scenario) }
         ensures { IsRefusedFor self.now job.now.ticket (arc_value job.now.scenario) job.now.path.items (task_of_job job.now) result }
     {
         if !self.marks.has_claim(job.ticket()) {
             return Refusal::NoClaim;
         }
-        if !self.scenario.same(job.scenario()) {
+        if !same {
             return Refusal::OtherScenario;
         }
         Refusal::OtherSet

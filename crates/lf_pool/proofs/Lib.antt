@@ -1,5 +1,6 @@
 mod CountLemmas
 mod HoldLemmas
+mod ScenarioLemmas
 pub mod Laws
 mod OneLemmas
 mod Sent

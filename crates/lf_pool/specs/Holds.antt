@@ -5,7 +5,10 @@ use Rattle.std.specs.Prelude.{◌≡◌, ◌⊎◌, ℕ, ◌+◌, List, [], ◌�
 use Rattle.lf_marks.specs.Counting.{IsCount, OfKind}
 use Rattle.lf_marks.specs.Steps as mark
 use Rattle.std.specs.Arc.{arc_value}
-use Rattle.lf_book.specs.Books.{state_of, task_of_finding, task_of_job, IsTaken, IsDeepened, IsFiled, IsGivenBack, IsClaimOf}
+use Rattle.std.specs.List.{All}
+use Rattle.lf_scenario.specs.Sameness.{AreSame}
+use Rattle.lf_scenario.specs.declared.scenario.Scenario.{Scenario}
+use Rattle.lf_book.specs.Books.{scenario_of, state_of, task_of_finding, task_of_job, IsTaken, IsDeepened, IsFiled, IsGivenBack, IsClaimOf}
 use Rattle.lf_book.specs.declared.book.Book.{Book}
 use Rattle.lf_book.specs.declared.taking.Taken.TheVariants as taken
 use Rattle.lf_search.specs.Events.{FindsBusy}
@@ -66,3 +69,15 @@ abbrev pub AreOfJobs : List Job → List Finding → Type 0
 AreOfJobs [] findings = findings ≡ []
 AreOfJobs (job ∷ jobs) findings = (others : List Finding) × (finding : Finding) × (findings ≡ others ++ finding ∷ []) × IsOfJob job finding
     × AreOfJobs jobs others
+
+-- jobs are of a scenario
+abbrev pub AreJobsOf : Scenario → List Job → Type 0
+AreJobsOf s = All (λ job. arc_value job.scenario ≡ s)
+
+-- findings are of one scenario
+abbrev pub AreOfOne : List Finding → Type 0
+AreOfOne findings = (s : Scenario) × All (λ finding. arc_value finding.job.scenario ≡ s) findings
+
+-- a finding is of the scenario that the book searches
+abbrev pub IsOfBook : Book → Finding → Type 0
+IsOfBook book finding = AreSame (scenario_of book) (arc_value finding.job.scenario)

@@ -1,11 +1,14 @@
 //! What lies under the lock.
 
-ghost use Rattle.lf_pool.specs.Holds.{IsAnsweredCount};
+ghost use Rattle.std.specs.Prelude.{◌≡◌, OnOk, OnErr, IfErr, IsTrue};
+ghost use Rattle.std.specs.Arc.{arc_value};
+ghost use Rattle.lf_book.specs.Books.{scenario_of, task_of_finding, IsFiled, IsRefusedFor};
+ghost use Rattle.lf_pool.specs.Holds.{IsAnsweredCount, IsOfBook};
 
 use crate::facts::books_are_closed;
 use crate::handful::handful;
 use crate::share::Share;
-use lf_book::{Book, Deepened, Taken};
+use lf_book::{Book, Deepened, Refusal, Taken};
 use lf_work::{Finding, Job};
 use std::alloc::AllocError;
 use std::sync::ledger;
@@ -35,10 +38,11 @@ pub(crate) enum Begun {
 }
 
 impl<L: Ledger> Locked<L> {
-    ghost use Rattle.std.specs.Prelude.{◌≡◌, ◌+◌, ◌≤◌, [], length, vec_capacity, Ok, IfOk, OnErr, MatchBool, MatchOption};
-    ghost use Rattle.lf_book.specs.Books.{scenario_of, IsFiled, IsGivenBack, IsTaken};
+    ghost use Rattle.std.specs.Prelude.{◌+◌, ◌≤◌, [], length, vec_capacity, Ok, IfOk, MatchBool, MatchOption};
+    ghost use Rattle.std.specs.List.{All};
+    ghost use Rattle.lf_book.specs.Books.{IsGivenBack, IsTaken};
     ghost use Rattle.lf_book.specs.declared.taking.Taken.TheVariants as taken;
-    ghost use Rattle.lf_pool.specs.Holds.{AreEnded, AreFiled, AreGivenBack, AreTaken, IsBegun, IsBusy, IsFindingClaimed, IsJobClaimed};
+    ghost use Rattle.lf_pool.specs.Holds.{AreEnded, AreFiled, AreGivenBack, AreJobsOf, AreOfOne, AreTaken, IsBegun, IsBusy, IsFindingClaimed, IsJobClaimed};
     ghost use Rattle.lf_pool.specs.declared.locked.Begun.TheVariants as begun;
     ghost use Rattle.lf_pool.specs.declared.handful.TheConstants.{HANDFUL};
 
@@ -60,8 +64,10 @@ impl<L: Ledger> Locked<L> {
         }
     }
 
-    /// Files a finding and raises the total and the worker's share by one. Nothing changes where it is of no claim of the book.
-    pub(crate) fn file(&mut self, share: &mut Share<L>, finding: Finding) -> bool
+    /// Files a finding, which may be known to be of the book's scenario, and raises the total and the worker's share by one. Nothing changes where it
+    /// is of no claim of the book.
+    pub(crate) fn file(&mut self, share: &mut Share<L>, finding: Finding, same: bool) -> bool
+        requires { IsTrue same → IsOfBook self.old.book finding }
         ensures filed { MatchBool result
             (IsFiled finding self.old.book self.new.book × (share.new.filed ≡ share.old.filed + 1))
             ((¬ IsFindingClaimed self.old.book finding) × (self.new.book ≡ self.old.book) × (share.new.filed ≡ share.old.filed)) }
@@ -70,7 +76,7 @@ impl<L: Ledger> Locked<L> {
         let Locked { book, total } = self;
         let Share { filed, part, .. } = share;
         books_are_closed(book);
-        if book.file(finding).is_err() {
+        if file_in(book, finding, same).is_err() {
             return false;
         }
         books_are_closed(book);
@@ -96,6 +102,7 @@ impl<L: Ledger> Locked<L> {
         requires none { jobs.old.items ≡ [] }
         requires room { HANDFUL ≤ vec_capacity jobs.old }
         ensures taken { AreTaken jobs.new.items self.old.book self.new.book }
+        ensures same { AreJobsOf (scenario_of self.old.book) jobs.new.items }
         ensures few { length jobs.new.items ≤ HANDFUL }
         ensures room { vec_capacity jobs.new ≡ vec_capacity jobs.old }
         ensures scenario { scenario_of self.new.book ≡ scenario_of self.old.book }
@@ -132,6 +139,7 @@ impl<L: Ledger> Locked<L> {
         jobs: &mut Vec<Job>,
         findings: &mut Vec<Finding>,
     ) -> u64
+        requires { AreOfOne findings.old.items }
         ensures ended { AreEnded findings.old.items jobs.old.items result self.old.book self.new.book }
         ensures none { (jobs.new.items ≡ []) × (findings.new.items ≡ []) }
         ensures room { (vec_capacity jobs.new ≡ vec_capacity jobs.old) × (vec_capacity findings.new ≡ vec_capacity findings.old) }
@@ -143,8 +151,10 @@ impl<L: Ledger> Locked<L> {
         filed
     }
 
-    /// Files findings, the last one first, and tells how many the book didn't refuse. By so many the total and the worker's share are raised.
+    /// Files findings of one scenario, the last one first, and tells how many the book didn't refuse. By so many the total and the worker's share are
+    /// raised. The scenario is compared with the book's once.
     fn file_all(&mut self, share: &mut Share<L>, findings: &mut Vec<Finding>) -> u64
+        requires { AreOfOne findings.old.items }
         ensures filed { AreFiled findings.old.items result self.old.book self.new.book }
         ensures none { findings.new.items ≡ [] }
         ensures room { vec_capacity findings.new ≡ vec_capacity findings.old }
@@ -152,10 +162,22 @@ impl<L: Ledger> Locked<L> {
         ensures scenario { scenario_of self.new.book ≡ scenario_of self.old.book }
     {
         let before = share.filed;
+        let same = self.searches(findings);
         'findings: while let Some(finding) = findings.pop() {
-            let _filed = self.file(share, finding);
+            let _filed = self.file(share, finding, same);
         }
         share.filed - before
+    }
+
+    /// Whether findings of one scenario are known to be of the book's.
+    fn searches(&self, findings: &[Finding]) -> bool
+        requires { AreOfOne findings.now }
+        ensures { IsTrue result → All (IsOfBook self.now.book) findings.now }
+    {
+        match findings.first() {
+            Some(finding) => self.book.scenario().same(finding.scenario()),
+            None => false,
+        }
     }
 
     /// Gives jobs back, the last one first: their sets are open again.
@@ -169,5 +191,21 @@ impl<L: Ledger> Locked<L> {
         'jobs: while let Some(job) = jobs.pop() {
             let _given = self.give_back(job);
         }
+    }
+}
+
+/// Files a finding, which may be known to be of the book's scenario.
+fn file_in(book: &mut Book, finding: Finding, same: bool) -> Result<(), (Refusal, Finding)>
+    requires { IsTrue same → IsOfBook book.old finding }
+    ensures filed { OnOk result (IsFiled finding book.old book.new) }
+    ensures refused { IfErr result (λ back. IsRefusedFor book.old finding.job.ticket (arc_value finding.job.scenario) finding.job.path.items
+        (task_of_finding finding) back.0) }
+    ensures unchanged { OnErr result (book.new ≡ book.old) }
+    ensures scenario { scenario_of book.new ≡ scenario_of book.old }
+{
+    if same {
+        book.file_same(finding)
+    } else {
+        book.file(finding)
     }
 }

@@ -1,7 +1,9 @@
 //! The turns of a worker.
 
 ghost use Rattle.std.specs.Prelude.{◌≡◌, ◌≢◌, ◌+◌, ◌≤◌, ◌++◌, List, [], Ok, IfOk, OnOk, OnErr, length, vec_capacity};
-ghost use Rattle.lf_pool.specs.Holds.{AreOfJobs, IsBusy};
+ghost use Rattle.lf_scenario.specs.declared.scenario.Scenario.{Scenario};
+ghost use Rattle.lf_work.specs.Scratches.{IsScratchFor};
+ghost use Rattle.lf_pool.specs.Holds.{AreJobsOf, AreOfJobs, AreOfOne, IsBusy};
 ghost use Rattle.std.specs.Sync.Mutex.{mutex_guard_value};
 ghost use Rattle.lf_pool.specs.declared.turning.Turn.TheVariants as turn;
 
@@ -68,6 +70,7 @@ impl<L: Ledger> SharedBook<L> {
             Begun::Spent => return Ok(Turn::Spent),
         };
         drop(guard);
+        share.scratch.suit(&job);
         match gate.run(rt, &job, &mut share.scratch) {
             Ok(finding) => Ok(self.file(rt, share, finding)),
             Err(error) => {
@@ -111,9 +114,10 @@ impl<L: Ledger> SharedBook<L> {
     {
         let Hands { jobs, findings } = hands;
         self.lock.lock(rt).take_some(jobs);
-        if jobs.is_empty() {
+        let Some(last) = jobs.last() else {
             return Ok(0);
-        }
+        };
+        share.scratch.suit(last);
         let worked = work_each(rt, gate, &mut share.scratch, jobs, findings);
         let filed = self.end_some(rt, share, jobs, findings);
         worked?;
@@ -128,6 +132,7 @@ impl<L: Ledger> SharedBook<L> {
         jobs: &mut Vec<Job>,
         findings: &mut Vec<Finding>,
     ) -> u64
+        requires { AreOfOne findings.old.items }
         ensures none { (jobs.new.items ≡ []) × (findings.new.items ≡ []) }
         ensures room { (vec_capacity jobs.new ≡ vec_capacity jobs.old) × (vec_capacity findings.new ≡ vec_capacity findings.old) }
         ensures share { share.new.filed ≡ share.old.filed + result }
@@ -149,7 +154,7 @@ impl<L: Ledger> SharedBook<L> {
         ensures filed { result ≡ turn.Filed → share.new.filed ≡ share.old.filed + 1 }
         ensures other { result ≢ turn.Filed → share.new.filed ≡ share.old.filed }
     {
-        let filed = self.lock.lock(rt).file(share, finding);
+        let filed = self.lock.lock(rt).file(share, finding, false);
         self.changed.notify_all();
         if filed { Turn::Filed } else { Turn::Refused }
     }
@@ -161,8 +166,8 @@ impl<L: Ledger> SharedBook<L> {
     }
 }
 
-/// Works jobs by the gate, the last one first, and puts what is found at the end of an empty list with room for it. The error is that memory
-/// has run out: the jobs that are left weren't worked.
+/// Works jobs of one scenario by the gate, the last one first, and puts what is found at the end of an empty list with room for it. The scratch is
+/// of the scenario too. The error is that memory has run out: the jobs that are left weren't worked.
 fn work_each<R: Clock, G: Gate>(
     rt: &R,
     gate: &G,
@@ -171,6 +176,7 @@ fn work_each<R: Clock, G: Gate>(
     findings: &mut Vec<Finding>,
 ) -> Result<(), AllocError>
     requires none { findings.old.items ≡ [] }
+    requires same { (s : Scenario) × AreJobsOf s jobs.old.items × IsScratchFor s scratch.old }
     requires room { length jobs.old.items ≤ vec_capacity findings.old }
     ensures worked { (done : List Job) × (jobs.old.items ≡ jobs.new.items ++ done) × AreOfJobs done findings.new.items }
     ensures all { OnOk result (jobs.new.items ≡ []) }

@@ -12,4 +12,4 @@ mod working;
 pub use finding::Finding;
 pub use job::Job;
 pub use scratch::Scratch;
-pub use working::{work, work_on, work_reusing, work_up};
+pub use working::{work, work_on, work_reusing, work_suited, work_up};

@@ -14,12 +14,14 @@ use lf_sim::{Setting, run};
 use std::alloc::AllocError;
 use std::sync::Arc;
 
-/// Makes a scratch one of the job's scenario: it loses the run of another world.
-pub(crate) fn suit(job: &Job, scratch: &mut Scratch)
-    ensures { IsScratchFor (arc_value job.now.scenario) scratch.new }
-{
-    if !suits(job, scratch) {
-        scratch.played = None;
+impl Scratch {
+    /// Makes it one of the job's scenario: it loses the run of another world. It takes no memory.
+    pub fn suit(&mut self, job: &Job)
+        ensures { IsScratchFor (arc_value job.now.scenario) self.new }
+    {
+        if !suits(job, self) {
+            self.played = None;
+        }
     }
 }
 

@@ -10,7 +10,7 @@ ghost use Rattle.lf_work.specs.Scratches.{IsScratchFor};
 
 use crate::finding::Finding;
 use crate::job::Job;
-use crate::running::{run_of, suit};
+use crate::running::run_of;
 use crate::scratch::Scratch;
 use lf_cone::{put_edges, sharp};
 use lf_faults::{Fault, FaultSet};
@@ -32,24 +32,34 @@ pub fn work(job: &Job) -> Result<Finding, AllocError>
 /// The same, in the memory of the job that was worked last. It takes memory for what the finding holds, and else only where the memory
 /// that it is given doesn't suffice.
 pub fn work_reusing(job: &Job, scratch: &mut Scratch) -> Result<Finding, AllocError>
-    ensures { IfOk result (IsOfJob job.now) }
+    ensures finding { IfOk result (IsOfJob job.now) }
+    ensures scratch { IsScratchFor (arc_value job.now.scenario) scratch.new }
 {
-    suit(job, scratch);
+    scratch.suit(job);
+    work_suited(job, scratch)
+}
+
+/// The same, for a scratch that is known to be of the job's scenario, as a new one is, one that was made so, and one after a job of the same
+/// book: the scenarios aren't compared.
+pub fn work_suited(job: &Job, scratch: &mut Scratch) -> Result<Finding, AllocError>
+    requires { IsScratchFor (arc_value job.now.scenario) scratch.old }
+    ensures finding { IfOk result (IsOfJob job.now) }
+    ensures scratch { IsScratchFor (arc_value job.now.scenario) scratch.new }
+{
     let answer = worked(job, scratch)?;
     let job = job.try_clone()?;
     Ok(Finding { job, answer })
 }
 
-/// The same, where nobody else needs the job any more: the finding takes it over.
+/// The same as `work_reusing`, where nobody else needs the job any more: the finding takes it over.
 pub fn work_up(job: Job, scratch: &mut Scratch) -> Result<Finding, AllocError>
     ensures { IfOk result (IsOfJob job) }
 {
-    suit(&job, scratch);
+    scratch.suit(&job);
     work_on(job, scratch)
 }
 
-/// The same, for a scratch that is known to be of the job's scenario, as a new one is, and one after a job of the same book: the scenarios
-/// aren't compared.
+/// The same as `work_suited`, where nobody else needs the job any more: the finding takes it over.
 pub fn work_on(job: Job, scratch: &mut Scratch) -> Result<Finding, AllocError>
     requires { IsScratchFor (arc_value job.scenario) scratch.old }
     ensures finding { IfOk result (IsOfJob job) }

@@ -6,7 +6,7 @@ use crate::texts::{agrees, asked, columns, is_text};
 use crate::told::found;
 use lf_pool::{Gate, NoGate};
 use lf_scenario::Scenario;
-use lf_work::{Finding, Job, Scratch, work_reusing};
+use lf_work::{Finding, Job, Scratch, work_suited};
 use std::alloc::{AllocError, Global};
 use std::process::Abort;
 use std::rt::Clock;
@@ -53,7 +53,7 @@ impl Gate for Meeting {
         } else if job.ticket() > 1 {
             self.wait(rt);
         }
-        work_reusing(job, scratch)
+        work_suited(job, scratch)
     }
 }
 
@@ -134,7 +134,7 @@ impl Gate for Refusing {
         if self.calls.fetch_add(1, SeqCst) == self.at {
             return Err(AllocError);
         }
-        work_reusing(job, scratch)
+        work_suited(job, scratch)
     }
 }
 

@@ -7,7 +7,7 @@ use crate::texts::{agrees, asked, columns, is_text};
 use crate::told::found;
 use lf_pool::{Gate, NoGate};
 use lf_scenario::Scenario;
-use lf_work::{Finding, Job, Scratch, work_reusing};
+use lf_work::{Finding, Job, Scratch, work_suited};
 use std::alloc::{AllocError, Global};
 use std::rt::Clock;
 use std::sync::atomic::Ordering::SeqCst;
@@ -59,7 +59,7 @@ impl Gate for Company {
             self.came.fetch_add(1, SeqCst);
             self.wait(rt);
         }
-        work_reusing(job, scratch)
+        work_suited(job, scratch)
     }
 }
 

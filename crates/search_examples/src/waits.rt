@@ -5,7 +5,7 @@ ghost use Rattle.std.specs.Prelude.{◌≡◌, ◌+◌, IfOk};
 use crate::texts::{agrees, asked};
 use lf_pool::{Gate, NoGate, Share, SharedBook, Turn};
 use lf_scenario::Scenario;
-use lf_work::{Finding, Job, Scratch, work_reusing};
+use lf_work::{Finding, Job, Scratch, work_suited};
 use std::alloc::{AllocError, Global};
 use std::marker::Brand;
 use std::process::Abort;
@@ -54,7 +54,7 @@ impl Gate for Holding {
             thread::sleep(rt, Duration::from_millis(50));
         }
         if self.is_worked {
-            work_reusing(job, scratch)
+            work_suited(job, scratch)
         } else {
             Err(AllocError)
         }

@@ -1,4 +1,4 @@
-use Rattle.std.proofs.Common.{◌≡◌, sym, ap, ◌∙◌, subst}
+use Rattle.std.proofs.Common.{ap, ◌∙◌, subst}
 use Rattle.std.specs.Arc.{arc_value}
 use Rattle.lf_sim.specs.Settings.{IsRun, world_of}
 use Rattle.lf_scenario.specs.declared.scenario.Scenario.{Scenario}

@@ -7,23 +7,23 @@ pub invariant_of-self : goal.invariant_of-self
 invariant_of-self g c =
     let m = c.args.self.now in
     record {
-      counted = refused-counted m.book c.file.new.self c.file.result m.total.total (sym c.is_err.ensures.value ∙ c.if-is_err.true)
-          c.file.ensures.unchanged m.counted;
+      counted = refused-counted m.book c.file_in.new.book c.file_in.result m.total.total (sym c.is_err.ensures.value ∙ c.if-is_err.true)
+          c.file_in.ensures.unchanged m.counted;
     }
 
 pub invariant_of-self-2 : goal.invariant_of-self-2
 invariant_of-self-2 g c =
     let m = c.args.self.now in
     record {
-      counted = subst (λ n. IsAnsweredCount c.file.new.self n) (sym (c.audit.ensures.total ∙ c.add.ensures.total))
-          (file-counted m.book c.file.new.self c.args.finding c.file.result m.total.total (sym c.is_err.ensures.value ∙ c.if-is_err.false)
-          c.file.ensures.filed c.books_are_closed.ensures.closed m.counted);
+      counted = subst (λ n. IsAnsweredCount c.file_in.new.book n) (sym (c.audit.ensures.total ∙ c.add.ensures.total))
+          (file-counted m.book c.file_in.new.book c.args.finding c.file_in.result m.total.total (sym c.is_err.ensures.value ∙ c.if-is_err.false)
+          c.file_in.ensures.filed c.books_are_closed.ensures.closed m.counted);
     }
 
 pub overflow_add-filed : goal.overflow_add-filed
 overflow_add-filed g c =
     let m = c.args.self.now in
-    let more = file-counted m.book c.file.new.self c.args.finding c.file.result m.total.total
-    (sym c.is_err.ensures.value ∙ c.if-is_err.false) c.file.ensures.filed c.books_are_closed.ensures.closed m.counted in
+    let more = file-counted m.book c.file_in.new.book c.args.finding c.file_in.result m.total.total
+    (sym c.is_err.ensures.value ∙ c.if-is_err.false) c.file_in.ensures.filed c.books_are_closed.ensures.closed m.counted in
     let fits = c.books_are_closed-2.ensures.few (m.total.total + 1) more in
     omega (arith, fits, c.audit.ensures.bound, c.add.ensures.amount, c.add.ensures.total, c.args.share.now.same)

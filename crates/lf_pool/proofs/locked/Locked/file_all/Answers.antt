@@ -1,5 +1,9 @@
-use Rattle.std.proofs.Common.{◌∷◌, ◌∙◌}
+use Rattle.std.proofs.Common.{sym, ◌∷◌, ◌∙◌, subst}
+use Rattle.std.specs.Arc.{arc_value}
+use Rattle.lf_scenario.specs.Sameness.{AreSame}
+use Rattle.lf_pool.specs.Holds.{AreOfOne, IsOfBook}
 use Rattle.lf_pool.proofs.HoldLemmas.{filed-more, one-off}
+use Rattle.lf_pool.proofs.ScenarioLemmas.{within}
 use Rattle.lf_pool.proofs.locked.Locked.file_all.Goals as goal
 
 pub findings-preserved : goal.findings-preserved
@@ -17,3 +21,14 @@ findings-preserved g c =
       share = next.2;
       scenario = c.file-filed.ensures.scenario ∙ so.scenario;
     }
+
+pub file-filed-requires : goal.file-filed-requires
+file-filed-requires g c = λ same.
+    let so = c.findings.invariant in
+    let f = c.in-Some.finding in
+    subst (λ s. AreSame s (arc_value f.job.scenario)) (sym so.scenario)
+    (within (IsOfBook c.args.self.now.book) c.args.findings.now.items c.findings.findings.items c.pop.new.self.items so.done f so.rest
+    c.in-Some.ensures.items (rw (c.deref.ensures.value) at c.searches-same.ensures same))
+
+pub searches-same-requires : goal.searches-same-requires
+searches-same-requires g c = subst AreOfOne (sym c.deref.ensures.value) c.requires
