@@ -1,0 +1,4 @@
+mod Agreeing
+mod Answering
+pub mod Laws
+mod Places
