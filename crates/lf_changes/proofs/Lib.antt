@@ -1,1 +1,3 @@
+mod Firsts
 mod Lines
+mod Points

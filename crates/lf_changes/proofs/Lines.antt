@@ -1,5 +1,5 @@
 -- Lines put together.
-use Rattle.std.proofs.Common.{◌≡◌, ℕ, ◌+◌, List, [], ◌++◌, sym, ap, ◌∙◌, append_assoc}
+use Rattle.std.proofs.Common.{◌≡◌, ℕ, ◌+◌, List, ◌++◌, sym, ap, ◌∙◌, append_assoc}
 use Rattle.lf_sim.specs.Runs.{each_below}
 use Rattle.lf_sim.proofs.Laws.{each_below-add-one}
 use Rattle.lf_trace.specs.Lines.{line}

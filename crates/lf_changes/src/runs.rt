@@ -12,11 +12,11 @@ use std::alloc::{AllocError, Global};
 
 /// Two runs of a setting.
 #[derive(Clone, Copy)]
-struct Comparing<'a, M: Worded> {
-    alloc: Global,
-    setting: &'a Setting<M>,
-    run: &'a Run<M>,
-    other: &'a Run<M>,
+pub(crate) struct Comparing<'a, M: Worded> {
+    pub(crate) alloc: Global,
+    pub(crate) setting: &'a Setting<M>,
+    pub(crate) run: &'a Run<M>,
+    pub(crate) other: &'a Run<M>,
 }
 
 /// The lines in which the traces of two runs of this setting differ, under the numbers of their steps: `- LINE` is one of the other, and `+ LINE` one of the
@@ -119,7 +119,12 @@ impl<M: Worded> Comparing<'_, M> {
     }
 
     /// Adds how a node differs at a step.
-    fn push_node(&self, number: u32, node: u32, text: &mut String) -> Result<(), AllocError>
+    pub(crate) fn push_node(
+        &self,
+        number: u32,
+        node: u32,
+        text: &mut String,
+    ) -> Result<(), AllocError>
         requires run { IsRun (world_of self.now.setting.now) self.now.run.now }
         requires other { IsRun (world_of self.now.setting.now) self.now.other.now }
         requires first { 1 ≤ number }

@@ -1,6 +1,6 @@
 //! Worked examples of outcomes, evidence and reaches: runs told line by line, formulas with their truth, size and evidence, and the reaches
 //! and required edges of small scenarios, by hand and beside a plain search over all reaches and all faults. Besides, the light-cone law
-//! at a run, lists of faults, and names of outcomes.
+//! at a run, lists of faults, names of outcomes, and why answers are ones.
 //!
 //! A table of examples is one text, a line for each, in which `|` parts the columns, `,` the items of a list, and blanks the
 //! words. A formula stands behind its parts: `all 2` is of the two formulas before it.
@@ -30,5 +30,7 @@ mod searched;
 mod sizes;
 #[cfg(test)]
 mod texts;
+#[cfg(test)]
+mod why;
 #[cfg(test)]
 mod words;

@@ -1,0 +1,5 @@
+pub mod Answers
+pub mod Idle
+pub mod Levels
+pub mod Rests
+pub mod Sets
