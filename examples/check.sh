@@ -429,6 +429,27 @@ test_told() {
     expect 2 'refused faults' '?*' "leastfault draw examples/one_try.toml 'crash 0 @1'"
 }
 
+test_why() {
+    expect 1 $'least 2\nomit 0>1 @1\ncrash 0 @2\nwithout omit 0>1 @1: reaches\nstep 2\n- 1 has\n+ 1 lacks
+without crash 0 @2: reaches\nstep 2\n- 0 has\n+ 0 down' '' 'leastfault why examples/crash_between_tries.toml'
+    expect 1 $'least 1\ncrash 0 @2\nwithout crash 0 @2: reaches\nstep 2\n- 0 voting\n+ 0 down' '' 'leastfault why - --quiet <examples/blocked_commit.toml'
+    expect 0 $'none 3\nruns at level 0: 1\nruns at level 1: 14\nruns at level 2: 25\nruns at level 3: 12
+rests on node 0 up to step 4\nrests on node 1 up to step 4\nrests on node 2 up to step 4' '' 'leastfault why examples/relayed.toml'
+    # A promise that nodes keep that do nothing, and one that rests on nothing.
+    put idle.toml "$(printf '%s\n' 'nodes = 2' 'horizon = 3' 'last_omission = 1' 'crashes = 0' 'budget = 1' 'protocol = "retry"' 'tries = 1' \
+        'outcome = ["shows", 0, 1, "has"]')"
+    expect 0 $'none 1\nruns at level 0: 1\nruns at level 1: 0\nrests on node 0 up to step 1\nrests on no step of node 1\ntrue before step 1' '' \
+        'leastfault why idle.toml'
+    expect 0 $'none 1\nruns at level 0: 1\nruns at level 1: 0\nrests on nothing\ntrue before step 1' '' \
+        "sed 's/^outcome.*/outcome = [\"all\"]/' idle.toml | leastfault why -"
+    expect 1 $'least 1\nomit 0>1 @1\nwithout omit 0>1 @1: reaches\nstep 2\n- 1 has\n+ 1 lacks' '' \
+        'leastfault why examples/protocols/scenarios/retry_lost.toml --protocol examples/protocols/retry.toml'
+    expect 2 'refused 6 budget' '?*' 'leastfault why examples/out_of_range.toml'
+    expect 2 'refused protocol 2' '?*' 'leastfault why examples/one_try.toml --protocol examples/README.md'
+    expect 2 'full 2 6' '?*' "$full why -"
+    expect 3 '' $'read\n*' 'leastfault why nowhere.toml'
+}
+
 # wrong STATUS REPLY OLD NEW: claimed_away.json with one piece changed is judged so.
 wrong() {
     local text=''
@@ -497,7 +518,7 @@ step 3\n0 has\n1 has\n2 has\nstep 4\n0 has\n1 has\n2 has\nreaches' '' "leastfaul
 
 test_words() {
     local words protocol=examples/protocols/retry.toml own=examples/protocols/scenarios/retry_lost.toml
-    for words in --help -h 'search --help' 'answer --help' 'run --help' 'draw --help' 'check --help' 'protocol --help'; do
+    for words in --help -h 'search --help' 'answer --help' 'why --help' 'run --help' 'draw --help' 'check --help' 'protocol --help'; do
         helps "leastfault $words"
     done
     expect 0 'leastfault 0.1.0' '' 'leastfault --version'
@@ -510,7 +531,7 @@ test_words() {
         'search nowhere.toml --workers 33' 'search examples/one_try.toml --workers three' \
         'search examples/one_try.toml --all --all' 'search examples/one_try.toml --tree' \
         "run examples/one_try.toml '' --changes --json" "run examples/one_try.toml '' --beside" 'draw examples/one_try.toml' \
-        "draw examples/one_try.toml '' --changes" 'answer examples/one_try.toml --all' "run examples/one_try.toml '' --quiet" 'run examples/one_try.toml' \
+        "draw examples/one_try.toml '' --changes" 'answer examples/one_try.toml --all' 'why examples/one_try.toml --all' why "run examples/one_try.toml '' --quiet" 'run examples/one_try.toml' \
         'check examples/claimed_away.toml' "search \$'\\xff'"; do
         expect 2 '' '?*' "leastfault $words"
     done
@@ -706,6 +727,7 @@ test_own_file
 test_full
 test_run
 test_told
+test_why
 test_check
 test_protocol
 test_own_protocols

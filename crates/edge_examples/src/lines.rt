@@ -90,6 +90,7 @@ fn parts(asked: &Asked) -> (&str, (&str, &str), &str) {
         Asked::Draw { faults, .. } => ("draw", (";", faults.as_str()), ""),
         Asked::Check { tree, quiet, .. } => ("check", (";", tree.as_str()), stillness(*quiet)),
         Asked::Answer { quiet, .. } => ("answer", ("", ""), stillness(*quiet)),
+        Asked::Why { quiet, .. } => ("why", ("", ""), stillness(*quiet)),
         Asked::Protocol { .. } => ("protocol", ("", ""), ""),
     }
 }
@@ -274,6 +275,23 @@ fn answers_name_their_file(rt: HostRuntime) {
         ";answer;a;--all|wrong\n",
         ";answer;--help|help\n",
         ";answer;a;--protocol;p|;answer;a;of;p\n",
+    );
+    check_lines(&rt, rt.alloc(), table);
+}
+
+#[test]
+fn reasons_name_their_file(rt: HostRuntime) {
+    let table = concat!(
+        ";why;a.toml|;why;a.toml\n",
+        ";why;-|;why;-\n",
+        ";why;--;-x|;why;-x\n",
+        ";why;why|;why;why\n",
+        ";why|wrong\n",
+        ";why;a;b|wrong\n",
+        ";why;a;--quiet|;why;a;quiet\n",
+        ";why;a;--all|wrong\n",
+        ";why;--help|help\n",
+        ";why;a;--protocol;p|;why;a;of;p\n",
     );
     check_lines(&rt, rt.alloc(), table);
 }

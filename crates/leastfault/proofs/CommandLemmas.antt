@@ -1,5 +1,5 @@
 -- What commands come to, from what their engines made.
-use Rattle.std.proofs.Common.{String, Global, ◌≡◌, ◌≢◌, ℕ, ◌+◌, Bool, true, false, List, refl, sym, ◌∙◌, subst, inl, inr, arith, string_bytes}
+use Rattle.std.proofs.Common.{String, Global, ◌≡◌, ◌≢◌, ℕ, ◌+◌, Bool, List, refl, sym, ◌∙◌, subst, inl, inr, arith, string_bytes}
 use Rattle.std.specs.Prelude.{◌||◌, Option, None, Some, Result, Ok, Err, MatchOption}
 use Rattle.lf_written.specs.declared.declared.Declared.{Declared}
 use Rattle.lf_scenario.specs.Limits.{longest}
@@ -20,7 +20,7 @@ use Rattle.leastfault.specs.Checks.{IsGiven, IsReplyTo}
 use Rattle.leastfault.specs.Commands.{GetsCertified, IsAlone, IsCauseAt, IsCauseFor, IsCertified, IsCertifiedBy, IsDoneFor, IsUncertified, IsWritten}
 use Rattle.leastfault.specs.Commands.{certificate_of, wanted_of}
 use Rattle.leastfault.specs.Engines.{IsMadeHere, IsMadeOfBoth, NoCause, OfBoth, OfHeld, OfReply, Remakes, TookAtMost, WasRead}
-use Rattle.leastfault.specs.Replies.{HandsOut, IsAnswerReply, IsCheckReply, IsPoolCause, IsReplyWith, IsRunReply, IsSearchedWith, IsSharedWith, MayWork}
+use Rattle.leastfault.specs.Replies.{HandsOut, IsCheckReply, IsPoolCause, IsReplyWith, IsSearchedWith, IsSharedWith, MayWork}
 use Rattle.leastfault.specs.Replies.{reports_of}
 use Rattle.leastfault.proofs.EngineLemmas.{both_wider, remade}
 

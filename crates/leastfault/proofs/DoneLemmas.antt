@@ -1,7 +1,6 @@
 -- What a command comes to, by the bytes at the front of the texts that it is about.
-use Rattle.std.proofs.Common.{◌≡◌, ℕ, ◌+◌, ◌<◌, List, length, take, inl, inr, string_bytes}
+use Rattle.std.proofs.Common.{ℕ, List, inl, inr, string_bytes}
 use Rattle.std.specs.Prelude.{Option, None, Some}
-use Rattle.lf_protocol_file.specs.Files as files
 use Rattle.lf_scenario.specs.Limits.{longest}
 use Rattle.lf_tree.specs.Texts.{most_bytes}
 use Rattle.lf_words.specs.declared.types.Asked.{Asked}
@@ -9,9 +8,9 @@ use Rattle.lf_words.specs.declared.types.Asked.TheVariants as asked
 use Rattle.lf_written.specs.declared.declared.Declared.{Declared}
 use Rattle.leastfault.specs.declared.reply.Certified.{Certified}
 use Rattle.leastfault.specs.Commands.{IsCause, IsCauseFor, IsDone, IsDoneFor, wanted_of}
-use Rattle.leastfault.specs.Replies.{reports_of}
 use Rattle.leastfault.specs.declared.shown.Told.TheVariants as told
 use Rattle.leastfault.proofs.ShownLemmas.{shown_by_front, told_by_front}
+use Rattle.leastfault.proofs.WhyLemmas.{why_by_front}
 use Rattle.leastfault.proofs.ReplyLemmas.{GoesByFront, answer_by_front, certified_by_front, certified_cause_by_front, check_by_front, file_by_front}
 use Rattle.leastfault.proofs.ReplyLemmas.{file_refused_by_front, protocol_by_front, tree_by_front, uncertified_by_front}
 
@@ -31,6 +30,8 @@ module _ (known : Option Declared) where
       (check_by_front known certificate reply ended.status held more is.0, is.1)
   done_for_by_front (asked.Answer file quiet protocol) certificate reply ended held more is =
       (answer_by_front known reply ended.status held more is.0, is.1)
+  done_for_by_front (asked.Why file quiet protocol) certificate reply ended held more is =
+      (why_by_front known reply ended.status held more is.0, is.1)
   done_for_by_front (asked.Protocol file) certificate reply ended held more is = (protocol_by_front reply ended.status held more is.0, is.1)
 
   pub done_for_by_tree : (a : Asked) (text reply : List ℕ) (ended : Certified)
@@ -41,6 +42,7 @@ module _ (known : Option Declared) where
   done_for_by_tree (asked.Check file tree quiet protocol) text reply ended held more is =
       (tree_by_front known text reply ended.status held more is.0, is.1)
   done_for_by_tree (asked.Answer file quiet protocol) text reply ended held more is = is
+  done_for_by_tree (asked.Why file quiet protocol) text reply ended held more is = is
   done_for_by_tree (asked.Protocol file) text reply ended held more is = is
 
   pub cause_for_by_front : (a : Asked) (number : ℕ) → GoesByFront longest (λ text. IsCauseFor known a text number)
@@ -50,6 +52,7 @@ module _ (known : Option Declared) where
   cause_for_by_front (asked.Draw file faults protocol) number held more is = is
   cause_for_by_front (asked.Check file tree quiet protocol) number held more is = is
   cause_for_by_front (asked.Answer file quiet protocol) number held more is = is
+  cause_for_by_front (asked.Why file quiet protocol) number held more is = is
   cause_for_by_front (asked.Protocol file) number held more is = is
 
 pub done_by_front : (a : Asked) (protocol certificate : Option (List ℕ)) (reply : List ℕ) (ended : Certified)

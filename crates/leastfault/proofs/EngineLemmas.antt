@@ -3,7 +3,6 @@ use Rattle.std.proofs.Common.{◌≡◌, ℕ, ◌+◌, Bool, true, false, List, 
 use Rattle.std.specs.Prelude.{◌||◌, drop, Option, None, Some, is_some, IfSome, Result, Ok, Err}
 use Rattle.std.proofs.lemmas.Bool.{cases_lt}
 use Rattle.std.proofs.lemmas.List.{drop_all, length-take-le, take_all}
-use Rattle.std.proofs.lemmas.Result.{IfOk-weaker}
 use Rattle.lf_scenario.specs.Limits.{longest}
 use Rattle.lf_tree.specs.Texts.{most_bytes}
 use Rattle.leastfault.specs.declared.fault.BytesFault.{BytesFault}

@@ -1,6 +1,6 @@
 -- A text asks for one scenario or has one refusal, whichever protocol is known besides the shipped ones.
 use Rattle.std.proofs.Common.{◌≡◌, ◌<◌, ◌≤◌, ◌+◌, ℕ, List, length, take, sym, ◌∙◌, subst, inl, inr, arith, Ok, Err}
-use Rattle.std.specs.Prelude.{◌⊎◌, Option, None, Some}
+use Rattle.std.specs.Prelude.{Option, None, Some}
 use Rattle.std.proofs.lemmas.List.{length-take}
 use Rattle.toml.specs.Data.{Members}
 use Rattle.lf_written.specs.declared.declared.Declared.{Declared}

@@ -12,4 +12,5 @@ mod SetTexts
 mod ShownLemmas
 mod TreeTexts
 mod Uniqueness
+mod WhyLemmas
 mod Yes

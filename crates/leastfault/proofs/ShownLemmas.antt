@@ -1,24 +1,17 @@
 -- Replies to runs, told as it is asked.
-use Rattle.std.proofs.Common.{◌≡◌, ◌≢◌, ℕ, List, inl, inr, sym, ◌∙◌, false, true, string_bytes}
-use Rattle.std.specs.Prelude.{◌⊎◌, Option, None, Some}
-use Rattle.lf_changes.specs.Beside.{beside_by}
+use Rattle.std.proofs.Common.{◌≡◌, ℕ, List, inl, inr, sym, ◌∙◌, false, true, string_bytes}
+use Rattle.std.specs.Prelude.{Option, None, Some}
 use Rattle.lf_faults.specs.declared.fault.Parts.{Parts}
-use Rattle.lf_faults.specs.Allowed.{IsAllowed}
 use Rattle.lf_scenario.specs.Limits.{longest}
 use Rattle.lf_scenario.specs.declared.scenario.Scenario.{Scenario}
-use Rattle.lf_sim.specs.Settings.{world_of}
-use Rattle.lf_trace.specs.Namings.{Names}
-use Rattle.lf_trace.specs.Words.{words_of}
 use Rattle.lf_words.specs.declared.types.Shown.{Shown}
 use Rattle.lf_words.specs.declared.types.Shown.TheVariants as shown
 use Rattle.lf_written.specs.declared.declared.Declared.{Declared}
 use Rattle.leastfault.specs.declared.shown.Told.{Told}
 use Rattle.leastfault.specs.declared.shown.Told.TheVariants as told
-use Rattle.leastfault.specs.Answers.{reaches_in}
-use Rattle.leastfault.specs.Known.{IsTextOf}
 use Rattle.leastfault.specs.Replies.{RepliesNoSet, tells_rules}
-use Rattle.leastfault.specs.Reports.{no_set_line, run_status}
-use Rattle.leastfault.specs.Shown.{IsBesideReply, IsShownReply, IsToldReply, RepliesBesides, Tells}
+use Rattle.leastfault.specs.Reports.{no_set_line}
+use Rattle.leastfault.specs.Shown.{IsBesideReply, IsShownReply, IsToldReply}
 use Rattle.leastfault.proofs.KnownLaws.{front_is_no_text, refused_by_front}
 use Rattle.leastfault.proofs.ReplyLemmas.{GoesByFront, IsChoice, run_by_front}
 

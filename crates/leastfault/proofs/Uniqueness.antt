@@ -1,5 +1,5 @@
 -- A text, and words, have one reply at most.
-use Rattle.std.proofs.Common.{◌≡◌, ℕ, List, not, refl, sym, ap, ◌∙◌, subst, inl, inr, arith}
+use Rattle.std.proofs.Common.{◌≡◌, ℕ, List, ◌++◌, not, refl, sym, ap, ◌∙◌, subst, inl, inr, arith}
 use Rattle.std.specs.Prelude.{◌⊎◌, Bool, Ok, Option, None, Some, slice_get}
 use Rattle.std.specs.Cmp.{IsTotalOrder}
 use Rattle.lf_document.specs.declared.error.ProtocolError.{ProtocolError}
@@ -23,6 +23,9 @@ use Rattle.lf_scenario.specs.Sameness.{AreSame}
 use Rattle.lf_scenario.proofs.Laws.{worlds_are_one}
 use Rattle.lf_search.specs.Levels.{AreAllLeast, IsFullAt}
 use Rattle.lf_trace.specs.Namings.{Names}
+use Rattle.lf_trace.specs.Words.{words_of}
+use Rattle.lf_why.specs.Answers.{IsWhy}
+use Rattle.lf_why.proofs.Laws.{why_one}
 use Rattle.lf_tree.specs.declared.tree.Tree.{Tree}
 use Rattle.lf_tree.specs.FirstFaults.{IsJson}
 use Rattle.lf_tree.specs.Reading.{tree_in}
@@ -36,6 +39,7 @@ use Rattle.leastfault.specs.Reports.{all_report, full_line, no_line, refusal, re
 use Rattle.leastfault.specs.Replies.{HandsOut, HasOneReply, IsAllReply, IsAnswerReply, IsCheckReply, IsReplyWith, IsRunReply, IsSearchReply, IsTreeFor}
 use Rattle.leastfault.specs.Replies.{RepliesAll, RepliesAnswer, RepliesCheck, RepliesNoSet, RepliesReport}
 use Rattle.leastfault.specs.Replies.{RepliesRefusal, RepliesSearch, RepliesTrace, RepliesTreeRefusal, RepliesVerdict, trace_of}
+use Rattle.leastfault.specs.Why.{IsWhyReply, RepliesWhy}
 use Rattle.leastfault.proofs.KnownLaws.{refusals_are_one, refused_is_no_text, scenarios_are_one}
 use Rattle.leastfault.proofs.LeastSets.{first_of_least, least_one}
 use Rattle.leastfault.proofs.TreeTexts.{tree_faults_one, tree_not_refused, trees_one}
@@ -185,6 +189,35 @@ tree_of_same s t tree same is =
     subst (λ f. IsTreeOf (world_of t.setting) t.setting.spec f tree) same.formula
     (subst (λ w. IsTreeOf w t.setting.spec s.formula tree) (worlds_are_one s t same)
     (subst (λ b. IsTreeOf (world_of s.setting) b s.formula tree) same.bounds is.search))
+
+-- and one text tells why its answer is one
+why_of_same : (s t : Scenario) (tree : Tree) (lines : List ℕ) → AreSame s t
+    → IsWhy (words_of s.setting.machine) (world_of s.setting) s.setting.spec s.formula tree lines
+    → IsWhy (words_of t.setting.machine) (world_of t.setting) t.setting.spec t.formula tree lines
+why_of_same s t tree lines same is =
+    subst (λ f. IsWhy (words_of t.setting.machine) (world_of t.setting) t.setting.spec f tree lines) same.formula
+    (subst (λ b. IsWhy (words_of t.setting.machine) (world_of t.setting) b s.formula tree lines) same.bounds
+    (subst (λ w. IsWhy (words_of t.setting.machine) w s.setting.spec s.formula tree lines) (worlds_are_one s t same)
+    (subst (λ k. IsWhy (words_of k) (world_of s.setting) s.setting.spec s.formula tree lines) same.protocol is)))
+
+reasons_one : HaveOneReport RepliesWhy
+reasons_one = record {
+  never_full = λ s reply status told. told.1;
+  one = λ s t same one other m n a b.
+      let trees = tree_one (world_of t.setting) t.setting.spec t.formula a.0 b.0 (tree_of_same s t a.0 same a.2) b.2.search in
+      let lines = why_one (words_of t.setting.machine) (world_of t.setting) t.setting.spec t.formula b.0 a.3.0 b.3.0
+      (subst (λ tree. IsWhy (words_of t.setting.machine) (world_of t.setting) t.setting.spec t.formula tree a.3.0) trees
+      (why_of_same s t a.0 a.3.0 same a.3.1))
+      b.3.1 in (
+        a.3.2 ∙ ap (λ bounds. report bounds.budget a.0.answer ++ a.3.0) same.bounds
+            ∙ ap (λ tree. report t.setting.spec.budget tree.answer ++ a.3.0) trees
+            ∙ ap (λ more. report t.setting.spec.budget b.0.answer ++ more) lines ∙ sym b.3.2,
+        a.4 ∙ ap (λ tree. search_status tree.answer) trees ∙ sym b.4,
+      );
+}
+
+pub why_replies_one : (known : Option Declared) (text : List ℕ) → HasOneReply (IsWhyReply known text)
+why_replies_one known text = with_one RepliesWhy reasons_one known text
 
 pub no_answer_is_two : (answer : Option (List Parts)) → 2 ≡ search_status answer → ⊥
 no_answer_is_two None is = omega (arith, is)

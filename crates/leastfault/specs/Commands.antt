@@ -21,6 +21,7 @@ use Rattle.leastfault.specs.Protocols.{IsProtocolReply, RepliesProtocolRefusal}
 use Rattle.leastfault.specs.Replies.{HandsOut, IsAnswerReply, IsCheckReply, IsPoolCause, IsReplyWith, MayWork, reports_of}
 use Rattle.leastfault.specs.Reports.{tree_refusal}
 use Rattle.leastfault.specs.Shown.{IsShownReply, IsToldReply}
+use Rattle.leastfault.specs.Why.{IsWhyReply}
 use Rattle.leastfault.specs.declared.shown.Told.TheVariants as told
 
 -- the bytes of the certificate, where there is one
@@ -105,6 +106,7 @@ tree_file (asked.Run file faults shown protocol) = None
 tree_file (asked.Draw file faults protocol) = None
 tree_file (asked.Check file tree quiet protocol) = Some (string_bytes tree)
 tree_file (asked.Answer file quiet protocol) = None
+tree_file (asked.Why file quiet protocol) = None
 tree_file (asked.Protocol file) = None
 
 module _ (known : Option Declared) where
@@ -131,6 +133,7 @@ module _ (known : Option Declared) where
       IsCheckOf text certificate reply ended.status × (certificate_of ended ≡ None)
   IsDoneFor (asked.Answer file quiet protocol) text certificate reply ended =
       IsAnswerReply known text reply ended.status × (certificate_of ended ≡ None)
+  IsDoneFor (asked.Why file quiet protocol) text certificate reply ended = IsWhyReply known text reply ended.status × (certificate_of ended ≡ None)
   IsDoneFor (asked.Protocol file) text certificate reply ended = IsProtocolReply text reply ended.status × (certificate_of ended ≡ None)
 
   -- for this cause workers give no answer
@@ -140,6 +143,7 @@ module _ (known : Option Declared) where
   IsCauseFor (asked.Draw file faults protocol) text number = ⊥
   IsCauseFor (asked.Check file tree quiet protocol) text number = ⊥
   IsCauseFor (asked.Answer file quiet protocol) text number = ⊥
+  IsCauseFor (asked.Why file quiet protocol) text number = ⊥
   IsCauseFor (asked.Protocol file) text number = ⊥
 
 -- the file of the protocol is refused: that is the reply, whatever else is asked for

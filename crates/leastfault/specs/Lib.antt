@@ -4,6 +4,7 @@ pub mod Known
 pub mod Replies
 pub mod Searches
 pub mod Shown
+pub mod Why
 pub mod Engines
 pub mod Protocols
 pub mod Commands

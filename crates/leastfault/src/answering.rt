@@ -1,6 +1,7 @@
 //! The replies of the engines, before they are written.
 
 ghost use Rattle.std.specs.Prelude.{◌≡◌, ◌≢◌, ◌↔◌, List, Some, true, false, string_bytes, IfOk};
+ghost use Rattle.std.specs.Arc.{arc_value};
 ghost use Rattle.lf_alone.specs.Ends.{IsNeverFull};
 ghost use Rattle.lf_book.specs.Books.{scenario_of, state_of};
 ghost use Rattle.lf_faults.specs.declared.fault.Parts.{Parts};
@@ -38,8 +39,8 @@ pub enum Wanted {
     AllLeast,
 }
 
-/// The reply of a search to a scenario's text.
-pub(crate) fn search_reply<V: Watch>(
+/// The reply of a search to a scenario's text, and the tree of the search where it has an answer.
+pub fn search_reply<V: Watch>(
     alloc: Global,
     known: Option<&ProtocolFile>,
     wanted: Wanted,
@@ -49,7 +50,7 @@ pub(crate) fn search_reply<V: Watch>(
     ensures { IfOk result (λ found. IsSearchedWith (known_of known.entry) (reports_of wanted) text.now (string_bytes found.text) found.value) }
 {
     match read_known(alloc, text, known) {
-        Ok(scenario) => searched(alloc, wanted, scenario, watch),
+        Ok(scenario) => searched(alloc, wanted, Arc::new(alloc, scenario)?, watch),
         Err(error) => {
             let refusal = refused(alloc, error)?;
             Ok(without_tree(refusal.text, refusal.value))
@@ -58,15 +59,15 @@ pub(crate) fn search_reply<V: Watch>(
 }
 
 /// The reply of a search for a scenario.
-fn searched<V: Watch>(
+pub(crate) fn searched<V: Watch>(
     alloc: Global,
     wanted: Wanted,
-    scenario: Scenario,
+    scenario: Arc<Scenario>,
     watch: &V,
 ) -> Result<Reply<Searched>, AllocError>
-    ensures { IfOk result (IsFoundFor wanted scenario) }
+    ensures { IfOk result (IsFoundFor wanted (arc_value scenario)) }
 {
-    match solve_watched(alloc, Arc::new(alloc, scenario)?, watch)? {
+    match solve_watched(alloc, scenario, watch)? {
         Ended::Finished(book) => finished(alloc, wanted, book),
         Ended::Full { level, count } => {
             let told = full(alloc, level, count)?;
@@ -152,8 +153,8 @@ fn least_sets(book: &Book) -> Result<Vec<FaultSet>, AllocError>
     Ok(sets)
 }
 
-/// The reply that tells the answer to a scenario's text.
-pub(crate) fn answer_reply<V: Watch>(
+/// The reply that tells the answer to a scenario's text, with its status.
+pub fn answer_reply<V: Watch>(
     alloc: Global,
     known: Option<&ProtocolFile>,
     text: &[u8],

@@ -15,6 +15,7 @@ use crate::protocol::{protocol_refused, protocol_reply};
 use crate::reading::{CommandTexts, read_command};
 use crate::reply::{Certified, Reply, Searched, without_certificate};
 use crate::shown::{Told, shown_reply, told_reply};
+use crate::why::why_reply;
 use lf_protocol_file::read_protocol;
 use lf_streams::Source;
 use lf_watch::Watch;
@@ -38,6 +39,7 @@ pub fn tree_file(asked: &Asked) -> Option<&str>
         | Asked::Run { .. }
         | Asked::Draw { .. }
         | Asked::Answer { .. }
+        | Asked::Why { .. }
         | Asked::Protocol { .. } => None,
     }
 }
@@ -56,6 +58,7 @@ pub fn certificate_file(asked: &Asked) -> Option<&str>
         | Asked::Draw { .. }
         | Asked::Check { .. }
         | Asked::Answer { .. }
+        | Asked::Why { .. }
         | Asked::Protocol { .. } => None,
     }
 }
@@ -106,7 +109,8 @@ fn names_protocol(asked: &Asked) -> bool
         | Asked::Run { protocol, .. }
         | Asked::Draw { protocol, .. }
         | Asked::Check { protocol, .. }
-        | Asked::Answer { protocol, .. } => protocol.is_some(),
+        | Asked::Answer { protocol, .. }
+        | Asked::Why { protocol, .. } => protocol.is_some(),
         Asked::Protocol { .. } => false,
     }
 }
@@ -165,6 +169,7 @@ fn reply_knowing<T: Threads + Wait + Clock + Sync, V: Watch>(
             None => uncertified(reply_by(rt, alloc, known, wanted_of(*all), *workers, text, watch)),
         },
         Asked::Answer { .. } => Ok(alone(answer_reply(alloc, known, text, watch)?)),
+        Asked::Why { .. } => Ok(alone(why_reply(alloc, known, text, watch)?)),
         Asked::Run { faults, shown, .. } => {
             Ok(alone(shown_reply(alloc, known, shown, text, faults.as_str())?))
         }

@@ -5,11 +5,14 @@ ghost use Rattle.std.specs.Prelude.{◌≡◌, ◌≢◌, Some, true, false, Mat
 ghost use Rattle.leastfault.specs.Engines.{IsEngine, IsEngineOfBoth, NoCause};
 ghost use Rattle.leastfault.specs.Known.{IsRefusedOf, IsTextOf, known_of};
 ghost use Rattle.leastfault.specs.Replies.{IsAnswerReply, IsCheckReply, IsPoolCause, IsRunReply, IsSearchedWith, IsSharedWith, reports_of};
+ghost use Rattle.leastfault.specs.Why.{IsWhyReply};
 
 use crate::answering::Wanted;
 use crate::checking::judged_in_rows;
 use crate::fault::BytesFault;
-use crate::made::{answer_made, given_made, rules_made, run_made, search_made, shared_made};
+use crate::made::{
+    answer_made, given_made, rules_made, run_made, search_made, shared_made, why_made,
+};
 use crate::reply::Searched;
 use crate::sending::send;
 use lf_own_scenario::read_with;
@@ -90,6 +93,24 @@ pub fn answer_known<R: Source, W: Sink, V: Watch>(
         W.written W.has_failed writer.old writer.new result }
 {
     let made = answer_made(alloc, known, reader, watch);
+    send(writer, made)
+}
+
+/// Reads a scenario and writes the report of its answer, as `search_known` does, and behind it why that is the answer: of a set of faults what
+/// each of them is needed for, and of `none` what stands behind it.
+pub fn why_known<R: Source, W: Sink, V: Watch>(
+    alloc: Global,
+    known: Option<&ProtocolFile>,
+    reader: &mut R,
+    writer: &mut W,
+    watch: &V,
+) -> Result<u8, BytesFault>
+    requires reader { R.has_failed reader.old ≡ false }
+    requires writer { W.has_failed writer.old ≡ false }
+    ensures { IsEngine R.left R.has_failed (IsWhyReply (known_of known.entry)) NoCause reader.old reader.new
+        W.written W.has_failed writer.old writer.new result }
+{
+    let made = why_made(alloc, known, reader, watch);
     send(writer, made)
 }
 

@@ -1,7 +1,7 @@
 //! What the definitions of this crate promise, for every scenario and every text: calls whose contracts are the laws.
 
 ghost use Rattle.lf_alone.specs.Ends.{IsFull};
-ghost use Rattle.std.specs.Prelude.{◌≡◌, ◌⊎◌, ℕ, Bool, List, Option, length, slice_get};
+ghost use Rattle.std.specs.Prelude.{◌≡◌, ◌⊎◌, ◌++◌, ℕ, Bool, List, Option, length, slice_get};
 ghost use Rattle.lf_written.specs.declared.declared.Declared.{Declared};
 ghost use Rattle.leastfault.specs.Known.{IsTextOf};
 ghost use Rattle.std.specs.List.{Contains};
@@ -15,6 +15,7 @@ ghost use Rattle.leastfault.specs.Protocols.{IsProtocolReply};
 ghost use Rattle.leastfault.specs.Replies.{RepliesAll, RepliesReport};
 ghost use Rattle.leastfault.specs.Replies.{HandsOut, HasOneReply, IsAllReply, IsAnswerReply, IsCheckReply, IsRunReply, IsSearchReply, IsTreeText};
 ghost use Rattle.leastfault.specs.Reports.{yes_line};
+ghost use Rattle.leastfault.specs.Why.{IsWhyReply};
 
 use lf_faults::{FaultSpec, orders_are_total};
 use lf_protocol_file::refusals_are_one;
@@ -42,8 +43,8 @@ pub fn least_sets_are_one()
 
 /// A text has at most one reply of a search that reports the answer, and one of a search that reports all least sets, both with one
 /// status and one tree that is handed out, and each one with a certificate, which is one too; one that tells the answer alone, which is
-/// that of the search unless a level of it is too full; and with these words at most one of a run. So it is whichever protocol is known
-/// besides the shipped ones.
+/// that of the search unless a level of it is too full; one that tells why, which begins with that of the search; and with these words at
+/// most one of a run. So it is whichever protocol is known besides the shipped ones.
 pub fn replies_are_one(faults: &str)
     ensures search { (known : Option Declared) (text : List ℕ) → HasOneReply (IsSearchReply known text) }
     ensures all { (known : Option Declared) (text : List ℕ) → HasOneReply (IsAllReply known text) }
@@ -56,6 +57,9 @@ pub fn replies_are_one(faults: &str)
     ensures certified { (known : Option Declared) (text : List ℕ) → HasOneEnd (IsCertified known RepliesReport text) }
     ensures certified_all { (known : Option Declared) (text : List ℕ) → HasOneEnd (IsCertified known RepliesAll text) }
     ensures run { (known : Option Declared) (rules : Bool) (text : List ℕ) → HasOneReply (IsRunReply known rules faults.now text) }
+    ensures why { (known : Option Declared) (text : List ℕ) → HasOneReply (IsWhyReply known text) }
+    ensures begins { (known : Option Declared) (text reply : List ℕ) (status : ℕ) → IsWhyReply known text reply status →
+        (report : List ℕ) × (lines : List ℕ) × IsSearchReply known text report status × (reply ≡ report ++ lines) }
 {
     orders_are_total();
     names_are_one(faults);

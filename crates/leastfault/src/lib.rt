@@ -25,10 +25,11 @@ mod sending;
 mod shown;
 mod telling;
 mod watched;
+mod why;
 mod workers;
 
 pub use answer::{merged_answer, merged_watched, plain_answer};
-pub use answering::Wanted;
+pub use answering::{Wanted, answer_reply, search_reply};
 pub use certified::{certified_known, search_certified};
 pub use commands::{certificate_file, execute, tree_file};
 pub use engine::{
@@ -38,6 +39,7 @@ pub use engine::{
 pub use fault::BytesFault;
 pub use known::{
     answer_known, check_known, read_known, run_known, run_rules, search_known, shared_known,
+    why_known,
 };
 pub use laws::{
     answers_are_one, check_replies_are_one, least_sets_are_one, protocol_replies_are_one,

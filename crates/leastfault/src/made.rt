@@ -6,6 +6,7 @@ ghost use Rattle.leastfault.specs.Engines.{IsMadeOfBoth, IsMadeOfOne, NoCause, O
 ghost use Rattle.leastfault.specs.Protocols.{IsProtocolReply};
 ghost use Rattle.leastfault.specs.Known.{known_of};
 ghost use Rattle.leastfault.specs.Replies.{IsAnswerReply, IsPoolCause, IsRunReply, IsSearchedWith, IsSharedWith, reports_of};
+ghost use Rattle.leastfault.specs.Why.{IsWhyReply};
 
 use crate::answering::{Wanted, answer_reply, run_reply, search_reply};
 use crate::checking::{Given, texts_given};
@@ -14,6 +15,7 @@ use crate::protocol::protocol_reply;
 use crate::reading::{read_text, read_texts};
 use crate::reply::{Reply, Searched};
 use crate::ruled::rules_reply;
+use crate::why::why_reply;
 use crate::workers::shared_reply;
 use lf_scenario::LONGEST;
 use lf_streams::Source;
@@ -72,6 +74,20 @@ pub(crate) fn answer_made<R: Source, V: Watch>(
 {
     let text = read_text(alloc, reader, LONGEST)?;
     Ok(answer_reply(alloc, known, text.as_slice(), watch)?)
+}
+
+/// The reply to what a source holds that tells why the answer is one.
+pub(crate) fn why_made<R: Source, V: Watch>(
+    alloc: Global,
+    known: Option<&ProtocolFile>,
+    reader: &mut R,
+    watch: &V,
+) -> Result<Reply<u8>, BytesFault>
+    requires { R.has_failed reader.old ≡ false }
+    ensures { IsMadeOfOne R.left R.has_failed (OfReply (IsWhyReply (known_of known.entry))) NoCause reader.old reader.new result }
+{
+    let text = read_text(alloc, reader, LONGEST)?;
+    Ok(why_reply(alloc, known, text.as_slice(), watch)?)
 }
 
 /// The reply of a run to what a source holds.

@@ -3,6 +3,7 @@
 //!
 //!     leastfault search FILE [--protocol PROTOCOL] [--all] [--tree TREE] [--workers N] [--quiet]
 //!     leastfault answer FILE [--protocol PROTOCOL] [--quiet]
+//!     leastfault why FILE [--protocol PROTOCOL] [--quiet]
 //!     leastfault run FILE FAULTS [--protocol PROTOCOL] [--rules | --changes | --json | --beside FAULTS]
 //!     leastfault draw FILE FAULTS [--protocol PROTOCOL]
 //!     leastfault check FILE TREE [--protocol PROTOCOL] [--quiet]
@@ -16,7 +17,7 @@
 //! file TREE, and then the reply. With `--workers` N workers search at once, 1 to 32: the reply and the certificate are the same.
 //!
 //! `answer` prints what `search` does, by another way: it keeps configurations of the cluster and no sets, so no level can be too full, and
-//! it makes no certificate.
+//! it makes no certificate. `why` prints what `search` does, and behind it what each fault is needed for, or what stands behind `none`.
 //!
 //! With `--protocol` the scenario may name the protocol of that file, and give its constants anew; `run --rules` prints under each step which
 //! of its rules each node took. `run --changes` prints of each step only the nodes that change, and the notes; `run --beside FAULTS` prints
@@ -32,8 +33,8 @@
 //! with the device on the next line, or `pool NUMBER`.
 //!
 //! Where the status is 2, standard error says in words what is wrong with what was refused. Where a protocol file is one, it says what the
-//! file has, and what in it looks like a slip. Of a search and a run with `--protocol` it says where the run without faults passes a range or
-//! replaces a note. Else it stays empty where all is well. But where it is a terminal, a search, an answer or a
+//! file has, and what in it looks like a slip. Of a search, `why` and a run with `--protocol` it says where the run without faults passes a range or
+//! replaces a note. Else it stays empty where all is well. But where it is a terminal, a search, an answer, `why` or a
 //! check that takes longer than a second says on one line there how far it has come, and erases that line before it replies. With
 //! `--quiet` it doesn't.
 #![tactic(auto)]
@@ -162,9 +163,10 @@ fn done(
 /// Whether nothing is to be told on the way.
 fn is_quiet(asked: &Asked) -> bool {
     match asked {
-        Asked::Search { quiet, .. } | Asked::Answer { quiet, .. } | Asked::Check { quiet, .. } => {
-            *quiet
-        }
+        Asked::Search { quiet, .. }
+        | Asked::Answer { quiet, .. }
+        | Asked::Why { quiet, .. }
+        | Asked::Check { quiet, .. } => *quiet,
         Asked::Run { .. } | Asked::Draw { .. } | Asked::Protocol { .. } => true,
     }
 }
@@ -263,7 +265,7 @@ fn notes_of(alloc: Global, asked: &Asked, texts: &Texts<'_>) -> Result<String, A
     if asked.protocol_file().is_none()
         || !matches!(
             asked,
-            Asked::Search { .. } | Asked::Run { .. } | Asked::Draw { .. }
+            Asked::Search { .. } | Asked::Why { .. } | Asked::Run { .. } | Asked::Draw { .. }
         )
     {
         return Ok(String::new(alloc));
@@ -349,7 +351,9 @@ fn refused_hint(
             tree_hint(alloc, &[], TreeFault::TooLong)?
         }
         Asked::Search { all: true, .. } => all_hint(alloc, text, reply.as_bytes())?,
-        Asked::Search { .. } | Asked::Answer { .. } => search_hint(alloc, text, reply.as_bytes())?,
+        Asked::Search { .. } | Asked::Answer { .. } | Asked::Why { .. } => {
+            search_hint(alloc, text, reply.as_bytes())?
+        }
         Asked::Run { faults, shown, .. } => shown_hint(alloc, text, faults.as_str(), shown)?,
         Asked::Draw { faults, .. } => run_hint(alloc, text, faults.as_str())?,
         Asked::Check { .. } => check_hint(alloc, text, texts.certificate)?,
@@ -418,7 +422,9 @@ fn known_hint(
         Asked::Search { all: true, .. } => {
             level_hint(alloc, &scenario, Wanted::AllLeast, reply.as_bytes())
         }
-        Asked::Search { .. } => level_hint(alloc, &scenario, Wanted::Answer, reply.as_bytes()),
+        Asked::Search { .. } | Asked::Why { .. } => {
+            level_hint(alloc, &scenario, Wanted::Answer, reply.as_bytes())
+        }
         Asked::Run { faults, shown, .. } => { sets_hint(alloc, &scenario, faults.as_str(), shown) }
         Asked::Draw { faults, .. } => set_hint(alloc, &scenario, faults.as_str()),
         Asked::Check { .. } => certificate_hint(alloc, texts.certificate),

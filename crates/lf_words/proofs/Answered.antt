@@ -87,6 +87,7 @@ asked_range words (Some p) (asked.Run file faults shown protocol) h = (omega ari
 asked_range words (Some p) (asked.Draw file faults protocol) h = (omega arith, omega arith)
 asked_range words (Some p) (asked.Check file tree quiet protocol) h = (omega arith, omega arith)
 asked_range words (Some p) (asked.Answer file quiet protocol) h = (omega arith, omega arith)
+asked_range words (Some p) (asked.Why file quiet protocol) h = (omega arith, omega arith)
 asked_range words (Some p) (asked.Protocol file) h = (omega arith, omega arith)
 
 pub range_of : (words : List Text) (r : Result Asked Unasked) → Answers words r → IfOk r (λ a. IsWorkers (workers_of a))

@@ -16,7 +16,7 @@ use Rattle.lf_words.specs.declared.types.Asked.TheVariants as asked
 use Rattle.lf_words.specs.declared.unasked.Unasked.{Unasked}
 use Rattle.lf_words.specs.declared.unasked.Unasked.TheVariants as unasked
 use Rattle.lf_words.proofs.Plain.{counted_fault, counted_names, is_taken, named_search, written_fault, written_names}
-use Rattle.lf_words.proofs.Plainly.{Search, answer_or_search, both, check_or_search, draw_or_search, no_thing, protocol_or_search, run_or_search, some_is}
+use Rattle.lf_words.proofs.Plainly.{Search, answer_or_search, both, check_or_search, draw_or_search, no_thing, protocol_or_search, run_or_search, some_is, why_or_search}
 use Rattle.lf_words.proofs.Reading.{no_truth}
 
 -- a certificate for the scenario of a file would be written into it, or into the file of its protocol
@@ -64,6 +64,9 @@ search_is words (Some p) file tree all workers quiet (asked.Check own own_tree o
 search_is words (Some p) file tree all workers quiet (asked.Answer own own_quiet own_protocol) names asked =
     let found : named_search p ≡ (codes "search", Some file, tree, all, workers, quiet, None) = some_is _ _ names in
     absurd (answer_or_search p.0 asked.0.0 (ap (λ (q : Search). q.0) found))
+search_is words (Some p) file tree all workers quiet (asked.Why own own_quiet own_protocol) names asked =
+    let found : named_search p ≡ (codes "search", Some file, tree, all, workers, quiet, None) = some_is _ _ names in
+    absurd (why_or_search p.0 asked.0.0 (ap (λ (q : Search). q.0) found))
 search_is words (Some p) file tree all workers quiet (asked.Protocol own) names asked =
     let found : named_search p ≡ (codes "search", Some file, tree, all, workers, quiet, None) = some_is _ _ names in
     absurd (protocol_or_search p.0 asked.0.0 (ap (λ (q : Search). q.0) found))

@@ -149,6 +149,15 @@ pub answer_names : (file : Text) → IsTaken file
 unfolding clap_on_literals
 answer_names file taken = rw (taken.no_end, taken.no_long, taken.no_short) refl
 
+pub why_fault : (file : Text) → IsTaken file → fault_of program (codes "why" ∷ file ∷ []) ≡ []
+unfolding clap_on_literals
+why_fault file taken = rw (taken.no_end, taken.no_long, taken.no_short) refl
+
+pub why_names : (file : Text) → IsTaken file
+    → option_map named_one (subcommand_of program (codes "why" ∷ file ∷ [])) ≡ Some (codes "why", Some file, false, None)
+unfolding clap_on_literals
+why_names file taken = rw (taken.no_end, taken.no_long, taken.no_short) refl
+
 pub protocol_fault : (file : Text) → IsTaken file → fault_of program (codes "protocol" ∷ file ∷ []) ≡ []
 unfolding clap_on_literals
 protocol_fault file taken = rw (taken.no_end, taken.no_long, taken.no_short) refl
@@ -175,8 +184,9 @@ unfolding clap_on_literals
 short_version_fault words = refl
 
 pub unknown_fault : (word : Text) (words : List Text) → IsTaken word → bytes_eq (codes "search") word ≡ false → bytes_eq (codes "run") word ≡ false
-    → bytes_eq (codes "draw") word ≡ false → bytes_eq (codes "check") word ≡ false → bytes_eq (codes "answer") word ≡ false → bytes_eq (codes "protocol") word ≡ false
+    → bytes_eq (codes "draw") word ≡ false → bytes_eq (codes "check") word ≡ false → bytes_eq (codes "answer") word ≡ false
+    → bytes_eq (codes "why") word ≡ false → bytes_eq (codes "protocol") word ≡ false
     → fault_of program (word ∷ words) ≡ kind.UnknownArgument ∷ kind.InvalidSubcommand ∷ []
 unfolding clap_on_literals
-unknown_fault word words taken no_search no_run no_draw no_check no_answer no_protocol =
-    rw (no_search, no_run, no_draw, no_check, no_answer, no_protocol, taken.no_end, taken.no_long, taken.no_short) refl
+unknown_fault word words taken no_search no_run no_draw no_check no_answer no_why no_protocol =
+    rw (no_search, no_run, no_draw, no_check, no_answer, no_why, no_protocol, taken.no_end, taken.no_long, taken.no_short) refl

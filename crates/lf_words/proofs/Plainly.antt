@@ -22,7 +22,7 @@ use Rattle.lf_words.specs.declared.unasked.Unasked.{Unasked}
 use Rattle.lf_words.specs.declared.unasked.Unasked.TheVariants as unasked
 use Rattle.lf_words.proofs.Plain.{IsTaken, is_taken, named_alone, named_check, named_draw, named_one, named_run, named_search}
 use Rattle.lf_words.proofs.Plain.{answer_fault, answer_names, check_fault, check_names, draw_fault, draw_names, run_fault, run_names, search_fault, search_names}
-use Rattle.lf_words.proofs.Plain.{help_fault, protocol_fault, protocol_names, short_help_fault, short_version_fault, unknown_fault, version_fault}
+use Rattle.lf_words.proofs.Plain.{help_fault, protocol_fault, protocol_names, short_help_fault, short_version_fault, unknown_fault, version_fault, why_fault, why_names}
 use Rattle.lf_words.proofs.Reading.{apart, no_truth}
 
 abbrev Run : Type 0
@@ -110,6 +110,24 @@ protocol_or_check name is_protocol is_check = apart 99 112 (omega arith) (ap fir
 protocol_or_answer : (name : Text) → name ≡ codes "protocol" → name ≡ codes "answer" → ⊥
 protocol_or_answer name is_protocol is_answer = apart 97 112 (omega arith) (ap first (sym is_answer ∙ is_protocol))
 
+pub why_or_search : (name : Text) → name ≡ codes "why" → name ≡ codes "search" → ⊥
+why_or_search name is_why is_search = apart 115 119 (omega arith) (ap first (sym is_search ∙ is_why))
+
+why_or_run : (name : Text) → name ≡ codes "why" → name ≡ codes "run" → ⊥
+why_or_run name is_why is_run = apart 114 119 (omega arith) (ap first (sym is_run ∙ is_why))
+
+why_or_draw : (name : Text) → name ≡ codes "why" → name ≡ codes "draw" → ⊥
+why_or_draw name is_why is_draw = apart 100 119 (omega arith) (ap first (sym is_draw ∙ is_why))
+
+why_or_check : (name : Text) → name ≡ codes "why" → name ≡ codes "check" → ⊥
+why_or_check name is_why is_check = apart 99 119 (omega arith) (ap first (sym is_check ∙ is_why))
+
+why_or_answer : (name : Text) → name ≡ codes "why" → name ≡ codes "answer" → ⊥
+why_or_answer name is_why is_answer = apart 97 119 (omega arith) (ap first (sym is_answer ∙ is_why))
+
+protocol_or_why : (name : Text) → name ≡ codes "protocol" → name ≡ codes "why" → ⊥
+protocol_or_why name is_protocol is_why = apart 112 119 (omega arith) (ap first (sym is_protocol ∙ is_why))
+
 search_of : (words : List Text) (o : Option (Text × List Row)) (file : Text) (a : Asked)
     → option_map named_search o ≡ Some (codes "search", Some file, None, false, None, false, None)
     → IsAskedIn words o a → IsPlainly (codes "search" ∷ file ∷ []) a
@@ -138,6 +156,9 @@ search_of words (Some p) file (asked.Check own tree quiet protocol) names asked 
 search_of words (Some p) file (asked.Answer own quiet protocol) names asked =
     let found : named_search p ≡ (codes "search", Some file, None, false, None, false, None) = some_is _ _ names in
     absurd (answer_or_search p.0 asked.0.0 (ap (λ (q : Search). q.0) found))
+search_of words (Some p) file (asked.Why own quiet protocol) names asked =
+    let found : named_search p ≡ (codes "search", Some file, None, false, None, false, None) = some_is _ _ names in
+    absurd (why_or_search p.0 asked.0.0 (ap (λ (q : Search). q.0) found))
 search_of words (Some p) file (asked.Protocol own) names asked =
     let found : named_search p ≡ (codes "search", Some file, None, false, None, false, None) = some_is _ _ names in
     absurd (protocol_or_search p.0 asked.0.0 (ap (λ (q : Search). q.0) found))
@@ -197,6 +218,9 @@ run_of words (Some p) file faults (asked.Check own tree quiet protocol) names as
 run_of words (Some p) file faults (asked.Answer own quiet protocol) names asked =
     let pair : named_run p ≡ (codes "run", Some file, Some faults, (false, false, false, None), None) = some_is _ _ names in
     absurd (answer_or_run p.0 asked.0.0 (ap (λ (q : Run). q.0) pair))
+run_of words (Some p) file faults (asked.Why own quiet protocol) names asked =
+    let pair : named_run p ≡ (codes "run", Some file, Some faults, (false, false, false, None), None) = some_is _ _ names in
+    absurd (why_or_run p.0 asked.0.0 (ap (λ (q : Run). q.0) pair))
 run_of words (Some p) file faults (asked.Protocol own) names asked =
     let pair : named_run p ≡ (codes "run", Some file, Some faults, (false, false, false, None), None) = some_is _ _ names in
     absurd (protocol_or_run p.0 asked.0.0 (ap (λ (q : Run). q.0) pair))
@@ -246,6 +270,9 @@ draw_of words (Some p) file faults (asked.Check own tree quiet protocol) names a
 draw_of words (Some p) file faults (asked.Answer own quiet protocol) names asked =
     let pair : named_draw p ≡ (codes "draw", Some file, Some faults, None) = some_is _ _ names in
     absurd (answer_or_draw p.0 asked.0.0 (ap (λ (q : Draw). q.0) pair))
+draw_of words (Some p) file faults (asked.Why own quiet protocol) names asked =
+    let pair : named_draw p ≡ (codes "draw", Some file, Some faults, None) = some_is _ _ names in
+    absurd (why_or_draw p.0 asked.0.0 (ap (λ (q : Draw). q.0) pair))
 draw_of words (Some p) file faults (asked.Protocol own) names asked =
     let pair : named_draw p ≡ (codes "draw", Some file, Some faults, None) = some_is _ _ names in
     absurd (protocol_or_draw p.0 asked.0.0 (ap (λ (q : Draw). q.0) pair))
@@ -289,6 +316,9 @@ check_of words (Some p) file tree (asked.Check own own_tree quiet protocol) name
 check_of words (Some p) file tree (asked.Answer own quiet protocol) names asked =
     let pair : named_check p ≡ (codes "check", Some file, Some tree, false, None) = some_is _ _ names in
     absurd (answer_or_check p.0 asked.0.0 (ap (λ (q : Check). q.0) pair))
+check_of words (Some p) file tree (asked.Why own quiet protocol) names asked =
+    let pair : named_check p ≡ (codes "check", Some file, Some tree, false, None) = some_is _ _ names in
+    absurd (why_or_check p.0 asked.0.0 (ap (λ (q : Check). q.0) pair))
 check_of words (Some p) file tree (asked.Protocol own) names asked =
     let pair : named_check p ≡ (codes "check", Some file, Some tree, false, None) = some_is _ _ names in
     absurd (protocol_or_check p.0 asked.0.0 (ap (λ (q : Check). q.0) pair))
@@ -336,6 +366,9 @@ answer_of words (Some p) file (asked.Answer own quiet protocol) names asked =
       shipped = sym asked.0.3 ∙ ap (λ (q : One). q.3) found;
       short = refl;
     }
+answer_of words (Some p) file (asked.Why own quiet protocol) names asked =
+    let found : named_one p ≡ (codes "answer", Some file, false, None) = some_is _ _ names in
+    absurd (why_or_answer p.0 asked.0.0 (ap (λ (q : One). q.0) found))
 answer_of words (Some p) file (asked.Protocol own) names asked =
     let found : named_one p ≡ (codes "answer", Some file, false, None) = some_is _ _ names in
     absurd (protocol_or_answer p.0 asked.0.0 (ap (λ (q : One). q.0) found))
@@ -346,6 +379,50 @@ asks_answer : (words : List Text) (o : Option (Text × List Row)) (file : String
 asks_answer words None file names is = absurd (no_thing _ names)
 asks_answer words (Some p) file names is =
     let found : named_one p ≡ (codes "answer", Some (string_bytes file), false, None) = some_is _ _ names in (
+      (ap (λ (q : One). q.0) found, ap (λ (q : One). q.1) found, ap (λ (q : One). q.2) found, ap (λ (q : One). q.3) found),
+      rw (is) (inl (refl, inl (refl, tt))),
+    )
+
+why_of : (words : List Text) (o : Option (Text × List Row)) (file : Text) (a : Asked)
+    → option_map named_one o ≡ Some (codes "why", Some file, false, None) → IsAskedIn words o a → IsPlainly (codes "why" ∷ file ∷ []) a
+why_of words None file a names asked = elim asked [ ]
+why_of words (Some p) file (asked.Search own tree all workers quiet protocol) names asked =
+    let found : named_one p ≡ (codes "why", Some file, false, None) = some_is _ _ names in
+    absurd (why_or_search p.0 (ap (λ (q : One). q.0) found) asked.0.0)
+why_of words (Some p) file (asked.Run own faults shown protocol) names asked =
+    let found : named_one p ≡ (codes "why", Some file, false, None) = some_is _ _ names in
+    absurd (why_or_run p.0 (ap (λ (q : One). q.0) found) asked.0.0)
+why_of words (Some p) file (asked.Draw own drawn_faults protocol) names asked =
+    let found : named_one p ≡ (codes "why", Some file, false, None) = some_is _ _ names in
+    absurd (why_or_draw p.0 (ap (λ (q : One). q.0) found) asked.0.0)
+why_of words (Some p) file (asked.Check own tree quiet protocol) names asked =
+    let found : named_one p ≡ (codes "why", Some file, false, None) = some_is _ _ names in
+    absurd (why_or_check p.0 (ap (λ (q : One). q.0) found) asked.0.0)
+why_of words (Some p) file (asked.Answer own quiet protocol) names asked =
+    let found : named_one p ≡ (codes "why", Some file, false, None) = some_is _ _ names in
+    absurd (why_or_answer p.0 (ap (λ (q : One). q.0) found) asked.0.0)
+why_of words (Some p) file (asked.Why own quiet protocol) names asked =
+    let found : named_one p ≡ (codes "why", Some file, false, None) = some_is _ _ names in
+    let same : own.bytes.items ≡ file = some_is _ _ (sym asked.0.1 ∙ ap (λ (q : One). q.1) found) in
+    record {
+      texts = rw (same) refl;
+      unwritten = refl;
+      one = refl;
+      alone = refl;
+      told = sym asked.0.2 ∙ ap (λ (q : One). q.2) found;
+      shipped = sym asked.0.3 ∙ ap (λ (q : One). q.3) found;
+      short = refl;
+    }
+why_of words (Some p) file (asked.Protocol own) names asked =
+    let found : named_one p ≡ (codes "why", Some file, false, None) = some_is _ _ names in
+    absurd (protocol_or_why p.0 asked.0.0 (ap (λ (q : One). q.0) found))
+
+asks_why : (words : List Text) (o : Option (Text × List Row)) (file : String Global)
+    → option_map named_one o ≡ Some (codes "why", Some (string_bytes file), false, None)
+    → words ≡ codes "why" ∷ string_bytes file ∷ [] → IsAskedIn words o (asked.Why file false None)
+asks_why words None file names is = absurd (no_thing _ names)
+asks_why words (Some p) file names is =
+    let found : named_one p ≡ (codes "why", Some (string_bytes file), false, None) = some_is _ _ names in (
       (ap (λ (q : One). q.0) found, ap (λ (q : One). q.1) found, ap (λ (q : One). q.2) found, ap (λ (q : One). q.3) found),
       rw (is) (inl (refl, inl (refl, tt))),
     )
@@ -368,6 +445,9 @@ protocol_of words (Some p) file (asked.Check own tree quiet protocol) names aske
 protocol_of words (Some p) file (asked.Answer own quiet protocol) names asked =
     let found : named_alone p ≡ (codes "protocol", Some file) = some_is _ _ names in
     absurd (protocol_or_answer p.0 (ap (λ (q : Alone). q.0) found) asked.0.0)
+protocol_of words (Some p) file (asked.Why own quiet protocol) names asked =
+    let found : named_alone p ≡ (codes "protocol", Some file) = some_is _ _ names in
+    absurd (protocol_or_why p.0 (ap (λ (q : Alone). q.0) found) asked.0.0)
 protocol_of words (Some p) file (asked.Protocol own) names asked =
     let found : named_alone p ≡ (codes "protocol", Some file) = some_is _ _ names in
     let same : own.bytes.items ≡ file = some_is _ _ (sym asked.0.1 ∙ ap (λ (q : Alone). q.1) found) in
@@ -389,6 +469,7 @@ counted words (Some p) (asked.Run file faults shown protocol) asked uncounted = 
 counted words (Some p) (asked.Draw file faults protocol) asked uncounted = draw_or_search p.0 asked.0.0 uncounted.0
 counted words (Some p) (asked.Check file tree quiet protocol) asked uncounted = check_or_search p.0 asked.0.0 uncounted.0
 counted words (Some p) (asked.Answer file quiet protocol) asked uncounted = answer_or_search p.0 asked.0.0 uncounted.0
+counted words (Some p) (asked.Why file quiet protocol) asked uncounted = why_or_search p.0 asked.0.0 uncounted.0
 counted words (Some p) (asked.Protocol file) asked uncounted = protocol_or_search p.0 asked.0.0 uncounted.0
 
 -- words that are taken, and ask for something that can be done, are refused for want of memory alone
@@ -404,15 +485,20 @@ only_memory words a unasked.SharedInput asks possible shared = absurd (no_truth 
 only_memory words a unasked.Memory asks possible refusal = refl
 
 abbrev IsOfOne : Text → Type 0
-IsOfOne command = (command ≡ codes "search") ⊎ ((command ≡ codes "answer") ⊎ (command ≡ codes "protocol"))
+IsOfOne command =
+    (command ≡ codes "search") ⊎ ((command ≡ codes "answer") ⊎ ((command ≡ codes "why") ⊎ (command ≡ codes "protocol")))
 
 alone_is : (command : Text) → takes_one command ≡ true → IsOfOne command
 alone_is command takes =
-    elim (either (bytes_eq command (codes "search")) (bytes_eq command (codes "answer") || bytes_eq command (codes "protocol")) takes) [
+    let last = bytes_eq command (codes "why") || bytes_eq command (codes "protocol") in
+    elim (either (bytes_eq command (codes "search")) (bytes_eq command (codes "answer") || last) takes) [
       | inl search ↦ inl ((bytes_eq-Decides command (codes "search")).0 search)
-      | inr other ↦ inr (elim (either (bytes_eq command (codes "answer")) (bytes_eq command (codes "protocol")) other) [
+      | inr other ↦ inr (elim (either (bytes_eq command (codes "answer")) last other) [
         | inl answer ↦ inl ((bytes_eq-Decides command (codes "answer")).0 answer)
-        | inr protocol ↦ inr ((bytes_eq-Decides command (codes "protocol")).0 protocol)
+        | inr rest ↦ inr (elim (either (bytes_eq command (codes "why")) (bytes_eq command (codes "protocol")) rest) [
+          | inl why ↦ inl ((bytes_eq-Decides command (codes "why")).0 why)
+          | inr protocol ↦ inr ((bytes_eq-Decides command (codes "protocol")).0 protocol)
+        ])
       ])
     ]
 
@@ -454,7 +540,9 @@ asks_plainly (command ∷ file ∷ []) a plain asks =
           (λ h. search_of _ (subcommand_of program (codes "search" ∷ file ∷ [])) file a (search_names file is.1) h.1) asks
       | inr (inl answer) ↦ subst (λ c. Asks (c ∷ file ∷ []) a → IsPlainly (c ∷ file ∷ []) a) (sym answer)
           (λ h. answer_of _ (subcommand_of program (codes "answer" ∷ file ∷ [])) file a (answer_names file is.1) h.1) asks
-      | inr (inr protocol) ↦ subst (λ c. Asks (c ∷ file ∷ []) a → IsPlainly (c ∷ file ∷ []) a) (sym protocol)
+      | inr (inr (inl why)) ↦ subst (λ c. Asks (c ∷ file ∷ []) a → IsPlainly (c ∷ file ∷ []) a) (sym why)
+          (λ h. why_of _ (subcommand_of program (codes "why" ∷ file ∷ [])) file a (why_names file is.1) h.1) asks
+      | inr (inr (inr protocol)) ↦ subst (λ c. Asks (c ∷ file ∷ []) a → IsPlainly (c ∷ file ∷ []) a) (sym protocol)
           (λ h. protocol_of _ (subcommand_of program (codes "protocol" ∷ file ∷ [])) file a (protocol_names file is.1) h.1) asks
     ]
 asks_plainly (command ∷ one ∷ other ∷ []) a plain asks =
@@ -482,6 +570,7 @@ shared_not_plain (asked.Check file tree quiet protocol) true is plain =
       | inr (inr check) ↦ absurd (no_truth (sym (not-true _ check.1) ∙ is))
     ]
 shared_not_plain (asked.Answer file quiet protocol) true is plain = absurd (no_truth is)
+shared_not_plain (asked.Why file quiet protocol) true is plain = absurd (no_truth is)
 shared_not_plain (asked.Protocol file) true is plain = absurd (no_truth is)
 
 -- nor a certificate
@@ -492,6 +581,7 @@ unwritten_is_kept (asked.Run file faults shown protocol) unwritten = refl
 unwritten_is_kept (asked.Draw file faults protocol) unwritten = refl
 unwritten_is_kept (asked.Check file tree quiet protocol) unwritten = refl
 unwritten_is_kept (asked.Answer file quiet protocol) unwritten = refl
+unwritten_is_kept (asked.Why file quiet protocol) unwritten = refl
 unwritten_is_kept (asked.Protocol file) unwritten = refl
 
 can_be_done : (words : List Text) → is_plain_command words ≡ true → (a : Asked) → Asks words a → CanBeDone a
@@ -527,7 +617,16 @@ asks_some (command ∷ file ∷ []) plain =
               asks_answer words (subcommand_of program words) file (answer_names (string_bytes file) is.1) refl,
             ),
           )
-      | inr (inr protocol) ↦
+      | inr (inr (inl why)) ↦
+          let words = codes "why" ∷ string_bytes file ∷ [] in
+          subst (λ c. (a : Asked) × Asks (c ∷ string_bytes file ∷ []) a) (sym why) (
+            asked.Why file false None,
+            (
+              why_fault (string_bytes file) is.1,
+              asks_why words (subcommand_of program words) file (why_names (string_bytes file) is.1) refl,
+            ),
+          )
+      | inr (inr (inr protocol)) ↦
           let words = codes "protocol" ∷ string_bytes file ∷ [] in
           subst (λ c. (a : Asked) × Asks (c ∷ string_bytes file ∷ []) a) (sym protocol) (
             asked.Protocol file,
@@ -611,6 +710,7 @@ shared_is (asked.Check file tree quiet protocol) is =
     let other : is_input tree.bytes.items ≡ true = (bytes_eq-Decides tree.bytes.items (codes "-")).1 (ap third is) in
     rw (one, other) refl
 shared_is (asked.Answer file quiet protocol) is = absurd (apart 2 3 (omega arith) (ap size is))
+shared_is (asked.Why file quiet protocol) is = absurd (apart 2 3 (omega arith) (ap size is))
 shared_is (asked.Protocol file) is = absurd (apart 2 3 (omega arith) (ap size is))
 
 shared_plainly : (a : Asked) → Asks shared_words a → IsPlainly shared_words a
@@ -668,7 +768,8 @@ version_is (word ∷ words) version = elim (either (bytes_eq word (codes "--vers
 pub unknown_is : (words : List Text) → is_unknown words ≡ true → fault_of program words ≡ kind.UnknownArgument ∷ kind.InvalidSubcommand ∷ []
 unknown_is [] unknown = absurd (no_truth unknown)
 unknown_is (word ∷ words) unknown =
-    let no_answer = not (bytes_eq (codes "answer") word) && not (bytes_eq (codes "protocol") word) in
+    let no_why = not (bytes_eq (codes "why") word) && not (bytes_eq (codes "protocol") word) in
+    let no_answer = not (bytes_eq (codes "answer") word) && no_why in
     let no_check = not (bytes_eq (codes "check") word) && no_answer in
     let no_draw = not (bytes_eq (codes "draw") word) && no_check in
     let no_run = not (bytes_eq (codes "run") word) && no_draw in
@@ -677,8 +778,10 @@ unknown_is (word ∷ words) unknown =
     let l = both (not (bytes_eq (codes "run") word)) no_draw k.1 in
     let d = both (not (bytes_eq (codes "draw") word)) no_check l.1 in
     let m = both (not (bytes_eq (codes "check") word)) no_answer d.1 in
-    let n = both (not (bytes_eq (codes "answer") word)) (not (bytes_eq (codes "protocol") word)) m.1 in
-    unknown_fault word words (is_taken word h.0) (not-true _ k.0) (not-true _ l.0) (not-true _ d.0) (not-true _ m.0) (not-true _ n.0) (not-true _ n.1)
+    let n = both (not (bytes_eq (codes "answer") word)) no_why m.1 in
+    let y = both (not (bytes_eq (codes "why") word)) (not (bytes_eq (codes "protocol") word)) n.1 in
+    unknown_fault word words (is_taken word h.0) (not-true _ k.0) (not-true _ l.0) (not-true _ d.0) (not-true _ m.0) (not-true _ n.0) (not-true _ y.0)
+    (not-true _ y.1)
 
 abbrev kinds_count : Kinds → ℕ
 kinds_count [] = 0

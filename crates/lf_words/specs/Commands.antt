@@ -142,6 +142,14 @@ shipped_answer = with_rule (of_file (codes "answer")) quiet
 abbrev pub answer : App
 answer = with_rule shipped_answer known
 
+-- why FILE, without --protocol
+abbrev pub shipped_why : App
+shipped_why = with_rule (of_file (codes "why")) quiet
+
+-- why FILE
+abbrev pub why : App
+why = with_rule shipped_why known
+
 -- protocol FILE
 abbrev pub protocol : App
 protocol = of_file (codes "protocol")
@@ -167,8 +175,11 @@ without_check = with_subcommand without_draw draw.top
 abbrev pub without_answer : App
 without_answer = with_subcommand without_check check.top
 
+abbrev pub without_why : App
+without_why = with_subcommand without_answer answer.top
+
 abbrev pub without_protocol : App
-without_protocol = with_subcommand without_answer answer.top
+without_protocol = with_subcommand without_why why.top
 
 abbrev pub program : App
 program = with_subcommand without_protocol protocol.top

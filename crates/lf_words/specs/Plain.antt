@@ -18,9 +18,11 @@ takes_two command one other =
 
 -- the command takes one word
 abbrev pub takes_one : Text → Bool
-takes_one command = bytes_eq command (codes "search") || (bytes_eq command (codes "answer") || bytes_eq command (codes "protocol"))
+takes_one command =
+    bytes_eq command (codes "search")
+    || (bytes_eq command (codes "answer") || (bytes_eq command (codes "why") || bytes_eq command (codes "protocol")))
 
--- search FILE, answer FILE, protocol FILE, run FILE FAULTS, draw FILE FAULTS, or check FILE TREE
+-- search FILE, answer FILE, why FILE, protocol FILE, run FILE FAULTS, draw FILE FAULTS, or check FILE TREE
 abbrev pub is_plain_command : List Text → Bool
 is_plain_command (command ∷ file ∷ []) = takes_one command && is_plain file
 is_plain_command (command ∷ one ∷ other ∷ []) = takes_two command one other && (is_plain one && is_plain other)
@@ -48,4 +50,4 @@ is_unknown [] = false
 is_unknown (word ∷ words) =
     is_plain word && (not (bytes_eq (codes "search") word) && (not (bytes_eq (codes "run") word)
     && (not (bytes_eq (codes "draw") word) && (not (bytes_eq (codes "check") word)
-    && (not (bytes_eq (codes "answer") word) && not (bytes_eq (codes "protocol") word))))))
+    && (not (bytes_eq (codes "answer") word) && (not (bytes_eq (codes "why") word) && not (bytes_eq (codes "protocol") word)))))))

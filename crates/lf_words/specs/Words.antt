@@ -28,6 +28,7 @@ file_of (asked.Run file faults shown protocol) = file.bytes.items
 file_of (asked.Draw file faults protocol) = file.bytes.items
 file_of (asked.Check file tree quiet protocol) = file.bytes.items
 file_of (asked.Answer file quiet protocol) = file.bytes.items
+file_of (asked.Why file quiet protocol) = file.bytes.items
 file_of (asked.Protocol file) = file.bytes.items
 
 -- the command, and what it requires
@@ -37,6 +38,7 @@ texts_of (asked.Run file faults shown protocol) = codes "run" ∷ file.bytes.ite
 texts_of (asked.Draw file faults protocol) = codes "draw" ∷ file.bytes.items ∷ faults.bytes.items ∷ []
 texts_of (asked.Check file tree quiet protocol) = codes "check" ∷ file.bytes.items ∷ tree.bytes.items ∷ []
 texts_of (asked.Answer file quiet protocol) = codes "answer" ∷ file.bytes.items ∷ []
+texts_of (asked.Why file quiet protocol) = codes "why" ∷ file.bytes.items ∷ []
 texts_of (asked.Protocol file) = codes "protocol" ∷ file.bytes.items ∷ []
 
 -- the file for a certificate that is to be written
@@ -46,6 +48,7 @@ written_to (asked.Run file faults shown protocol) = None
 written_to (asked.Draw file faults protocol) = None
 written_to (asked.Check file tree quiet protocol) = None
 written_to (asked.Answer file quiet protocol) = None
+written_to (asked.Why file quiet protocol) = None
 written_to (asked.Protocol file) = None
 
 -- all least sets are to be told
@@ -55,6 +58,7 @@ wants_all (asked.Run file faults shown protocol) = false
 wants_all (asked.Draw file faults protocol) = false
 wants_all (asked.Check file tree quiet protocol) = false
 wants_all (asked.Answer file quiet protocol) = false
+wants_all (asked.Why file quiet protocol) = false
 wants_all (asked.Protocol file) = false
 
 -- how many workers are to do it
@@ -64,6 +68,7 @@ workers_of (asked.Run file faults shown protocol) = 1
 workers_of (asked.Draw file faults protocol) = 1
 workers_of (asked.Check file tree quiet protocol) = 1
 workers_of (asked.Answer file quiet protocol) = 1
+workers_of (asked.Why file quiet protocol) = 1
 workers_of (asked.Protocol file) = 1
 
 -- nothing is to be told on the way
@@ -73,6 +78,7 @@ is_quiet (asked.Run file faults shown protocol) = false
 is_quiet (asked.Draw file faults protocol) = false
 is_quiet (asked.Check file tree quiet protocol) = quiet
 is_quiet (asked.Answer file quiet protocol) = quiet
+is_quiet (asked.Why file quiet protocol) = quiet
 is_quiet (asked.Protocol file) = false
 
 -- the file of the protocol that the scenario may name besides the shipped ones
@@ -82,6 +88,7 @@ protocol_file (asked.Run file faults shown protocol) = option_map (λ t. t.bytes
 protocol_file (asked.Draw file faults protocol) = option_map (λ t. t.bytes.items) protocol
 protocol_file (asked.Check file tree quiet protocol) = option_map (λ t. t.bytes.items) protocol
 protocol_file (asked.Answer file quiet protocol) = option_map (λ t. t.bytes.items) protocol
+protocol_file (asked.Why file quiet protocol) = option_map (λ t. t.bytes.items) protocol
 protocol_file (asked.Protocol file) = None
 
 -- what is to be told of a run
@@ -91,6 +98,7 @@ shown_of (asked.Run file faults shown protocol) = shown
 shown_of (asked.Draw file faults protocol) = shown.Whole
 shown_of (asked.Check file tree quiet protocol) = shown.Whole
 shown_of (asked.Answer file quiet protocol) = shown.Whole
+shown_of (asked.Why file quiet protocol) = shown.Whole
 shown_of (asked.Protocol file) = shown.Whole
 
 -- the rules that were taken are to be told
@@ -122,6 +130,7 @@ shares_input (asked.Run file faults shown protocol) = false
 shares_input (asked.Draw file faults protocol) = false
 shares_input (asked.Check file tree quiet protocol) = is_input file.bytes.items && is_input tree.bytes.items
 shares_input (asked.Answer file quiet protocol) = false
+shares_input (asked.Why file quiet protocol) = false
 shares_input (asked.Protocol file) = false
 
 -- a file has this name
@@ -140,6 +149,7 @@ overwrites (asked.Run file faults shown protocol) = false
 overwrites (asked.Draw file faults protocol) = false
 overwrites (asked.Check file tree quiet protocol) = false
 overwrites (asked.Answer file quiet protocol) = false
+overwrites (asked.Why file quiet protocol) = false
 overwrites (asked.Protocol file) = false
 
 -- rules are to be told, and there is no protocol file that has some
@@ -207,6 +217,8 @@ IsMatched name rows (asked.Check file tree quiet protocol) = (name ≡ codes "ch
     × (first_of (codes "tree") rows ≡ Some tree.bytes.items) × (is_set (first_of (codes "quiet") rows) ≡ quiet)
     × (first_of (codes "protocol") rows ≡ option_map (λ t. t.bytes.items) protocol)
 IsMatched name rows (asked.Answer file quiet protocol) = (name ≡ codes "answer") × (first_of (codes "file") rows ≡ Some file.bytes.items)
+    × (is_set (first_of (codes "quiet") rows) ≡ quiet) × (first_of (codes "protocol") rows ≡ option_map (λ t. t.bytes.items) protocol)
+IsMatched name rows (asked.Why file quiet protocol) = (name ≡ codes "why") × (first_of (codes "file") rows ≡ Some file.bytes.items)
     × (is_set (first_of (codes "quiet") rows) ≡ quiet) × (first_of (codes "protocol") rows ≡ option_map (λ t. t.bytes.items) protocol)
 IsMatched name rows (asked.Protocol file) = (name ≡ codes "protocol") × (first_of (codes "file") rows ≡ Some file.bytes.items)
 

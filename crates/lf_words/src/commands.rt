@@ -2,7 +2,7 @@
 
 ghost use Rattle.std.specs.Prelude.{◌≡◌, IfOk, false};
 ghost use Rattle.clap.specs.Words.{App, Rule, app_of, rule_of, with_rule, with_subcommand};
-ghost use Rattle.lf_words.specs.Commands.{IsBuilt, answer, check, draw, faults, flag, known, of_file, option, plain, positional, program, protocol, quiet, run, search};
+ghost use Rattle.lf_words.specs.Commands.{IsBuilt, answer, check, draw, faults, flag, known, of_file, option, plain, positional, program, protocol, quiet, run, search, why};
 
 use clap::{Arg, ArgAction, Command};
 use std::alloc::{AllocError, Global};
@@ -21,8 +21,8 @@ const NOTES: &str = "Arguments:
   FAULTS  faults joined by single commas: 'omit 0>1 @2,crash 2 @3'; '' is no fault
   TREE    a certificate, a JSON file; - is standard input, but not for FILE and TREE at once. After --tree it is the file to write
 
-A scenario may name a protocol of your own: --protocol PROTOCOL gives its file, for search, run, draw, check and
-answer.
+A scenario may name a protocol of your own: --protocol PROTOCOL gives its file, for search, run, draw, check, answer
+and why.
 
 Exit status:
   0  no allowed faults make the scenario miss its outcome, the run reaches it, or the certificate or the protocol file is right; also help
@@ -89,6 +89,16 @@ Exit status:
   2  the arguments, the protocol file or the scenario are refused
   3  out of memory (`memory`), or a file or stream failed (`read`, `write`)";
 
+/// An example of `why`, and its statuses.
+const WHY_NOTES: &str = "Example:
+  leastfault why commit.toml
+
+Exit status:
+  0  `none`: no allowed faults make the scenario miss its outcome
+  1  faults that make it miss were found
+  2  the arguments, the protocol file or the scenario are refused, or a level of the search has too many sets (`full`)
+  3  out of memory (`memory`), or a file or stream failed (`read`, `write`)";
+
 /// An example of `protocol`, and its statuses.
 const PROTOCOL_NOTES: &str = "Example:
   leastfault protocol commit.toml
@@ -110,6 +120,7 @@ pub(crate) fn program<'a>(alloc: Global) -> Result<Command<'a>, AllocError>
     let program = with_command(program, draw(alloc));
     let program = with_command(program, check(alloc));
     let program = with_command(program, answer(alloc));
+    let program = with_command(program, why(alloc));
     with_command(program, protocol(alloc))
 }
 
@@ -252,6 +263,20 @@ fn answer<'a>(alloc: Global) -> Result<Command<'a>, AllocError>
         "Prints the same answer as `search`, found by merging equal states of the cluster.
 It has no limit on the number of sets and writes no certificate: use it where `search` says `full`.",
         ANSWER_NOTES,
+    );
+    with_argument(with_argument(command, quiet(alloc)), known(alloc))
+}
+
+/// The command `why FILE`, with the flag `--quiet` and the option `--protocol PROTOCOL`.
+fn why<'a>(alloc: Global) -> Result<Command<'a>, AllocError>
+    ensures { IfOk result (IsBuilt why) }
+{
+    let command = of_file(
+        alloc,
+        "why",
+        SCENARIO,
+        "Prints the answer to the scenario FILE and why it is one: what each fault is needed for, or what stands behind `none`",
+        WHY_NOTES,
     );
     with_argument(with_argument(command, quiet(alloc)), known(alloc))
 }

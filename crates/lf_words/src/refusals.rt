@@ -5,12 +5,13 @@ use lf_near::nearest;
 use std::alloc::{AllocError, Global};
 
 /// The words that a command line can begin with.
-const FIRST_WORDS: [&str; 8] = [
+const FIRST_WORDS: [&str; 9] = [
     "search",
     "run",
     "draw",
     "check",
     "answer",
+    "why",
     "protocol",
     "--help",
     "--version",

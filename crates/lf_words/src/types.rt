@@ -78,6 +78,15 @@ pub enum Asked {
         /// The file of the protocol that the scenario may name besides the shipped ones, if there is one.
         protocol: Option<String>,
     },
+    /// To tell why the answer to a scenario is one.
+    Why {
+        /// The file of the scenario.
+        file: String,
+        /// Whether nothing is to be told on the way.
+        quiet: bool,
+        /// The file of the protocol that the scenario may name besides the shipped ones, if there is one.
+        protocol: Option<String>,
+    },
     /// To tell whether a file is a protocol file.
     Protocol {
         /// The file of the protocol.
@@ -96,6 +105,7 @@ impl Asked {
             | Asked::Draw { file, .. }
             | Asked::Check { file, .. }
             | Asked::Answer { file, .. }
+            | Asked::Why { file, .. }
             | Asked::Protocol { file } => file.as_str(),
         }
     }
@@ -109,7 +119,8 @@ impl Asked {
             | Asked::Run { protocol, .. }
             | Asked::Draw { protocol, .. }
             | Asked::Check { protocol, .. }
-            | Asked::Answer { protocol, .. } => protocol.as_deref(),
+            | Asked::Answer { protocol, .. }
+            | Asked::Why { protocol, .. } => protocol.as_deref(),
             Asked::Protocol { .. } => None,
         }
     }
@@ -129,6 +140,7 @@ impl Asked {
             | Asked::Draw { .. }
             | Asked::Check { .. }
             | Asked::Answer { .. }
+            | Asked::Why { .. }
             | Asked::Protocol { .. } => false,
         }
     }
@@ -143,6 +155,7 @@ impl Asked {
             | Asked::Run { .. }
             | Asked::Draw { .. }
             | Asked::Answer { .. }
+            | Asked::Why { .. }
             | Asked::Protocol { .. } => false,
         }
     }
@@ -166,6 +179,7 @@ impl Asked {
             | Asked::Draw { .. }
             | Asked::Check { .. }
             | Asked::Answer { .. }
+            | Asked::Why { .. }
             | Asked::Protocol { .. } => false,
         }
     }

@@ -135,6 +135,7 @@ fn command(
         "draw" => draw(alloc, words, rest),
         "check" => check(alloc, words, rest),
         "answer" => answer(alloc, words, rest),
+        "why" => why(alloc, words, rest),
         "protocol" => protocol(alloc, words, rest),
         _ => Ok(None),
     }
@@ -318,6 +319,28 @@ fn answer(
         return Ok(None);
     }
     Ok(Some(Asked::Answer {
+        file: String::from_str(alloc, file)?,
+        quiet: is_set(matches, "quiet"),
+        protocol: text(alloc, matches, "protocol")?,
+    }))
+}
+
+/// What the matches of `why` ask for. None where they ask for nothing that is among the words.
+fn why(
+    alloc: Global,
+    words: &[String],
+    matches: &ArgMatches<'_>,
+) -> Result<Option<Asked>, AllocError>
+    ensures { IfOk result (IsAnswer (IsAskedBy (map string_bytes words.now) (codes "why")
+        (rows_of (found_of matches.now)))) }
+{
+    let Some(file) = value(matches, "file") else {
+        return Ok(None);
+    };
+    if !are_part_of(&["why", file], words) {
+        return Ok(None);
+    }
+    Ok(Some(Asked::Why {
         file: String::from_str(alloc, file)?,
         quiet: is_set(matches, "quiet"),
         protocol: text(alloc, matches, "protocol")?,

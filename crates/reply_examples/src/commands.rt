@@ -88,6 +88,12 @@ const DONE: &str = concat!(
     "all 1 2;omit 0>1 @1;omit 0>2 @1\n",
     "search+-+--all+--workers+2|3 4 3 0 2|protocol = \"retry\";tries = 1;outcome = \"delivered\"|plain|1|all 1 2;omit 0>1 @1;omit 0>2 @1\n",
     "answer+-|3 4 3 0 2|protocol = \"retry\";tries = 1;outcome = \"delivered\"|plain|1|least 1;omit 0>1 @1\n",
+    // what the fault is needed for, and what stands behind none
+    "why+-|3 4 3 0 2|protocol = \"retry\";tries = 1;outcome = \"delivered\"|plain|1|",
+    "least 1;omit 0>1 @1;without omit 0>1 @1: reaches;step 2;- 1 has;+ 1 lacks\n",
+    "why+-|2 3 1 0 1|protocol = \"retry\";tries = 2;outcome = \"delivered\"|plain|0|none 1;runs at level 0: 1;runs at level 1: 1;",
+    "rests on node 0 up to step 3;rests on node 1 up to step 3\n",
+    "why+-|3 4 3 0 3|protocol = \"retry\";tries = 3;outcome = \"delivered\";max_sets = 14|plain|2|full 2 15\n",
     // the certificate is the scenario's
     "check+-+t|3 4 3 0 2|protocol = \"retry\";tries = 1;outcome = \"delivered\"|plain|0|yes\n",
     "check+-+t|3 4 2 0 6|protocol = \"retry\";tries = 3;outcome = \"delivered\"|plain|1|no 6 -\n",
@@ -128,6 +134,7 @@ const NAMED: &str = concat!(
     "search+-+--tree+-|- / -\n",
     "run+s+t|s / /\n",
     "answer+s|s / /\n",
+    "why+s|s / /\n",
     "protocol+p|p / /\n",
     "check+s+t|s t /\n",
     "check+-+t|- t /\n",

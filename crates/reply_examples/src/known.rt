@@ -95,6 +95,8 @@ const DONE: &str = concat!(
     "search+-+--protocol+p+--all|3 4 3 0 2|protocol = \"once\";outcome = \"delivered\"|1|all 1 2;omit 0>1 @1;omit 0>2 @1\n",
     "search+-+--protocol+p+--workers+3|3 4 3 0 2|protocol = \"once\";outcome = \"delivered\"|1|least 1;omit 0>1 @1\n",
     "answer+-+--protocol+p|3 4 3 0 2|protocol = \"once\";outcome = \"delivered\"|1|least 1;omit 0>1 @1\n",
+    "why+-+--protocol+p|3 4 3 0 2|protocol = \"once\";outcome = \"delivered\"|1|",
+    "least 1;omit 0>1 @1;without omit 0>1 @1: reaches;step 2;- 1 has;+ 1 not_has\n",
     "check+-+t+--protocol+p|3 4 3 0 2|protocol = \"once\";outcome = \"delivered\"|0|yes\n",
     "run+-++--protocol+p|2 2 0 0 0|protocol = \"once\";outcome = \"delivered\"|0|",
     "step 1;0 has;1 not_has;0>1 data 2;step 2;0 has;1 has;reaches\n",

@@ -1,6 +1,5 @@
-use Rattle.std.proofs.Common.{rules, ◌≡◌, ◌∙◌, sym, subst, option_map, string_bytes}
+use Rattle.std.proofs.Common.{rules, ◌≡◌, ◌∙◌, subst, option_map, string_bytes}
 use Rattle.std.specs.Prelude.{is_some}
-use Rattle.lf_words.specs.Words.{protocol_file}
 use Rattle.leastfault.specs.declared.reading.CommandTexts.{CommandTexts}
 use Rattle.leastfault.specs.Commands.{IsCause, IsDone, tree_file}
 use Rattle.leastfault.specs.Engines.{IsMadeOfAll}

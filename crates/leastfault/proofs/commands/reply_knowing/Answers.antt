@@ -5,6 +5,7 @@ use Rattle.leastfault.specs.Known.{known_of}
 use Rattle.leastfault.specs.Protocols.{IsProtocolReply}
 use Rattle.leastfault.specs.Replies.{IsAnswerReply}
 use Rattle.leastfault.specs.Shown.{IsShownReply, IsToldReply}
+use Rattle.leastfault.specs.Why.{IsWhyReply}
 use Rattle.leastfault.specs.declared.shown.Told.TheVariants as tells
 use Rattle.leastfault.proofs.CommandLemmas.{Done, done_alone, done_certified, done_uncertified}
 use Rattle.leastfault.proofs.commands.reply_knowing.Goals as goal
@@ -40,6 +41,17 @@ returns-in_ok-answer_reply-in-Answer g c =
     subst (λ t. IsDoneFor known c.args.asked.now t tree (string_bytes told.text) told.value) c.as_slice-text.ensures.value
     (done_alone known text tree c.args.asked.now (asked.Answer arm.file arm.quiet arm.protocol) (IsAnswerReply known text)
     c.in_ok-answer_reply-in-Answer.field-0 told arm.is (λ reply ended is. is) c.in_ok-answer_reply-in-Answer.ensures c.alone.ensures)
+
+pub returns-in_ok-why_reply-in-Why : goal.returns-in_ok-why_reply-in-Why
+returns-in_ok-why_reply-in-Why g c =
+    let arm = c.in-Why in
+    let known = known_of c.args.known in
+    let text = c.as_slice-text.result.now in
+    let tree = option_map (λ bytes. bytes.items) c.args.texts.now.tree in
+    let told = c.alone-in-Why.result in
+    subst (λ t. IsDoneFor known c.args.asked.now t tree (string_bytes told.text) told.value) c.as_slice-text.ensures.value
+    (done_alone known text tree c.args.asked.now (asked.Why arm.file arm.quiet arm.protocol) (IsWhyReply known text)
+    c.in_ok-why_reply-in-Why.field-0 told arm.is (λ reply ended is. is) c.in_ok-why_reply-in-Why.ensures c.alone-in-Why.ensures)
 
 pub returns-in_ok-shown_reply-in-Run : goal.returns-in_ok-shown_reply-in-Run
 returns-in_ok-shown_reply-in-Run g c =

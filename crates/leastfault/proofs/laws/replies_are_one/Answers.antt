@@ -1,7 +1,8 @@
 use Rattle.leastfault.specs.Replies.{RepliesAll, RepliesReport}
 use Rattle.leastfault.proofs.CertificateLemmas.{certified_one}
 use Rattle.leastfault.proofs.Uniqueness.{all_replies_one, answer_replies_agree, answer_replies_one, handed_one, run_replies_one}
-use Rattle.leastfault.proofs.Uniqueness.{search_replies_one, statuses_agree}
+use Rattle.leastfault.proofs.Uniqueness.{search_replies_one, statuses_agree, why_replies_one}
+use Rattle.leastfault.proofs.WhyLemmas.{begins_as_search}
 use Rattle.leastfault.proofs.laws.replies_are_one.Goals as goal
 
 pub returns-clause-search : goal.returns-clause-search
@@ -24,6 +25,12 @@ returns-clause-tree c known text status one other a b = handed_one known text st
 
 pub returns-clause-run : goal.returns-clause-run
 returns-clause-run c known rules text one other m n a b = run_replies_one c.args.faults.now c.names_are_one.ensures known rules text one other m n a b
+
+pub returns-clause-why : goal.returns-clause-why
+returns-clause-why c known text one other m n a b = why_replies_one known text one other m n a b
+
+pub returns-clause-begins : goal.returns-clause-begins
+returns-clause-begins c known text reply status told = begins_as_search known text reply status told
 
 pub returns-clause-certified : goal.returns-clause-certified
 returns-clause-certified c known text one other x y a b =

@@ -1,0 +1,4 @@
+use Rattle.lf_words.proofs.commands.why.Goals as goal
+
+pub returns : goal.returns
+returns c = c.with_argument-2.ensures _ _ (c.with_argument.ensures _ _ c.of_file-command.ensures c.quiet.ensures) c.known.ensures
