@@ -1,0 +1,56 @@
+//! Who replies to the scenarios of a sweep.
+
+ghost use Rattle.std.specs.Prelude.{IfOk, string_bytes};
+ghost use Rattle.leastfault.specs.Known.{known_of};
+ghost use Rattle.leastfault_sweep.specs.Replies.{IsReplyBy, RepliesBy};
+
+use crate::by::By;
+use leastfault::{
+    ProtocolError, ProtocolFile, Reply, Wanted, answer_reply, read_protocol, search_reply,
+};
+use lf_sweeping::{Asker, SweepFault};
+use lf_watch::NoWatch;
+use std::alloc::{AllocError, Global};
+
+/// Replies by a protocol file that it reads each time, where there is one, so that threads share its text alone.
+#[derive(Clone, Copy)]
+pub(crate) struct Reading<'a> {
+    pub(crate) protocol: Option<&'a [u8]>,
+    pub(crate) by: By,
+}
+
+impl Asker for Reading<'_> {
+    ghost replies = { λ asker. RepliesBy asker.protocol asker.by };
+
+    fn reply(&self, alloc: Global, text: &[u8]) -> Result<String, SweepFault> {
+        match self.protocol {
+            None => Ok(reply_by(alloc, self.by, None, text)?.text),
+            Some(protocol) => match read_protocol(alloc, protocol) {
+                Ok(file) => Ok(reply_by(alloc, self.by, Some(&file), text)?.text),
+                Err(ProtocolError::Memory) => Err(SweepFault::Memory),
+                Err(_) => Err(SweepFault::Protocol),
+            },
+        }
+    }
+}
+
+/// The reply to the text of a scenario.
+fn reply_by(
+    alloc: Global,
+    by: By,
+    known: Option<&ProtocolFile>,
+    text: &[u8],
+) -> Result<Reply<u8>, AllocError>
+    ensures { IfOk result (λ reply. IsReplyBy by (known_of known.entry) text.now (string_bytes reply.text) reply.value) }
+{
+    match by {
+        By::Answer => answer_reply(alloc, known, text, &NoWatch),
+        By::Search => {
+            let Reply { text, value } = search_reply(alloc, known, Wanted::Answer, text, &NoWatch)?;
+            Ok(Reply {
+                text,
+                value: value.status,
+            })
+        }
+    }
+}

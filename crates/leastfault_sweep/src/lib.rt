@@ -1,0 +1,14 @@
+//! Sweeps: the replies to all combinations of values of one scenario.
+//!
+//! A combination's line is made of its values, and of the reply to the scenario that has them. The lines are written in the order of the
+//! combinations, whatever the number of workers.
+#![tactic(auto)]
+
+mod asking;
+mod by;
+mod sweeping;
+
+pub use by::By;
+pub use lf_sweep::{Part, Place, Plan, PlanError, Varied, VaryError, Words, read_varied};
+pub use lf_sweeping::{Study, SweepFault};
+pub use sweeping::{sweep, sweep_shared};

@@ -1,0 +1,51 @@
+//! Sweeps, by one worker and by several.
+
+ghost use Rattle.std.specs.Prelude.{◌≡◌, ◌≤◌, false};
+ghost use Rattle.lf_sweeping.specs.Sweeps.{WasSwept};
+ghost use Rattle.leastfault_sweep.specs.Replies.{RepliesBy};
+
+use crate::asking::Reading;
+use crate::by::By;
+use lf_streams::Sink;
+use lf_sweep::Part;
+use lf_sweeping::{Study, SweepFault};
+use std::alloc::Global;
+use std::thread::Threads;
+
+/// Asks of all combinations of a part of a sweep, and writes the line of each as it comes, in order. The answer is how many there are.
+/// The scenario may name the protocol of a file, where its text is given.
+///
+/// It runs in one thread.
+pub fn sweep<W: Sink>(
+    alloc: Global,
+    protocol: Option<&[u8]>,
+    by: By,
+    study: &Study<'_>,
+    part: Part,
+    writer: &mut W,
+) -> Result<u64, SweepFault>
+    requires { W.has_failed writer.old ≡ false }
+    ensures { WasSwept W.written W.has_failed (RepliesBy protocol.entry by) study.now part writer.old writer.new result }
+{
+    let asker = Reading { protocol, by };
+    lf_sweeping::sweep(alloc, &asker, study, part, writer)
+}
+
+/// The same as `sweep`, by so many workers at once, 1 at least: the bytes are the same.
+pub fn sweep_shared<R: Threads + Sync, W: Sink>(
+    rt: &R,
+    alloc: Global,
+    protocol: Option<&[u8]>,
+    by: By,
+    study: &Study<'_>,
+    part: Part,
+    workers: u32,
+    writer: &mut W,
+) -> Result<u64, SweepFault>
+    requires workers { 1 ≤ workers }
+    requires writer { W.has_failed writer.old ≡ false }
+    ensures { WasSwept W.written W.has_failed (RepliesBy protocol.entry by) study.now part writer.old writer.new result }
+{
+    let asker = Reading { protocol, by };
+    lf_sweeping::sweep_shared(rt, alloc, &asker, study, part, workers, writer)
+}

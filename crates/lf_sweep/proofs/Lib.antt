@@ -1,0 +1,3 @@
+mod CombinationLemmas
+mod MemberLemmas
+mod ReadingLemmas

@@ -1,0 +1,17 @@
+use Rattle.std.proofs.Common.{string_bytes}
+use Rattle.std.proofs.lemmas.Str.{IsUtf8-had}
+use Rattle.toml.specs.View.{table_view}
+use Rattle.lf_sweep.proofs.MemberLemmas.{document_of}
+use Rattle.lf_sweep.proofs.text.text_of.Goals as goal
+
+pub returns-in-Ok-table_to_string : goal.returns-in-Ok-table_to_string
+returns-in-Ok-table_to_string c =
+    let text = c.in-Ok-table_to_string.text in
+    record {
+      members = table_view c.in-Ok.table;
+      utf8 = c.in-Ok.ensures.ok.0;
+      read = c.in-Ok.ensures.ok.1;
+      document =
+          document_of _ (table_view c.put_all.new.scenario) (string_bytes text) c.in_ok-put_all.ensures (IsUtf8-had _ text.ok) c.in-Ok-table_to_string.ensures.text
+          c.in-Ok-table_to_string.ensures.reads_back;
+    }

@@ -1,0 +1,28 @@
+//! The combinations of a sweep.
+//!
+//! A sweep asks of one scenario again and again, with other values at some of its keys. What varies is written `KEY=VALUES`; the
+//! combinations of the values are numbered, the last key that varies runs fastest. Each has the words of its values, and the text of the
+//! scenario that has these values.
+#![tactic(auto)]
+
+mod error;
+mod laws;
+mod line;
+mod members;
+mod part;
+mod plan;
+mod reading;
+mod text;
+mod value;
+mod varied;
+mod words;
+
+pub use error::{PlanError, TextError, VaryError};
+pub use laws::combinations_are_numbered;
+pub use line::line_of;
+pub use part::{MOST_PARTS, Part};
+pub use plan::{MOST_COMBINATIONS, Plan};
+pub use reading::read_varied;
+pub use text::text_of;
+pub use varied::{Place, Varied};
+pub use words::{MOST_VALUES, Words};
