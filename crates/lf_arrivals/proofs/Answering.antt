@@ -8,18 +8,17 @@ use Rattle.lf_faults.specs.declared.spec.Bounds.{Bounds}
 use Rattle.lf_faults.specs.Faults.{set_is_before}
 use Rattle.lf_faults.specs.Allowed.{IsAllowed, IsFirst}
 use Rattle.lf_latency.specs.declared.network.Timing.{Timing}
-use Rattle.lf_latency.specs.Arrivals.{IsSlot, arrival_of}
-use Rattle.lf_latency.proofs.Laws.{arrival-late, arrival-soon}
+use Rattle.lf_latency.specs.declared.arrivals.Arrivals.{Arrivals}
+use Rattle.lf_latency.specs.Arrivals.{IsTiming, IsSlot, IsAssignment, IsArrivals, arrival_in, arrival_of}
+use Rattle.lf_latency.specs.Table.{arrivals_by}
+use Rattle.lf_latency.proofs.Laws.{seeded_assigned, arrivals_assigned, table_at, table_is}
 use Rattle.lf_layers.specs.Worlds.{IsFirstOver}
 use Rattle.lf_outcome.specs.declared.formula.Formula.{Formula}
 use Rattle.lf_outcome.specs.Truth.{reaches}
 use Rattle.lf_sim.specs.Runs.{World}
-use Rattle.lf_arrivals.specs.declared.arrivals.Arrivals.{Arrivals}
 use Rattle.lf_arrivals.specs.Answers.{IsOn, IsFirstUnder, HasNoSpread, with_seed, IsNotBefore, misses_by, misses_in}
-use Rattle.lf_arrivals.specs.Assignments.{arrival_in, IsArrivals, arrivals_by}
-use Rattle.lf_arrivals.specs.Windows.{IsAssignment, under}
+use Rattle.lf_arrivals.specs.Windows.{under}
 use Rattle.lf_arrivals.proofs.Agreeing.{slots_reach}
-use Rattle.lf_arrivals.proofs.Places.{table_at, table_is}
 
 module _ {State Note Fact : Type 0} (timing : Timing) (b : Bounds) (w : World State Note Fact) (formula : Formula Fact) where
   -- by an assignment a set reaches as it does by the assignment's table
@@ -49,16 +48,16 @@ module _ {State Note Fact : Type 0} (timing : Timing) (b : Bounds) (w : World St
 
   -- the arrivals of a seed are an assignment
   seed_is : (seed : List ℕ) → IsAssignment timing (arrival_of (with_seed timing seed))
-  seed_is seed n m t slot = (arrival-late (with_seed timing seed) n m t, arrival-soon (with_seed timing seed) n m t)
+  seed_is seed = λ n m t slot. seeded_assigned (with_seed timing seed) n m t (record { pair = slot.pair; first = slot.first; last = slot.last })
 
-  own_is : IsAssignment timing (arrival_of timing)
-  own_is n m t slot = (arrival-late timing n m t, arrival-soon timing n m t)
+  own_is : IsTiming timing → IsAssignment timing (arrival_of timing)
+  own_is limits = arrivals_assigned timing limits
 
   -- without spread there is one assignment alone
-  one_is : HasNoSpread timing → (a : ℕ → ℕ → ℕ → ℕ) → IsAssignment timing a → (n m t : ℕ) → IsSlot timing n m t → a n m t ≡ arrival_of timing n m t
-  one_is none a assigned n m t slot =
+  one_is : IsTiming timing → HasNoSpread timing → (a : ℕ → ℕ → ℕ → ℕ) → IsAssignment timing a → (n m t : ℕ) → IsSlot timing n m t → a n m t ≡ arrival_of timing n m t
+  one_is limits none a assigned n m t slot =
       let window = assigned n m t slot in
-      let own = own_is n m t slot in
+      let own = own_is limits n m t slot in
       let spread = none n m slot.pair in
       let low = window.0 in
       let high = window.1 in
@@ -67,18 +66,18 @@ module _ {State Note Fact : Type 0} (timing : Timing) (b : Bounds) (w : World St
       omega (arith, low, high, from, to, spread)
 
   -- so the answer is the plain one
-  pub without_spread : IsOn timing w → HasNoSpread timing → (answer : Option (List Parts × Arrivals)) → IsFirstUnder timing b w formula answer
+  pub without_spread : IsTiming timing → IsOn timing w → HasNoSpread timing → (answer : Option (List Parts × Arrivals)) → IsFirstUnder timing b w formula answer
       → IsFirst b (misses_in (under w (arrival_of timing)) formula) (option_map (λ x. x.0) answer)
-  without_spread on none None first = λ fs allowed. ap not (first (arrival_of timing) fs own_is allowed)
-  without_spread on none (Some x) first = (
+  without_spread limits on none None first = λ fs allowed. ap not (first (arrival_of timing) fs (own_is limits) allowed)
+  without_spread limits on none (Some x) first = (
     first.0,
     ap not
-        (sym (slots_reach timing w on (arrival_in x.1) (arrival_of timing) (one_is none (arrival_in x.1) first.1.assigned) x.0 formula) ∙ first.2),
+        (sym (slots_reach timing w on (arrival_in x.1) (arrival_of timing) (one_is limits none (arrival_in x.1) first.1.assigned) x.0 formula) ∙ first.2),
     λ fs allowed miss.
         false_from_ne_true (set_is_before fs x.0)
         (λ before.
         both_ways (reaches (under w (arrival_of timing)) fs formula) (not-true (reaches (under w (arrival_of timing)) fs formula) miss)
-        (first.3 (arrival_of timing) fs own_is allowed before)),
+        (first.3 (arrival_of timing) fs (own_is limits) allowed before)),
   )
 
   -- and what misses over a seed doesn't come before the answer

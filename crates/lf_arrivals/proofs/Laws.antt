@@ -4,44 +4,16 @@ use Rattle.std.specs.Prelude.{Option}
 use Rattle.lf_faults.specs.declared.fault.Parts.{Parts}
 use Rattle.lf_faults.specs.declared.spec.Bounds.{Bounds}
 use Rattle.lf_latency.specs.declared.network.Timing.{Timing}
-use Rattle.lf_latency.specs.Arrivals.{IsSlot}
+use Rattle.lf_latency.specs.Arrivals.{IsSlot, IsArrivals}
 use Rattle.lf_layers.specs.Worlds.{IsFirstOver}
 use Rattle.lf_outcome.specs.declared.formula.Formula.{Formula}
 use Rattle.lf_outcome.specs.Truth.{reaches}
 use Rattle.lf_sim.specs.Runs.{World, is_up, did, inbox}
-use Rattle.lf_arrivals.specs.declared.arrivals.Arrivals.{Arrivals}
+use Rattle.lf_latency.specs.declared.arrivals.Arrivals.{Arrivals}
 use Rattle.lf_arrivals.specs.Answers.{IsOn, IsFirstUnder, misses_by}
-use Rattle.lf_arrivals.specs.Assignments.{IsPlace, arrival_in, with_arrival, IsArrivals, arrivals_by}
-use Rattle.lf_arrivals.specs.Windows.{IsAssignment, earliest, under, AreLevel, AgreeUpTo}
+use Rattle.lf_arrivals.specs.Windows.{under, AreLevel, AgreeUpTo}
 use Rattle.lf_arrivals.proofs.Agreeing as agreeing
 use Rattle.lf_arrivals.proofs.Answering as answering
-use Rattle.lf_arrivals.proofs.Places as places
-
--- A slot of a network of at most 8 nodes and 48 steps has a place in a table;
-pub slot_place : (timing : Timing) (n m t : ℕ) → timing.nodes ≤ 8 → timing.horizon ≤ 48 → IsSlot timing n m t → IsPlace n m t
-slot_place = places.slot_place
-
--- its step is what it was changed to,
-pub arrival-there : (arrivals : Arrivals) (n m t u : ℕ) → length arrivals.steps ≡ 3072 → IsPlace n m t
-    → arrival_in (with_arrival arrivals n m t u) n m t ≡ u
-arrival-there = places.arrival-there
-
--- and those of the others stay
-pub arrival-elsewhere : (arrivals : Arrivals) (n m t u i j s : ℕ) → IsPlace n m t → IsPlace i j s → ((i ≡ n) × (j ≡ m) × (s ≡ t) → ⊥)
-    → arrival_in (with_arrival arrivals n m t u) i j s ≡ arrival_in arrivals i j s
-arrival-elsewhere = places.arrival-elsewhere
-
--- The table of an assignment has its steps, and is one
-pub table_at : (timing : Timing) (a : ℕ → ℕ → ℕ → ℕ) (n m t : ℕ) → timing.nodes ≤ 8 → timing.horizon ≤ 48 → IsSlot timing n m t
-    → arrival_in (arrivals_by timing a) n m t ≡ a n m t
-table_at = places.table_at
-
-pub table_is : (timing : Timing) (a : ℕ → ℕ → ℕ → ℕ) → timing.nodes ≤ 8 → timing.horizon ≤ 48 → IsAssignment timing a → IsArrivals timing (arrivals_by timing a)
-table_is = places.table_is
-
--- Each note as early as it can be is an assignment
-pub earliest_is : (timing : Timing) → IsAssignment timing (earliest timing.links)
-earliest_is = places.earliest_is
 
 module _ {State Note Fact : Type 0} (w : World State Note Fact) (fs : List Parts) (other : ℕ → ℕ → ℕ → ℕ) where
   -- Assignments that agree on what has arrived up to some steps make the same run up to them

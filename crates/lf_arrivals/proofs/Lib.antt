@@ -1,4 +1,3 @@
 mod Agreeing
 mod Answering
 pub mod Laws
-mod Places

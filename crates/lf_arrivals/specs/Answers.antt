@@ -1,5 +1,5 @@
 -- The answer over every delay.
-use Rattle.std.specs.Prelude.{◌≡◌, ◌≤◌, ℕ, Bool, true, false, List, Option, MatchOption, not}
+use Rattle.std.specs.Prelude.{◌≡◌, ◌≤◌, ℕ, Bool, true, false, List, Option, None, MatchOption, not}
 use Rattle.lf_faults.specs.declared.fault.Parts.{Parts}
 use Rattle.lf_faults.specs.declared.spec.Bounds.{Bounds}
 use Rattle.lf_faults.specs.Faults.{set_is_before}
@@ -9,9 +9,9 @@ use Rattle.lf_latency.specs.Links.{IsPair, spread_of}
 use Rattle.lf_outcome.specs.declared.formula.Formula.{Formula}
 use Rattle.lf_outcome.specs.Truth.{reaches}
 use Rattle.lf_sim.specs.Runs.{World}
-use Rattle.lf_arrivals.specs.declared.arrivals.Arrivals.{Arrivals}
-use Rattle.lf_arrivals.specs.Assignments.{arrival_in, IsArrivals}
-use Rattle.lf_arrivals.specs.Windows.{IsAssignment, under}
+use Rattle.lf_latency.specs.declared.arrivals.Arrivals.{Arrivals}
+use Rattle.lf_latency.specs.Arrivals.{IsAssignment, IsArrivals, arrival_in}
+use Rattle.lf_arrivals.specs.Windows.{under}
 
 -- the world has the nodes and the last step of the network
 pub record IsOn {State Note Fact : Type 0} (timing : Timing) (w : World State Note Fact) : Type 0 where
@@ -34,9 +34,9 @@ IsFirstUnder timing b w formula answer =
 abbrev pub HasNoSpread : Timing → Type 0
 HasNoSpread timing = (n m : ℕ) → IsPair timing.nodes n m → spread_of timing.links n m ≡ 0
 
--- the same network with another seed
+-- the same network by a seed alone
 abbrev pub with_seed : Timing → List ℕ → Timing
-with_seed timing seed = record { seed = seed; links = timing.links; nodes = timing.nodes; horizon = timing.horizon }
+with_seed timing seed = record { seed = seed; links = timing.links; nodes = timing.nodes; horizon = timing.horizon; chosen = None }
 
 -- there is an answer, and the set doesn't come before it
 abbrev pub IsNotBefore : List Parts → Option (List Parts × Arrivals) → Type 0

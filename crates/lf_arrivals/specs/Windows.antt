@@ -1,27 +1,8 @@
--- Assignments: when each note arrives, whatever the others do.
+-- Worlds under assignments: when each note arrives, whatever the others do.
 use Rattle.std.specs.Prelude.{◌≡◌, ◌≢◌, ◌↔◌, ℕ, ◌+◌, ◌<◌, ◌≤◌, true, false, List, Some}
 use Rattle.lf_faults.specs.declared.fault.Parts.{Parts}
 use Rattle.lf_faults.specs.Faults.{set_omits}
-use Rattle.lf_latency.specs.declared.links.Links.{Links}
-use Rattle.lf_latency.specs.declared.network.Timing.{Timing}
-use Rattle.lf_latency.specs.Links.{least_of, spread_of}
-use Rattle.lf_latency.specs.Arrivals.{IsSlot}
 use Rattle.lf_sim.specs.Runs.{World, is_up, sent}
-
--- the first step at which a note arrives that n sends to m at t, and the last
-abbrev pub earliest : Links → ℕ → ℕ → ℕ → ℕ
-earliest links n m t = t + least_of links n m
-
-abbrev pub latest : Links → ℕ → ℕ → ℕ → ℕ
-latest links n m t = t + least_of links n m + spread_of links n m
-
--- the step is one at which it may arrive
-abbrev pub IsInWindow : Links → ℕ → ℕ → ℕ → ℕ → Type 0
-IsInWindow links n m t u = (earliest links n m t ≤ u) × (u ≤ latest links n m t)
-
--- an assignment gives each slot a step in its window
-abbrev pub IsAssignment : Timing → (ℕ → ℕ → ℕ → ℕ) → Type 0
-IsAssignment timing a = (n m t : ℕ) → IsSlot timing n m t → IsInWindow timing.links n m t (a n m t)
 
 -- the world in which notes arrive by the assignment
 abbrev pub under : {State Note Fact : Type 0} → World State Note Fact → (ℕ → ℕ → ℕ → ℕ) → World State Note Fact

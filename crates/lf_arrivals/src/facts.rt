@@ -6,11 +6,11 @@ ghost use Rattle.lf_faults.specs.declared.fault.Parts.{Parts};
 ghost use Rattle.lf_faults.specs.declared.spec.Bounds.{Bounds};
 ghost use Rattle.lf_faults.specs.Allowed.{IsAllowed, IsFirst};
 ghost use Rattle.lf_latency.specs.declared.network.Timing.{Timing};
-ghost use Rattle.lf_latency.specs.Arrivals.{arrival_of};
+ghost use Rattle.lf_latency.specs.Arrivals.{IsTiming, arrival_of};
 ghost use Rattle.lf_outcome.specs.declared.formula.Formula.{Formula};
 ghost use Rattle.lf_outcome.specs.Truth.{reaches};
 ghost use Rattle.lf_sim.specs.Runs.{World, view, sent};
-ghost use Rattle.lf_arrivals.specs.declared.arrivals.Arrivals.{Arrivals};
+ghost use Rattle.lf_latency.specs.declared.arrivals.Arrivals.{Arrivals};
 ghost use Rattle.lf_arrivals.specs.Answers.{IsOn, IsFirstUnder, HasNoSpread, with_seed, IsNotBefore, misses_in};
 ghost use Rattle.lf_arrivals.specs.Windows.{under, AreLevel, AgreeUpTo};
 
@@ -25,10 +25,11 @@ pub fn runs_agree_so_far<State, Note, Fact>()
         (n m t : ℕ) → t ≤ reach n → sent w faults n m t ≡ sent (under w other) faults n m t }
 {}
 
-/// Where no link has a spread, the answer over every delay is the answer.
+/// Where no link has a spread, the answer over every delay is the answer. `keeps_limits` of `lf_latency` has the timing of each network
+/// within its limits.
 pub fn answers_agree_without_spread<State, Note, Fact>()
     ensures { (timing : Timing) (b : Bounds) (w : World State Note Fact) (formula : Formula Fact) (answer : Option (List Parts × Arrivals)) →
-        IsOn timing w → HasNoSpread timing → IsFirstUnder timing b w formula answer →
+        IsTiming timing → IsOn timing w → HasNoSpread timing → IsFirstUnder timing b w formula answer →
         IsFirst b (misses_in (under w (arrival_of timing)) formula) (option_map (λ x. x.0) answer) }
 {}
 

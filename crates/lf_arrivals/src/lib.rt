@@ -4,10 +4,8 @@
 //! some assignment. Delays cost nothing, and no seed plays a part.
 #![tactic(auto)]
 
-mod arrivals;
 mod facts;
 
-pub use arrivals::Arrivals;
 pub use facts::{
     answers_agree_without_spread, answers_come_before_those_of_seeds, runs_agree_so_far,
 };

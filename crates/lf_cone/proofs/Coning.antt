@@ -3,7 +3,7 @@ use Rattle.std.proofs.Common.{◌≡◌, ℕ, ◌-◌, ◌<◌, ◌≤◌, List,
 use Rattle.std.proofs.lemmas.Bool.{cases_lt}
 use Rattle.lf_latency.specs.declared.network.Timing.{Timing}
 use Rattle.lf_latency.specs.Links.{least_of}
-use Rattle.lf_latency.specs.Arrivals.{IsTiming, arrival_of}
+use Rattle.lf_latency.specs.Arrivals.{IsTiming, IsSlot, arrival_of}
 use Rattle.lf_latency.proofs.Laws.{arrival-late}
 use Rattle.lf_faults.specs.declared.fault.Parts.{Parts}
 use Rattle.lf_sim.specs.Runs.{World}
@@ -44,14 +44,21 @@ module _ (nodes horizon : ℕ) (least : ℕ → ℕ → ℕ) where
 -- what is heard within a cone was done within it, since no note is sooner than the least delay
 pub cone_closed : {State Note Fact : Type 0} (w : World State Note Fact) (faults : List Parts) (timing : Timing) (nodes horizon : ℕ) (points : List Point)
     (reach : List ℕ)
-    → nodes ≡ w.rules.nodes → horizon ≡ w.horizon → ((n m t : ℕ) → w.arrival n m t ≡ arrival_of timing n m t)
+    → nodes ≡ w.rules.nodes → horizon ≡ w.horizon → timing.nodes ≡ w.rules.nodes → timing.horizon ≡ w.horizon → IsTiming timing
+    → ((n m t : ℕ) → w.arrival n m t ≡ arrival_of timing n m t)
     → IsCone nodes horizon (least_of timing.links) points reach → IsClosed w faults reach
-cone_closed w faults timing nodes horizon points reach e f arrival h = record {
+cone_closed w faults timing nodes horizon points reach e f wide long limits arrival h = record {
   form = record { count = h.form.count ∙ e; within = λ n. omega (arith, h.form.within n, f) };
   each = λ n t m heard.
       let can = heard.2 in
       let sender = IsRunning-up w faults n t can.sends in
       let receiver = IsRunning-up w faults m heard.0 can.hears in
       let keeps = h.keeps n m (omega (arith, e, sender.node)) (omega (arith, e, receiver.node)) can.apart in
-      omega (arith, keeps, heard.1, arrival-late timing n m t, sym (arrival n m t) ∙ can.arrives);
+      let slot : IsSlot timing n m t = record {
+        pair = record { sender = omega (arith, wide, sender.node); receiver = omega (arith, wide, receiver.node); apart = can.apart };
+        first = sender.first;
+        last = omega (arith, long, sender.last);
+      } in
+      let late = arrival-late timing n m t limits slot in
+      omega (arith, keeps, heard.1, late, sym (arrival n m t) ∙ can.arrives);
 }

@@ -44,6 +44,9 @@ module _ {State Note Fact : Type 0} (w : World State Note Fact) (faults : List P
   pub speaks_from : (n t m u : ℕ) → CanHear w faults n t m u → 1 ≤ t
   speaks_from n t m u h = (IsRunning-up w faults n t h.sends).first
 
+  pub speaks_to : (n t m u : ℕ) → CanHear w faults n t m u → t ≤ w.horizon
+  speaks_to n t m u h = (IsRunning-up w faults n t h.sends).last
+
   -- the least that keeps to itself is the least closed one
   pub closed-keeps : (reach : List ℕ) → IsReachOf w.rules.nodes w.horizon reach → KeepsTo (CanHear w faults) reach → IsClosed w faults reach
   closed-keeps reach form h = record { form = form; each = λ n t m heard. h n t m heard.0 heard.2 heard.1 }

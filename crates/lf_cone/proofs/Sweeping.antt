@@ -188,3 +188,13 @@ module _ (RestsOn : ℕ → ℕ → ℕ → ℕ → Type 0) (nodes horizon : ℕ
     covers = swept.covers;
     smallest = swept.smallest;
   }
+
+-- before the sweep nothing is done after the last step
+pub swept_start : (rests : ℕ → ℕ → ℕ → ℕ → Type 0) (nodes horizon u : ℕ) (start : List ℕ)
+    → ((n t m v : ℕ) → rests n t m v → t ≤ horizon) → horizon ≤ u → IsReachOf nodes horizon start → IsSweptFrom rests nodes horizon start u start
+swept_start rests nodes horizon u start last all form = record {
+  form = form;
+  keeps = λ n t m v past on within. absurd (omega (arith, last n t m v on, past, all));
+  covers = λ n. omega arith;
+  smallest = λ other form keeps covers. covers;
+}

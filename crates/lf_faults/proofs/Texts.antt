@@ -6,7 +6,7 @@ use Rattle.std.specs.Fmt.{decimal}
 use Rattle.lf_faults.specs.declared.fault.Parts.{Parts}
 use Rattle.lf_faults.specs.declared.fault.Parts.TheVariants.{Omit, Crash, Pause}
 use Rattle.lf_faults.specs.Faults.{IsFault}
-use Rattle.lf_faults.specs.Texts.{node_at_step, spelling, Reads}
+use Rattle.lf_faults.specs.Texts.{node_at_step, slot_at, spelling, Reads}
 use Rattle.lf_faults.proofs.TextsDigits.{digit_parts}
 
 -- nodes of one digit, and a step of at most two
@@ -124,24 +124,25 @@ pub reads_pause : (text bytes rest : List ℕ) (node step : ℕ) (made : Option 
 reads_pause text bytes rest node step made same is h some value =
     reads_made text (Pause node step) made (h.0, h.2) (sym same ∙ is ∙ ap (λ ds. codes "pause " ++ ds) h.3) some value
 
--- what a text of another form reads as: no fault
-pub no_omission : (bs rest : List ℕ) (d : ℕ) → d < 10 → bs ≡ decimal d ++ rest → ((more : List ℕ) → rest ≢ 62 ∷ more) → (f : Parts) → IsFault f
-    → codes "omit " ++ bs ≢ spelling f
-no_omission bs rest d d_low is none (Omit from to step) fault same =
-    let after = after_word 111 109 105 116 32 bs (decimal from ++ (62 ∷ node_at_step to step)) same in
-    let parts = digit_parts d from rest (62 ∷ node_at_step to step) d_low (omega arith) (sym is ∙ after) in
-    none (node_at_step to step) parts.1
-no_omission bs rest d d_low is none (Crash node step) fault same = omega (arith, ap (λ ds. get_or ds 0 0) same)
-no_omission bs rest d d_low is none (Pause node step) fault same = omega (arith, ap (λ ds. get_or ds 0 0) same)
+-- what a text of another form reads as: no slot, and no fault
+pub no_sender : (bs rest : List ℕ) (d : ℕ) → d < 10 → bs ≡ decimal d ++ rest → ((more : List ℕ) → rest ≢ 62 ∷ more) → (from to step : ℕ) → from < 10
+    → to < 10 → 1 ≤ step → step < 100 → bs ≢ slot_at from to step
+no_sender bs rest d d_low is none from to step from_low to_low one high same =
+    none (node_at_step to step) (digit_parts d from rest (62 ∷ node_at_step to step) d_low from_low (sym is ∙ same)).1
 
 pub no_receiver : (bs rest more : List ℕ) (d : ℕ) → d < 10 → bs ≡ decimal d ++ rest → rest ≡ 62 ∷ more
-    → ((node step : ℕ) → node < 10 → 1 ≤ step → step < 100 → more ≢ node_at_step node step) → (f : Parts) → IsFault f → codes "omit " ++ bs ≢ spelling f
-no_receiver bs rest more d d_low is rest_is none (Omit from to step) fault same =
-    let after = after_word 111 109 105 116 32 bs (decimal from ++ (62 ∷ node_at_step to step)) same in
-    let parts = digit_parts d from rest (62 ∷ node_at_step to step) d_low (omega arith) (sym is ∙ after) in
-    none to step (omega arith) (omega arith) (omega arith) (after_one 62 more (node_at_step to step) (sym rest_is ∙ parts.1))
-no_receiver bs rest more d d_low is rest_is none (Crash node step) fault same = omega (arith, ap (λ ds. get_or ds 0 0) same)
-no_receiver bs rest more d d_low is rest_is none (Pause node step) fault same = omega (arith, ap (λ ds. get_or ds 0 0) same)
+    → ((node step : ℕ) → node < 10 → 1 ≤ step → step < 100 → more ≢ node_at_step node step) → (from to step : ℕ) → from < 10 → to < 10 → 1 ≤ step
+    → step < 100 → bs ≢ slot_at from to step
+no_receiver bs rest more d d_low is rest_is none from to step from_low to_low one high same =
+    let parts = digit_parts d from rest (62 ∷ node_at_step to step) d_low from_low (sym is ∙ same) in
+    none to step to_low one high (after_one 62 more (node_at_step to step) (sym rest_is ∙ parts.1))
+
+pub no_slot : (bs : List ℕ) → ((from to step : ℕ) → from < 10 → to < 10 → 1 ≤ step → step < 100 → bs ≢ slot_at from to step) → (f : Parts) → IsFault f
+    → codes "omit " ++ bs ≢ spelling f
+no_slot bs none (Omit from to step) fault same =
+    none from to step (omega arith) (omega arith) (omega arith) (omega arith) (after_word 111 109 105 116 32 bs (slot_at from to step) same)
+no_slot bs none (Crash node step) fault same = omega (arith, ap (λ ds. get_or ds 0 0) same)
+no_slot bs none (Pause node step) fault same = omega (arith, ap (λ ds. get_or ds 0 0) same)
 
 -- a node that is followed by something else than a space, `@` and a step
 pub no_at : (bs rest : List ℕ) (d : ℕ) → d < 10 → bs ≡ decimal d ++ rest → ((more : List ℕ) → rest ≢ 32 ∷ 64 ∷ more) → (node step : ℕ) → node < 10

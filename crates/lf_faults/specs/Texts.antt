@@ -9,9 +9,13 @@ use Rattle.lf_faults.specs.Faults.{IsFault}
 abbrev pub node_at_step : ℕ → ℕ → List ℕ
 node_at_step node step = decimal node ++ (codes " @" ++ decimal step)
 
--- the one text of a fault, as bytes: the word and one space come first, and of an omission also the sender and `>`
+-- a slot, a sender, a receiver and the step at which it is sent: `0>1 @12`
+abbrev pub slot_at : ℕ → ℕ → ℕ → List ℕ
+slot_at from to step = decimal from ++ (codes ">" ++ node_at_step to step)
+
+-- the one text of a fault, as bytes: the word and one space come first
 abbrev pub spelling : Parts → List ℕ
-spelling (Omit from to step) = codes "omit " ++ (decimal from ++ (codes ">" ++ node_at_step to step))
+spelling (Omit from to step) = codes "omit " ++ slot_at from to step
 spelling (Crash node step) = codes "crash " ++ node_at_step node step
 spelling (Pause node step) = codes "pause " ++ node_at_step node step
 

@@ -18,4 +18,4 @@ pub use fault::{Fault, Parts};
 pub use order::next_set;
 pub use set::FaultSet;
 pub use spec::{Bounds, FaultSpec};
-pub use text::{fault_text, read_fault};
+pub use text::{Slot, fault_text, read_fault, read_slot, read_step};

@@ -4,7 +4,7 @@ ghost use Rattle.std.specs.Prelude.{◌≡◌, ◌≢◌, ◌<◌, ◌≤◌, �
 ghost use Rattle.std.specs.Fmt.{decimal};
 ghost use Rattle.lf_faults.specs.declared.fault.Parts.{Parts};
 ghost use Rattle.lf_faults.specs.Faults.{IsFault};
-ghost use Rattle.lf_faults.specs.Texts.{node_at_step, spelling, Reads};
+ghost use Rattle.lf_faults.specs.Texts.{node_at_step, slot_at, spelling, Reads};
 
 use crate::{Fault, Parts};
 use std::alloc::{AllocError, Global};
@@ -44,9 +44,33 @@ pub fn read_fault(text: &str) -> Option<Fault>
 fn read_omission(bytes: &[u8]) -> Option<Fault>
     ensures { Reads (codes "omit " ++ bytes.now) result }
 {
+    let slot = read_slot(bytes)?;
+    Fault::omit(slot.from, slot.to, slot.step)
+}
+
+/// A sender, a receiver and the step at which the one sends to the other.
+#[derive(Clone, Copy, Debug, PartialEq, Eq)]
+pub struct Slot {
+    /// The sender.
+    pub from: u32,
+    /// The receiver.
+    pub to: u32,
+    /// The step at which it sends.
+    pub step: u32,
+}
+
+/// The slot that `0>1 @12` names: two digits, and a step of one or two digits whose first is not 0.
+///
+/// Whether a network has such nodes and such a step isn't asked here. None where the bytes are anything else.
+pub fn read_slot(bytes: &[u8]) -> Option<Slot>
+    ensures { MatchOption result
+        ((from to step : ℕ) → from < 10 → to < 10 → 1 ≤ step → step < 100 → bytes.now ≢ slot_at from to step)
+        (λ slot. (slot.from < 10) × (slot.to < 10) × (1 ≤ slot.step) × (slot.step < 100)
+        × (bytes.now ≡ slot_at slot.from slot.to slot.step)) }
+{
     let (from, rest) = read_digit(bytes)?;
     let (to, step) = read_node_at_step(after(rest, b">")?)?;
-    Fault::omit(from, to, step)
+    Some(Slot { from, to, step })
 }
 
 /// The node and the step of `3 @10`. Whether they are in a fault's ranges is tested where the fault is made.
@@ -60,8 +84,8 @@ fn read_node_at_step(bytes: &[u8]) -> Option<(u32, u32)>
     Some((node, step))
 }
 
-/// The step that the bytes are: one or two digits, of which the first is not 0.
-fn read_step(bytes: &[u8]) -> Option<u32>
+/// The step that the bytes are: one or two digits, of which the first is not 0. None where they are anything else.
+pub fn read_step(bytes: &[u8]) -> Option<u32>
     ensures { MatchOption result
         ((step : ℕ) → 1 ≤ step → step < 100 → bytes.now ≢ decimal step)
         (λ step. (1 ≤ step) × (step < 100) × (bytes.now ≡ decimal step)) }

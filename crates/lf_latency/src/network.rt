@@ -1,20 +1,12 @@
-ghost use Rattle.std.specs.Prelude.{◌≡◌, ℕ, ◌+◌, ◌<◌, ◌≤◌, IsTrue, ◌↔◌};
+ghost use Rattle.std.specs.Prelude.{◌≡◌, ℕ, ◌+◌, ◌<◌, ◌≤◌, IsTrue, ◌↔◌, None, Some};
 ghost use Rattle.lf_latency.specs.Links.{IsLinks, IsPair, least_of, spread_of};
-ghost use Rattle.lf_latency.specs.Arrivals.{IsTiming, IsSlot, arrival_of};
-ghost use Rattle.lf_latency.specs.Table.{table_entry, table_of};
+ghost use Rattle.lf_latency.specs.Arrivals.{IsTiming, IsSlot, IsArrivals, arrival_of, seeded, choosing};
+ghost use Rattle.lf_latency.specs.Table.{entry_of, table_of};
 
+use crate::arrivals::{Arrivals, NODES, PLACES, STEPS};
 use crate::links::{Links, is_pair, link};
 use crate::words::word;
 use std::marker::Model;
-
-/// The most nodes.
-const NODES: u32 = 8;
-
-/// The most steps.
-const STEPS: u32 = 48;
-
-/// The places of the table, for each sender, receiver and step.
-const PLACES: usize = 3072;
 
 /// What decides when notes arrive.
 #[derive(Clone, Copy, Debug, PartialEq, Eq)]
@@ -27,6 +19,8 @@ pub struct Timing {
     pub nodes: u32,
     /// The last step, 1 to 48.
     pub horizon: u32,
+    /// The arrivals, where they are chosen: then the seed plays no part.
+    pub chosen: Option<Arrivals>,
 }
 
 /// The links of a network, which say when each note arrives.
@@ -35,7 +29,7 @@ pub struct Timing {
 #[derive(Clone, Copy, Debug, PartialEq, Eq)]
 pub struct Network {
     timing: Timing,
-    // By sender, receiver and step: 48 steps to a receiver, 8 receivers to a sender. 0 where nothing is sent.
+    // By the places of slots. 0 where nothing is sent.
     arrivals: [u8; PLACES],
 }
 
@@ -61,13 +55,30 @@ impl Network {
         requires horizon_at_least { 1 ≤ horizon }
         requires horizon_at_most { horizon ≤ 48 }
         requires form { IsLinks nodes links }
-        ensures { result ≡ record { seed = seed; links = links; nodes = nodes; horizon = horizon } }
+        ensures { result ≡ record { seed = seed; links = links; nodes = nodes; horizon = horizon; chosen = None } }
     {
         let timing = Timing {
             seed,
             links,
             nodes,
             horizon,
+            chosen: None,
+        };
+        let arrivals = table(&timing);
+        Network { timing, arrivals }
+    }
+
+    /// The same network, but that notes arrive as chosen, whatever the seed says.
+    pub fn choosing(&self, arrivals: &Arrivals) -> Network
+        requires { IsArrivals self.now arrivals.now }
+        ensures { result ≡ choosing self.now arrivals.now }
+    {
+        let timing = Timing {
+            seed: self.timing.seed,
+            links: self.timing.links,
+            nodes: self.timing.nodes,
+            horizon: self.timing.horizon,
+            chosen: Some(*arrivals),
         };
         let arrivals = table(&timing);
         Network { timing, arrivals }
@@ -141,7 +152,7 @@ impl Network {
         self.timing.links
     }
 
-    /// Whether two networks are equal: of the same seed, links, nodes and last step.
+    /// Whether two networks are equal: of the same seed, links, nodes, last step and choice of arrivals.
     pub fn same(&self, other: &Network) -> bool
         ensures { IsTrue result ↔ (self.now ≡ other.now) }
     {
@@ -151,6 +162,18 @@ impl Network {
             && one.nodes == two.nodes
             && one.horizon == two.horizon
             && one.links.same(&two.links)
+            && same_choice(&one.chosen, &two.chosen)
+    }
+}
+
+/// Whether the same arrivals are chosen, or none by both.
+fn same_choice(one: &Option<Arrivals>, other: &Option<Arrivals>) -> bool
+    ensures { IsTrue result ↔ (one.now ≡ other.now) }
+{
+    match (one, other) {
+        (None, None) => true,
+        (Some(one), Some(other)) => one.same(other),
+        _ => false,
     }
 }
 
@@ -192,11 +215,23 @@ fn entry(timing: &Timing, from: u32, to: u32, step: u32) -> u8
     requires timing { IsTiming timing.now }
     requires first { 1 ≤ step }
     requires last { step ≤ 48 }
-    ensures { result ≡ table_entry timing.now from to step }
+    ensures { result ≡ entry_of timing.now (arrival_of timing.now) from to step }
 {
     if !is_pair(timing.nodes, from, to) || step > timing.horizon {
         return 0;
     }
+    match &timing.chosen {
+        Some(arrivals) => arrivals.arrival(from, to, step) as u8,
+        None => picked(timing, from, to, step),
+    }
+}
+
+/// The arrival that the seed picks at a slot.
+fn picked(timing: &Timing, from: u32, to: u32, step: u32) -> u8
+    requires timing { IsTiming timing.now }
+    requires slot { IsSlot timing.now from to step }
+    ensures { result ≡ seeded timing.now from to step }
+{
     let stream = link(timing.nodes, from, to);
     let picked = word(&timing.seed, stream, u64::from(step - 1));
     let least = timing.links.least[from as usize][to as usize];

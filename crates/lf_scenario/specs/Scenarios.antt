@@ -1,5 +1,5 @@
 -- What is read of a text.
-use Rattle.std.specs.Prelude.{◌≡◌, ◌⊎◌, ℕ, ◌<◌, ◌≤◌, List, length, Some, Ok, Err, IsUtf8}
+use Rattle.std.specs.Prelude.{◌≡◌, ◌⊎◌, ℕ, ◌<◌, ◌≤◌, List, length, None, Some, Ok, Err, IsUtf8}
 use Rattle.toml.specs.Data.{Members}
 use Rattle.toml.specs.Parse.{parse_document}
 use Rattle.lf_latency.specs.declared.links.Links.{Links}
@@ -43,6 +43,7 @@ network_of asked = record {
   links = asked.links;
   nodes = asked.described.bounds.nodes;
   horizon = asked.described.bounds.horizon;
+  chosen = None;
 }
 
 -- the scenario is the one that is asked for

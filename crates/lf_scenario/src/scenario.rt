@@ -1,9 +1,11 @@
 //! Scenarios.
 
 ghost use Rattle.std.specs.Prelude.{◌≡◌, ◌≤◌, ◌↔◌, IsTrue};
+ghost use Rattle.lf_latency.specs.Arrivals.{choosing, IsArrivals};
 ghost use Rattle.lf_scenario.specs.Formulas.{IsFormulaOf};
 ghost use Rattle.lf_scenario.specs.Limits.{most_sets};
 
+use lf_latency::Arrivals;
 use lf_outcome::{Formula, same};
 use lf_protocols::{Fact, Protocol};
 use lf_sim::Setting;
@@ -44,6 +46,22 @@ impl Scenario {
         self.max_sets
     }
 
+    /// The same scenario, but that notes arrive as chosen, whatever the seed says. It takes no memory.
+    pub fn choosing(self, arrivals: &Arrivals) -> Scenario
+        requires { IsArrivals self.setting.network arrivals.now }
+        ensures machine { result.setting.machine ≡ self.setting.machine }
+        ensures network { result.setting.network ≡ choosing self.setting.network arrivals.now }
+        ensures spec { result.setting.spec ≡ self.setting.spec }
+        ensures formula { result.formula ≡ self.formula }
+        ensures max_sets { result.max_sets ≡ self.max_sets }
+    {
+        Scenario {
+            setting: self.setting.choosing(arrivals),
+            formula: self.formula,
+            max_sets: self.max_sets,
+        }
+    }
+
     /// Whether two scenarios are equal by value: in their settings, their formulas and `max_sets`.
     pub fn same(&self, other: &Scenario) -> bool
         ensures { IsTrue result ↔ AreSame self.now other.now }
@@ -51,7 +69,14 @@ impl Scenario {
         self.setting.machine.same(&other.setting.machine)
             && self.setting.network.same(&other.setting.network)
             && self.setting.spec == other.setting.spec
-            && same(&self.formula, &other.formula)
+            && same_formula(&self.formula, &other.formula)
             && self.max_sets == other.max_sets
     }
+}
+
+/// Whether two formulas are equal by value.
+fn same_formula(one: &Formula<Fact>, other: &Formula<Fact>) -> bool
+    ensures { IsTrue result ↔ (one.now ≡ other.now) }
+{
+    same(one, other)
 }

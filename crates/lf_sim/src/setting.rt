@@ -1,7 +1,7 @@
 //! What a run stands on.
 
 ghost use Rattle.std.specs.Prelude.{◌≡◌, ◌<◌, ◌≤◌, ◌↔◌, IsSome, IfSome};
-ghost use Rattle.lf_latency.specs.Arrivals.{arrival_of};
+ghost use Rattle.lf_latency.specs.Arrivals.{arrival_of, choosing, IsArrivals};
 ghost use Rattle.std.specs.List.{Contains, AllPairs};
 ghost use Rattle.lf_sim.specs.declared.schedule.Slot.{Slot};
 ghost use Rattle.lf_sim.specs.Schedules.{IsArriving, IsBefore, IsSchedule, slots_to};
@@ -9,7 +9,7 @@ ghost use Rattle.lf_sim.specs.Schedules.{IsArriving, IsBefore, IsSchedule, slots
 use crate::Machine;
 use crate::schedule::{Schedule, Slot, part};
 use lf_faults::FaultSpec;
-use lf_latency::Network;
+use lf_latency::{Arrivals, Network};
 
 /// A machine on a network, with bounds on its faults.
 ///
@@ -50,6 +50,25 @@ impl<M: Machine> Setting<M> {
             })
         } else {
             None
+        }
+    }
+
+    /// The same setting, but that notes arrive as chosen, whatever the seed says. It takes no memory.
+    pub fn choosing(self, arrivals: &Arrivals) -> Setting<M>
+    where
+        M: Drop,
+        requires { IsArrivals self.network arrivals.now }
+        ensures machine { result.machine ≡ self.machine }
+        ensures network { result.network ≡ choosing self.network arrivals.now }
+        ensures spec { result.spec ≡ self.spec }
+    {
+        let network = self.network.choosing(arrivals);
+        let schedule = Schedule::new(&network);
+        Setting {
+            machine: self.machine,
+            network,
+            spec: self.spec,
+            schedule,
         }
     }
 

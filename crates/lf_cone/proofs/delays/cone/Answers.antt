@@ -61,4 +61,4 @@ pub returns-clause-closed : goal.returns-clause-closed
 returns-clause-closed g c =
     let s = c.args.setting.now in
     cone_closed (world_of s) (set_of c.args.run.now) s.network s.spec.nodes s.spec.horizon c.args.points.now c.loop-back.reach
-    (sym s.nodes_agree) refl (λ n m t. refl) (returns-clause-cone g c)
+    (sym s.nodes_agree) refl (s.network_agrees ∙ sym s.nodes_agree) s.horizons_agree c.keeps_limits.ensures (λ n m t. refl) (returns-clause-cone g c)

@@ -1,10 +1,23 @@
-use Rattle.std.proofs.Common.{◌≡◌, ◌+◌, ◌-◌, suc, arith, subst}
+use Rattle.std.proofs.Common.{◌≡◌, ◌+◌, ◌-◌, suc, sym, arith, subst}
 use Rattle.lf_sim.specs.Settings.{world_of}
 use Rattle.lf_cone.specs.Cones.{CanHear}
 use Rattle.lf_cone.specs.Sweeps.{IsSweptFrom, IsRaised, SomeBelow, IsDone, IsLeastFrom}
-use Rattle.lf_cone.proofs.HearingLemmas.{hearer, heard-later, speaker, speaks_from}
-use Rattle.lf_cone.proofs.Sweeping.{done_more, done_all}
+use Rattle.lf_cone.proofs.HearingLemmas.{hearer, heard-later, speaker, speaks_from, speaks_to}
+use Rattle.lf_cone.proofs.Sweeping.{done_more, done_all, swept_start}
 use Rattle.lf_cone.proofs.hearing.swept.Goals as goal
+
+pub loop-back-init : goal.loop-back-init
+loop-back-init g c =
+    let s = c.args.setting.now in
+    let w = world_of s in
+    let F = c.args.effects.now.set in
+    let rests = CanHear w F in
+    let ends : s.spec.horizon ≡ c.horizon-horizon.result = sym c.horizon-horizon.ensures.value in
+    let all : s.spec.nodes ≡ c.nodes-nodes.result = sym c.nodes-nodes.ensures.value in
+    let u = c.horizon-horizon.result - 0 in
+    subst (λ x. IsSweptFrom rests x c.horizon-horizon.result c.args.start u c.args.start) all
+    (subst (λ x. IsSweptFrom rests s.spec.nodes x c.args.start u c.args.start) ends
+    (swept_start rests s.spec.nodes s.spec.horizon u c.args.start (speaks_to w F) (omega (arith, ends)) c.requires))
 
 pub loop-back-preserved : goal.loop-back-preserved
 loop-back-preserved g c =

@@ -1,24 +1,14 @@
-use Rattle.std.proofs.Common.{◌++◌, codes, ap, ◌∙◌, ◌∷◌}
-use Rattle.std.specs.Fmt.{decimal}
+use Rattle.std.proofs.Common.{◌++◌, codes, ap}
 use Rattle.lf_faults.specs.declared.fault.Parts.TheVariants.{Omit}
-use Rattle.lf_faults.proofs.Texts.{no_omission, no_receiver, reads_made}
+use Rattle.lf_faults.proofs.Texts.{no_slot, reads_made}
 use Rattle.lf_faults.proofs.text.read_omission.Goals as goal
 
-pub returns-in_err-after : goal.returns-in_err-after
-returns-in_err-after c =
-    rw c.from_residual-in_err-after.ensures
-    (no_omission c.args.bytes.now c.in_ok-from.rest.now c.in_ok-from.from c.in_ok-from.ensures.0 c.in_ok-from.ensures.1 c.in_err-after.ensures)
-
-pub returns-in_err-to : goal.returns-in_err-to
-returns-in_err-to c =
-    rw c.from_residual-in_err-to.ensures
-    (no_receiver c.args.bytes.now c.in_ok-from.rest.now c.in_ok-after.field-0.now c.in_ok-from.from c.in_ok-from.ensures.0 c.in_ok-from.ensures.1
-    c.in_ok-after.ensures c.in_err-to.ensures)
+pub returns-in_err-slot : goal.returns-in_err-slot
+returns-in_err-slot c = rw c.from_residual.ensures (no_slot c.args.bytes.now c.in_err-slot.ensures)
 
 pub returns : goal.returns
 returns c =
-    reads_made (codes "omit " ++ c.args.bytes.now) (Omit c.in_ok-from.from c.in_ok-to.to c.in_ok-to.step) c.omit.result
-    (c.in_ok-from.ensures.0, c.in_ok-to.ensures.0, c.in_ok-to.ensures.2)
-    (ap (λ ds. codes "omit " ++ ds)
-    (c.in_ok-from.ensures.1 ∙ ap (λ ds. decimal c.in_ok-from.from ++ ds) (c.in_ok-after.ensures ∙ ap (λ ds. 62 ∷ ds) c.in_ok-to.ensures.3)))
+    reads_made (codes "omit " ++ c.args.bytes.now) (Omit c.in_ok-slot.slot.from c.in_ok-slot.slot.to c.in_ok-slot.slot.step) c.omit.result
+    (c.in_ok-slot.ensures.0, c.in_ok-slot.ensures.1, c.in_ok-slot.ensures.3)
+    (ap (λ ds. codes "omit " ++ ds) c.in_ok-slot.ensures.4)
     c.omit.ensures.some c.omit.ensures.value

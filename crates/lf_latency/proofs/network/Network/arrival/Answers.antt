@@ -13,10 +13,14 @@ returns-clause-value c =
     ∙ ap (λ x. arrival_of x c.args.from c.args.to c.args.step) c.self.view_is
 
 pub returns-clause-late : goal.returns-clause-late
-returns-clause-late c = rw (returns-clause-value c) (arrival-late c.args.self.now c.args.from c.args.to c.args.step)
+returns-clause-late c =
+    let limits : IsTiming c.args.self.now = rw (← c.self.view_is) c.self.invariant.limits in
+    rw (returns-clause-value c) (arrival-late c.args.self.now c.args.from c.args.to c.args.step limits c.requires)
 
 pub returns-clause-soon : goal.returns-clause-soon
-returns-clause-soon c = rw (returns-clause-value c) (arrival-soon c.args.self.now c.args.from c.args.to c.args.step)
+returns-clause-soon c =
+    let limits : IsTiming c.args.self.now = rw (← c.self.view_is) c.self.invariant.limits in
+    rw (returns-clause-value c) (arrival-soon c.args.self.now c.args.from c.args.to c.args.step limits c.requires)
 
 pub returns-clause-later : goal.returns-clause-later
 returns-clause-later c =

@@ -1,19 +1,20 @@
 //! When the notes of a run arrive, slot by slot.
 
-ghost use Rattle.std.specs.Prelude.{◌≡◌, ◌<◌, ◌≤◌};
-ghost use Rattle.lf_arrivals.specs.Assignments.{IsPlace, IsArrivals, place_of, arrival_in, with_arrival, earliest_arrivals, entry_of};
-ghost use Rattle.lf_arrivals.specs.Windows.{earliest};
+ghost use Rattle.std.specs.Prelude.{◌≡◌, ◌<◌, ◌≤◌, ◌↔◌, IsTrue};
+ghost use Rattle.lf_latency.specs.Arrivals.{IsPlace, IsArrivals, place_of, arrival_in, with_arrival, earliest};
+ghost use Rattle.lf_latency.specs.Table.{earliest_arrivals, entry_of};
 
-use lf_latency::{Network, is_pair, keeps_limits};
+use crate::links::is_pair;
+use crate::network::{Network, keeps_limits};
 
 /// The most nodes.
-const NODES: u32 = 8;
+pub(crate) const NODES: u32 = 8;
 
 /// The most steps.
-const STEPS: u32 = 48;
+pub(crate) const STEPS: u32 = 48;
 
 /// The places of the table, for each sender, receiver and step.
-const PLACES: usize = 3072;
+pub(crate) const PLACES: usize = 3072;
 
 /// When notes arrive: of each slot the step. It takes no memory beside its own 3,072 bytes.
 #[derive(Clone, Copy, Debug, PartialEq, Eq)]
@@ -41,7 +42,8 @@ impl Arrivals {
     /// The step at which a note arrives that `from` sends to `to` at `step`: nodes in 0..=7, and a step in 1..=48.
     pub fn arrival(&self, from: u32, to: u32, step: u32) -> u32
         requires { IsPlace from to step }
-        ensures { result ≡ arrival_in self.now from to step }
+        ensures value { result ≡ arrival_in self.now from to step }
+        ensures small { result < 256 }
     {
         u32::from(self.steps[place(from, to, step)])
     }
@@ -54,6 +56,13 @@ impl Arrivals {
     {
         self.steps[place(from, to, step)] = at as u8;
     }
+
+    /// Whether these are the same steps, at each place.
+    pub fn same(&self, other: &Arrivals) -> bool
+        ensures { IsTrue result ↔ (self.now ≡ other.now) }
+    {
+        same_steps(&self.steps, &other.steps)
+    }
 }
 
 /// The place of a slot.
@@ -63,6 +72,13 @@ fn place(from: u32, to: u32, step: u32) -> usize
     ensures within { result < 3072 }
 {
     ((from * NODES + to) * STEPS + step - 1) as usize
+}
+
+/// Whether two tables are equal.
+fn same_steps(one: &[u8; PLACES], other: &[u8; PLACES]) -> bool
+    ensures { IsTrue result ↔ (one.now ≡ other.now) }
+{
+    one == other
 }
 
 /// The first step at which the note of a slot arrives, and 0 where nothing is sent.
