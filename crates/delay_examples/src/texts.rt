@@ -1,7 +1,7 @@
 //! The texts of examples, and how they are compared.
 
-use lf_arrivals::Arrivals;
 use lf_faults::{FaultSet, fault_text};
+use lf_latency::Arrivals;
 use lf_scenario::{Scenario, read};
 use lf_windows::answer_every_delay;
 use std::alloc::{AllocError, Global};
