@@ -1,6 +1,6 @@
 //! Worked examples of outcomes, evidence and reaches: runs told line by line, formulas with their truth, size and evidence, and the reaches
 //! and required edges of small scenarios, by hand and beside a plain search over all reaches and all faults. Besides, the light-cone law
-//! at a run, lists of faults, names of outcomes, and why answers are ones.
+//! at a run, lists of faults and of late arrivals, names of outcomes, and why answers are ones.
 //!
 //! A table of examples is one text, a line for each, in which `|` parts the columns, `,` the items of a list, and blanks the
 //! words. A formula stands behind its parts: `all 2` is of the two formulas before it.
@@ -8,6 +8,8 @@
 
 #[cfg(test)]
 mod cones;
+#[cfg(test)]
+mod delays;
 #[cfg(test)]
 mod evidence;
 #[cfg(test)]

@@ -1,0 +1,7 @@
+mod Below
+mod Late
+mod Lists
+mod Pieces
+mod Replaying
+mod Tables
+mod Texts
