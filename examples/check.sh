@@ -429,6 +429,39 @@ test_told() {
     expect 2 'refused faults' '?*' "leastfault draw examples/one_try.toml 'crash 0 @1'"
 }
 
+# The answer over every delay, and runs where messages come as a list says.
+test_every_delay() {
+    local late="examples/late_votes.toml" delays="'0>2 @1 5,2>0 @5 9,0>1 @9 13'"
+    expect 1 $'least 0\narrive 0>2 @1 5\narrive 2>0 @5 9\narrive 0>1 @9 13' '?*' "leastfault answer $late --every-delay"
+    ends 1 misses '' "leastfault run $late '' --delays $delays"
+    ends 0 reaches '' "leastfault run $late '' --delays ''"
+    ends 0 reaches '' "leastfault run $late ''"
+    expect 0 'none 2' '' "sed 's/patience = 10/patience = 11/' $late | leastfault answer - --every-delay --quiet"
+    ends 1 '+ misses' '' "leastfault run $late '' --beside 'crash 0 @24' --delays $delays"
+    ends 1 misses '' "leastfault run $late '' --changes --delays $delays"
+    ends 1 '}' '' "leastfault run $late '' --json --delays $delays"
+    ends 1 '</svg>' '' "leastfault draw $late '' --delays $delays"
+    # Where no link has a spread, it is the answer, with its status.
+    expect 1 $'least 2\nomit 0>1 @1\ncrash 0 @2' '?*' 'leastfault answer examples/crash_between_tries.toml --every-delay'
+    # Refusals: the scenario's, then that of the delays, then that of the faults.
+    expect 2 'refused delays' '?*' "leastfault run $late '' --delays '0>2 @1 6'"
+    expect 2 'refused delays' '?*' "leastfault run $late '' --delays '0>2 @1 1'"
+    expect 2 'refused delays' '?*' "leastfault run $late '' --delays '0>2 @1 5,0>2 @1 4'"
+    expect 2 'refused delays' '?*' "leastfault run $late '' --delays '0>3 @1 2'"
+    expect 2 'refused delays' '?*' "leastfault run $late '' --delays '0>0 @1 2'"
+    expect 2 'refused delays' '?*' "leastfault run $late '' --delays '0>2 @25 26'"
+    expect 2 'refused delays' '?*' "leastfault run $late '' --delays '0>2 @1 5,'"
+    expect 2 'refused delays' '?*' "leastfault run $late '' --delays ' 0>2 @1 5'"
+    expect 2 'refused delays' '?*' "leastfault run $late '' --delays '0>2 @1 05'"
+    expect 2 'refused delays' '?*' "leastfault run $late nonsense --delays nonsense"
+    expect 2 'refused faults' '?*' "leastfault run $late nonsense --delays $delays"
+    expect 2 'refused 6 budget' '?*' "leastfault run examples/out_of_range.toml '' --delays nonsense"
+    expect 2 'refused 6 budget' '?*' "leastfault answer examples/out_of_range.toml --every-delay"
+    # A protocol of a file too.
+    ends 0 reaches '*' "leastfault run examples/protocols/scenarios/three_phase_crashes.toml '' --delays '' --protocol examples/protocols/three_phase.toml"
+    ends 0 reaches '*' "leastfault run examples/protocols/scenarios/three_phase_crashes.toml '' --delays '' --rules --protocol examples/protocols/three_phase.toml"
+}
+
 test_why() {
     expect 1 $'least 2\nomit 0>1 @1\ncrash 0 @2\nwithout omit 0>1 @1: reaches\nstep 2\n- 1 has\n+ 1 lacks
 without crash 0 @2: reaches\nstep 2\n- 0 has\n+ 0 down' '' 'leastfault why examples/crash_between_tries.toml'
@@ -516,6 +549,38 @@ step 3\n0 has\n1 has\n2 has\nstep 4\n0 has\n1 has\n2 has\nreaches' '' "leastfaul
     expect 3 '' $'read\n*' "leastfault search nowhere.toml --protocol wrong.toml"
 }
 
+# Sweeps: the lines of all combinations, by any number of workers, and in parts.
+test_sweep() {
+    local commit=examples/blocked_commit.toml vary='--vary patience=1..3 --vary crashes=0,1,9 --vary outcome=agreement,unblocked' all n
+    local raft=examples/protocols/raft_election.toml own=examples/protocols/scenarios/raft_election_forgets.toml
+    expect 1 $'0\tnone 0\n1\tleast 1\tcrash 0 @2\n7\trefused 6 budget' \
+        '3 combinations: 1 none, 1 least, 1 refused; the fewest faults: 1, first at budget=1'$'\n' "leastfault sweep $commit --vary budget=0,1,7"
+    expect 0 $'agreement\tnone 1' $'1 combinations: 1 none, 0 least\n' "leastfault sweep - --vary outcome=agreement <$commit"
+    expect 2 $'x\trefused 10 outcome' '' "leastfault sweep $commit --vary outcome=x --quiet"
+    expect 2 $'5\tfull 2 6\n100\tnone 6' '' 'leastfault sweep examples/three_tries.toml --vary max_sets=5,100 --by search --quiet'
+    expect 1 '{"crashes":"1","seed":"7","reply":"least 1","faults":["crash 0 @2"]}' '' \
+        "leastfault sweep $commit --vary crashes=1 --vary seed=7 --json --quiet"
+    expect 1 $'true\tnone 2\nfalse\tleast 1\tpause 2 @4' '?*' "leastfault sweep $own --protocol $raft --vary given.stable=true,false"
+    run "leastfault sweep $commit $vary --quiet"
+    all=${out%$'\n'}
+    for n in 2 3 4 32; do
+        expect 1 "$all" '' "leastfault sweep $commit $vary --quiet --workers $n"
+    done
+    expect 0 "$all" '' "for i in 1 2 3; do leastfault sweep $commit $vary --quiet --workers \$i --part \$i/3 >part.\$i || true; done
+paste -d '\\n' part.1 part.2 part.3 | grep ."
+    expect 2 'refused 2' '?*' 'leastfault sweep examples/README.md --vary budget=1'
+    expect 2 'refused protocol 2' '?*' "leastfault sweep $commit --vary budget=1 --protocol examples/README.md"
+    expect 3 '' $'read\n*' 'leastfault sweep nowhere.toml --vary budget=1'
+    expect 3 '' $'write\nstandard output: *space*' "leastfault sweep $commit --vary budget=1 >/dev/full"
+    for n in '' '--vary' '--vary budget' '--vary =1' '--vary budget=' '--vary budget=2..1' '--vary seed=0..9999999' '--vary budget=1 --by chance' \
+        '--vary budget=1 --workers 0' '--vary budget=1 --part 0/2' '--vary budget=1 --part 3/2' '--vary budget=1 --part 1' '--vary budget=1 --all' '--vary budget=1 --vary budget=2'; do
+        expect 2 '' '?*' "leastfault sweep $commit $n"
+    done
+    helps 'leastfault sweep --help'
+    expect 2 '' 'swep: no such command; did you mean `leastfault sweep`[?]'$'\n' 'leastfault swep'
+    expect 0 'leastfault sweep --help' '' "leastfault --help | grep -o 'leastfault sweep --help'"
+}
+
 test_words() {
     local words protocol=examples/protocols/retry.toml own=examples/protocols/scenarios/retry_lost.toml
     for words in --help -h 'search --help' 'answer --help' 'why --help' 'run --help' 'draw --help' 'check --help' 'protocol --help'; do
@@ -588,12 +653,16 @@ test_refused() {
 # status_of OUT ERR: the status that belongs to what a command prints; 0 for a silent command, which isn't the program's.
 status_of() {
     case $1 in
+    *$'\tleast '*) echo 1 ;; # the lines of a sweep
+    *$'\trefused '* | *$'\tfull '*) echo 2 ;;
+    *$'\tnone '*) echo 0 ;;
     none* | yes* | ok*) echo 0 ;;
     least* | all* | 'no '*) echo 1 ;;
     refused* | full*) echo 2 ;;
     *$'\nreaches\n' | *$'\n+ reaches\n' | *'= reaches'$'\n') echo 0 ;;
     *$'\nmisses\n' | *$'\n+ misses\n' | *'= misses'$'\n') echo 1 ;;
     'step '*) echo 0 ;; # a part of a trace, cut out by a filter
+    'patience '*) echo 0 ;; # a table, made of a sweep by a filter
     '') case $2 in
         read* | write* | memory* | pool*) echo 3 ;;
         '') echo 0 ;;
@@ -727,10 +796,12 @@ test_own_file
 test_full
 test_run
 test_told
+test_every_delay
 test_why
 test_check
 test_protocol
 test_own_protocols
+test_sweep
 test_words
 test_devices
 test_refused

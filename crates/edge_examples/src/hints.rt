@@ -1,6 +1,9 @@
 //! What is told of texts that are refused.
 
-use lf_hints::{all_hint, check_hint, run_hint, search_hint, see_hint, verdict_hint};
+use lf_hints::{
+    all_hint, check_hint, late_hint, run_hint, search_hint, see_hint, see_late_hint, seed_note,
+    verdict_hint,
+};
 use std::alloc::{AllocError, Global};
 
 /// A scenario, in the order of its keys.
@@ -9,8 +12,9 @@ const SCENARIO: &str = concat!(
     "protocol = \"retry\"\ntries = 1\noutcome = \"delivered\"\n",
 );
 
-/// What is given, and what is told of it: faults of a run, a certificate, the reply of a search or of one for all least sets, the reply of
-/// a check and behind `;` the certificate, the lines of a reply of which a set is to be seen, or else a key of the scenario and the lines in place of its own.
+/// What is given, and what is told of it: faults of a run, delays of one, delays of one whose notes have a spread, a certificate, the reply
+/// of a search or of one for all least sets, the reply of a check and behind `;` the certificate, the lines of a reply of which a set is to be
+/// seen, also with its late notes, lines of which one may be a seed, or else a key of the scenario and the lines in place of its own.
 const HINTS: &str = concat!(
     "budget|budget = 7|budget = 7: a whole number from 0 to 6\n",
     "horizon|horizon = |line 8, column 11: invalid value, expected a string\n",
@@ -42,6 +46,26 @@ const HINTS: &str = concat!(
     "run|Crash 0@2|\"Crash 0@2\": not a fault; did you mean crash 0 @2?\n",
     "run|crash 0|\"crash 0\": not a fault; write omit 0>1 @2, crash 0 @2 or pause 0 @2\n",
     "run|-|\"-\": no fault at all is written as ''\n",
+    "late||\n",
+    "late|0>1 @1 3|\"0>1 @1 3\": the note arrives at step 2\n",
+    "late|0>1 @1 2,0>1 @1 2|\"0>1 @1 2\": its slot is named twice\n",
+    "late|0>1 @1 2,2>0 @5 6|\n",
+    "late|0>1 @6 7|\"0>1 @6 7\": the step is from 1 to 5\n",
+    "late|0>1 @99 7|\"0>1 @99 7\": the step is from 1 to 5\n",
+    "late|0>1 @1 200|\"0>1 @1 200\": the note arrives at step 2\n",
+    "late|0>3 @1 2|\"0>3 @1 2\": the nodes are from 0 to 2\n",
+    "late|12>1 @1 2|\"12>1 @1 2\": the nodes are from 0 to 2\n",
+    "late|1>1 @1 2|\"1>1 @1 2\": no note goes from a node to itself\n",
+    "late|0>1 @1 2, 2>0 @5 6|\" 2>0 @5 6\": delays are joined by single commas, no blanks\n",
+    "late|0>1 @1 2,|a comma too many: delays are joined by single commas, no blanks\n",
+    "late|0>1 @1  2|\"0>1 @1  2\": not a delay; did you mean 0>1 @1 2?\n",
+    "late|arrive 0>1 @01 2|\"arrive 0>1 @01 2\": not a delay; did you mean 0>1 @1 2?\n",
+    "late|0>1 @1|\"0>1 @1\": not a delay; write 0>1 @9 13\n",
+    "late|0>1 @1 2 3|\"0>1 @1 2 3\": not a delay; write 0>1 @9 13\n",
+    "late|-|\"-\": no delay at all is written as ''\n",
+    "later|0>1 @1 3,0>2 @5 9|\n",
+    "later|0>1 @5 6|\"0>1 @5 6\": the note arrives at one of the steps 7 to 9\n",
+    "later|0>1 @5 10|\"0>1 @5 10\": the note arrives at one of the steps 7 to 9\n",
     "check|{\"answer\":null|EOF while parsing at line 1 column 14\n",
     "check|{\"answer\":null,\"format\":1,\"root\":{\"edges\":[],\"kids\":[],\"reach\":[0,49]}}|root.reach[1] = 49: a whole number from 0 to 48\n",
     "check|{\"answer\": null,\"format\":1,\"root\":{\"misses\":true}}|line 1, column 11: not as a certificate is written\n",
@@ -51,6 +75,13 @@ const HINTS: &str = concat!(
     "see|least 0;|to see it: leastfault run a.toml ''\n",
     "see|all 1 2;pause 0 @1;pause 1 @2;|to see the first: leastfault run a.toml 'pause 0 @1'\n",
     "see|all 0 1;-;|to see it: leastfault run a.toml ''\n",
+    "see late|none 2;|\n",
+    "see late|least 0;arrive 0>1 @1 3;arrive 0>2 @1 4;|to see it: leastfault run a.toml '' --delays '0>1 @1 3,0>2 @1 4'\n",
+    "see late|least 2;omit 0>1 @1;crash 0 @2;|to see it: leastfault run a.toml 'omit 0>1 @1,crash 0 @2' --delays ''\n",
+    "see late|least 1;crash 0 @2;arrive 0>1 @1 3;|to see it: leastfault run a.toml 'crash 0 @2' --delays '0>1 @1 3'\n",
+    "see own|least 1;crash 0 @2;arrive 0>1 @1 3;|to see it: leastfault run a.toml 'crash 0 @2' --delays '0>1 @1 3' --protocol p.toml\n",
+    "seed|nodes = 3|\n",
+    "seed|seed = 7|seed: it plays no part over every delay\n",
     "verdict|no 9 -;{\"answer\":null,\"format\":1,\"root\":{\"misses\":true}}|",
     "at the root, without faults: a leaf stands at depth 0, and leaves stand at depth 2, the budget\n",
     "verdict|no 2 0;{\"answer\":[\"omit 0>2 @1\"],",
@@ -89,6 +120,11 @@ fn changed(alloc: Global, key: &str, lines: &str) -> Result<String, AllocError> 
     Ok(text)
 }
 
+/// The lines that stand in one line, with `;` behind each.
+fn lines(alloc: Global, given: &str) -> Result<String, AllocError> {
+    given.replace(alloc, ";", "\n")
+}
+
 /// What is told of what is given.
 fn hint(alloc: Global, what: &str, given: &str) -> Result<String, AllocError> {
     let text = SCENARIO.as_bytes();
@@ -97,12 +133,18 @@ fn hint(alloc: Global, what: &str, given: &str) -> Result<String, AllocError> {
         "check" => check_hint(alloc, text, given.as_bytes()),
         "search" => search_hint(alloc, text, given.as_bytes()),
         "all" => all_hint(alloc, text, given.as_bytes()),
-        "see" => see_hint(
-            alloc,
-            "a.toml",
-            None,
-            given.replace(alloc, ";", "\n")?.as_bytes(),
-        ),
+        "see" => see_hint(alloc, "a.toml", None, lines(alloc, given)?.as_bytes()),
+        "late" => late_hint(alloc, text, given),
+        "later" => {
+            let slow = changed(alloc, "least", "least = 2;spread = 2")?;
+            late_hint(alloc, slow.as_bytes(), given)
+        }
+        "see late" => see_late_hint(alloc, "a.toml", None, lines(alloc, given)?.as_bytes()),
+        "see own" => {
+            let reply = lines(alloc, given)?;
+            see_late_hint(alloc, "a.toml", Some("p.toml"), reply.as_bytes())
+        }
+        "seed" => seed_note(alloc, given.as_bytes()),
         "verdict" => {
             let (reply, tree) = given.split_once(';').unwrap_or(("", ""));
             verdict_hint(alloc, text, tree.as_bytes(), reply.as_bytes())
@@ -111,12 +153,14 @@ fn hint(alloc: Global, what: &str, given: &str) -> Result<String, AllocError> {
     }
 }
 
-/// Whether the hint of a row begins as the row says.
+/// Whether the hint of a row begins as the row says, and there is none where the row says nothing.
 fn is_told(alloc: Global, row: &str) -> bool {
     let (what, rest) = columns(row);
     let (given, expected) = columns(rest);
     match hint(alloc, what, given) {
-        Ok(found) => found.as_str().starts_with(expected),
+        Ok(found) => {
+            found.is_empty() == expected.is_empty() && found.as_str().starts_with(expected)
+        }
         Err(_) => false,
     }
 }

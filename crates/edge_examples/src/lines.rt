@@ -66,7 +66,8 @@ fn is_text(
     }
 }
 
-/// Whether a table says this of what is asked for: behind it stand `;rules`, and `;of` with the file of a protocol.
+/// Whether a table says this of what is asked for: behind it stand `;rules`, `;every delay`, `;late` with delays, and `;of` with the file of
+/// a protocol.
 fn is_said(alloc: Global, asked: &Asked, expected: &str) -> bool {
     let (verb, behind, rest) = parts(asked);
     let (told, workers) = options(asked);
@@ -134,10 +135,28 @@ fn end_of(
     {
         write!(&mut end, ";{other}")?;
     }
+    if let Asked::Answer {
+        every_delay: true,
+        ..
+    } = asked
+    {
+        end.push_str(";every delay")?;
+    }
+    if let Some(delays) = delays_of(asked) {
+        write!(&mut end, ";late;{delays}")?;
+    }
     if let Some(protocol) = asked.protocol_file() {
         write!(&mut end, ";of;{protocol}")?;
     }
     Ok(end)
+}
+
+/// The delays that are given, as they were written.
+fn delays_of(asked: &Asked) -> Option<&str> {
+    match asked {
+        Asked::Run { delays, .. } | Asked::Draw { delays, .. } => delays.as_deref(),
+        _ => None,
+    }
 }
 
 /// Whether a command line of a table asks for what stands behind it.
@@ -211,6 +230,8 @@ fn searches_name_their_file(rt: HostRuntime) {
         ";search;a;--protocol|wrong\n",
         ";search;a;--protocol;p;--protocol;q|wrong\n",
         ";search;a;--rules|wrong\n",
+        ";search;a;--every-delay|wrong\n",
+        ";search;a;--delays;0>1 @9 13|wrong\n",
     );
     check_lines(&rt, rt.alloc(), table);
 }
@@ -233,11 +254,21 @@ fn runs_name_their_file_and_their_faults(rt: HostRuntime) {
         ";run;a;crash 0 @1;--beside;|;run;a;crash 0 @1;beside;\n",
         ";run;a;;--beside;crash 0 @1;--protocol;p|;run;a;;beside;crash 0 @1;of;p\n",
         ";run;a;;--json|;run;a;;json\n",
+        ";run;a;;--delays;|;run;a;;late;\n",
+        ";run;a;crash 0 @1;--delays;0>1 @9 13,2>0 @5 9|;run;a;crash 0 @1;late;0>1 @9 13,2>0 @5 9\n",
+        ";run;--delays=0>1 @9 13;a;;--json;--protocol;p|;run;a;;json;late;0>1 @9 13;of;p\n",
+        ";run;a;;--delays;x;--beside;y|;run;a;;beside;y;late;x\n",
+        ";run;a;;--rules;--delays;x|rules of none\n",
+        ";run;a;;--delays|wrong\n",
+        ";run;a;;--delays;x;--delays;y|wrong\n",
+        ";run;a;;--every-delay|wrong\n",
         ";run;a;;--json;--changes|told twice\n",
         ";run;a;;--changes;--beside;|told twice\n",
         ";run;a;;--rules;--changes;--protocol;p|told twice\n",
         ";draw;a;crash 0 @1|;draw;a;crash 0 @1\n",
         ";draw;a;;--protocol;p|;draw;a;;of;p\n",
+        ";draw;a;crash 0 @1;--delays;0>1 @9 13|;draw;a;crash 0 @1;late;0>1 @9 13\n",
+        ";draw;a;;--delays;;--protocol;p|;draw;a;;late;;of;p\n",
     );
     check_lines(&rt, rt.alloc(), table);
 }
@@ -275,6 +306,13 @@ fn answers_name_their_file(rt: HostRuntime) {
         ";answer;a;--all|wrong\n",
         ";answer;--help|help\n",
         ";answer;a;--protocol;p|;answer;a;of;p\n",
+        ";answer;a;--every-delay|;answer;a;every delay\n",
+        ";answer;--every-delay;--quiet;a;--protocol;p|;answer;a;quiet;every delay;of;p\n",
+        ";answer;--;--every-delay|;answer;--every-delay\n",
+        ";answer;a;--every-delay;--every-delay|wrong\n",
+        ";answer;a;--every-delay=true|wrong\n",
+        ";answer;a;--every|wrong\n",
+        ";answer;a;--delays;0>1 @9 13|wrong\n",
     );
     check_lines(&rt, rt.alloc(), table);
 }
@@ -292,6 +330,7 @@ fn reasons_name_their_file(rt: HostRuntime) {
         ";why;a;--all|wrong\n",
         ";why;--help|help\n",
         ";why;a;--protocol;p|;why;a;of;p\n",
+        ";why;a;--every-delay|wrong\n",
     );
     check_lines(&rt, rt.alloc(), table);
 }
@@ -380,6 +419,7 @@ const TOLD: &str = concat!(
     ";two words|'two words': no such command; did you mean `leastfault search 'two words'`?\n",
     ";serach;a.toml|serach: no such command; did you mean `leastfault search`?\n",
     ";Check|Check: no such command; did you mean `leastfault check`?\n",
+    ";sweeep;a.toml|sweeep: no such command; did you mean `leastfault sweep`?\n",
     ";help|help: no such command; did you mean `leastfault --help`?\n",
     ";search;a;--workers;33|--workers = 33: a whole number from 1 to 32\n",
     ";search;a;--workers;x|--workers = x: a whole number from 1 to 32\n",

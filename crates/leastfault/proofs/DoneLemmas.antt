@@ -1,5 +1,5 @@
 -- What a command comes to, by the bytes at the front of the texts that it is about.
-use Rattle.std.proofs.Common.{ℕ, List, inl, inr, string_bytes}
+use Rattle.std.proofs.Common.{ℕ, List, inl, inr, option_map, string_bytes}
 use Rattle.std.specs.Prelude.{Option, None, Some}
 use Rattle.lf_scenario.specs.Limits.{longest}
 use Rattle.lf_tree.specs.Texts.{most_bytes}
@@ -8,10 +8,10 @@ use Rattle.lf_words.specs.declared.types.Asked.TheVariants as asked
 use Rattle.lf_written.specs.declared.declared.Declared.{Declared}
 use Rattle.leastfault.specs.declared.reply.Certified.{Certified}
 use Rattle.leastfault.specs.Commands.{IsCause, IsCauseFor, IsDone, IsDoneFor, wanted_of}
-use Rattle.leastfault.specs.declared.shown.Told.TheVariants as told
-use Rattle.leastfault.proofs.ShownLemmas.{shown_by_front, told_by_front}
+use Rattle.leastfault.proofs.DelayedLemmas.{asked_by_front}
+use Rattle.leastfault.proofs.ShownLemmas.{drawn_by_front, shown_by_front}
 use Rattle.leastfault.proofs.WhyLemmas.{why_by_front}
-use Rattle.leastfault.proofs.ReplyLemmas.{GoesByFront, answer_by_front, certified_by_front, certified_cause_by_front, check_by_front, file_by_front}
+use Rattle.leastfault.proofs.ReplyLemmas.{GoesByFront, certified_by_front, certified_cause_by_front, check_by_front, file_by_front}
 use Rattle.leastfault.proofs.ReplyLemmas.{file_refused_by_front, protocol_by_front, tree_by_front, uncertified_by_front}
 
 module _ (known : Option Declared) where
@@ -21,15 +21,15 @@ module _ (known : Option Declared) where
       uncertified_by_front known (wanted_of all) workers reply ended held more is
   done_for_by_front (asked.Search file (Some tree) all workers quiet protocol) certificate reply ended held more is =
       certified_by_front known (wanted_of all) workers reply ended held more is
-  done_for_by_front (asked.Run file faults shown protocol) certificate reply ended held more is =
-      (shown_by_front known shown (string_bytes faults) reply ended.status held more is.0, is.1)
-  done_for_by_front (asked.Draw file faults protocol) certificate reply ended held more is =
-      (told_by_front known told.Picture (string_bytes faults) reply ended.status held more is.0, is.1)
+  done_for_by_front (asked.Run file faults shown delays protocol) certificate reply ended held more is =
+      (shown_by_front known shown (option_map string_bytes delays) (string_bytes faults) reply ended.status held more is.0, is.1)
+  done_for_by_front (asked.Draw file faults delays protocol) certificate reply ended held more is =
+      (drawn_by_front known (option_map string_bytes delays) (string_bytes faults) reply ended.status held more is.0, is.1)
   done_for_by_front (asked.Check file tree quiet protocol) None reply ended held more is = absurd is.0
   done_for_by_front (asked.Check file tree quiet protocol) (Some certificate) reply ended held more is =
       (check_by_front known certificate reply ended.status held more is.0, is.1)
-  done_for_by_front (asked.Answer file quiet protocol) certificate reply ended held more is =
-      (answer_by_front known reply ended.status held more is.0, is.1)
+  done_for_by_front (asked.Answer file quiet every_delay protocol) certificate reply ended held more is =
+      (asked_by_front known every_delay reply ended.status held more is.0, is.1)
   done_for_by_front (asked.Why file quiet protocol) certificate reply ended held more is =
       (why_by_front known reply ended.status held more is.0, is.1)
   done_for_by_front (asked.Protocol file) certificate reply ended held more is = (protocol_by_front reply ended.status held more is.0, is.1)
@@ -37,21 +37,21 @@ module _ (known : Option Declared) where
   pub done_for_by_tree : (a : Asked) (text reply : List ℕ) (ended : Certified)
       → GoesByFront most_bytes (λ certificate. IsDoneFor known a text (Some certificate) reply ended)
   done_for_by_tree (asked.Search file tree all workers quiet protocol) text reply ended held more is = is
-  done_for_by_tree (asked.Run file faults shown protocol) text reply ended held more is = is
-  done_for_by_tree (asked.Draw file faults protocol) text reply ended held more is = is
+  done_for_by_tree (asked.Run file faults shown delays protocol) text reply ended held more is = is
+  done_for_by_tree (asked.Draw file faults delays protocol) text reply ended held more is = is
   done_for_by_tree (asked.Check file tree quiet protocol) text reply ended held more is =
       (tree_by_front known text reply ended.status held more is.0, is.1)
-  done_for_by_tree (asked.Answer file quiet protocol) text reply ended held more is = is
+  done_for_by_tree (asked.Answer file quiet every_delay protocol) text reply ended held more is = is
   done_for_by_tree (asked.Why file quiet protocol) text reply ended held more is = is
   done_for_by_tree (asked.Protocol file) text reply ended held more is = is
 
   pub cause_for_by_front : (a : Asked) (number : ℕ) → GoesByFront longest (λ text. IsCauseFor known a text number)
   cause_for_by_front (asked.Search file tree all workers quiet protocol) number held more is =
       certified_cause_by_front known workers number held more is
-  cause_for_by_front (asked.Run file faults shown protocol) number held more is = is
-  cause_for_by_front (asked.Draw file faults protocol) number held more is = is
+  cause_for_by_front (asked.Run file faults shown delays protocol) number held more is = is
+  cause_for_by_front (asked.Draw file faults delays protocol) number held more is = is
   cause_for_by_front (asked.Check file tree quiet protocol) number held more is = is
-  cause_for_by_front (asked.Answer file quiet protocol) number held more is = is
+  cause_for_by_front (asked.Answer file quiet every_delay protocol) number held more is = is
   cause_for_by_front (asked.Why file quiet protocol) number held more is = is
   cause_for_by_front (asked.Protocol file) number held more is = is
 

@@ -1,5 +1,6 @@
 mod CertificateLemmas
 mod CommandLemmas
+mod DelayedLemmas
 mod DoneLemmas
 mod EngineLemmas
 mod KnownLaws

@@ -18,11 +18,11 @@ use Rattle.leastfault.specs.declared.reply.Certified.{Certified}
 use Rattle.leastfault.specs.declared.reply.Reply.{Reply}
 use Rattle.leastfault.specs.declared.reply.Searched.{Searched}
 use Rattle.leastfault.specs.Protocols.{IsProtocolReply, RepliesProtocolRefusal}
-use Rattle.leastfault.specs.Replies.{HandsOut, IsAnswerReply, IsCheckReply, IsPoolCause, IsReplyWith, MayWork, reports_of}
+use Rattle.leastfault.specs.Delayed.{IsAnswerAsked}
+use Rattle.leastfault.specs.Replies.{HandsOut, IsCheckReply, IsPoolCause, IsReplyWith, MayWork, reports_of}
 use Rattle.leastfault.specs.Reports.{tree_refusal}
-use Rattle.leastfault.specs.Shown.{IsShownReply, IsToldReply}
+use Rattle.leastfault.specs.Shown.{IsDrawnReply, IsShownReply}
 use Rattle.leastfault.specs.Why.{IsWhyReply}
-use Rattle.leastfault.specs.declared.shown.Told.TheVariants as told
 
 -- the bytes of the certificate, where there is one
 abbrev pub certificate_of : Certified → Option (List ℕ)
@@ -102,10 +102,10 @@ wanted_of true = wanted.AllLeast
 -- the file of the certificate that is to be judged
 abbrev pub tree_file : Asked → Option (List ℕ)
 tree_file (asked.Search file tree all workers quiet protocol) = None
-tree_file (asked.Run file faults shown protocol) = None
-tree_file (asked.Draw file faults protocol) = None
+tree_file (asked.Run file faults shown delays protocol) = None
+tree_file (asked.Draw file faults delays protocol) = None
 tree_file (asked.Check file tree quiet protocol) = Some (string_bytes tree)
-tree_file (asked.Answer file quiet protocol) = None
+tree_file (asked.Answer file quiet every_delay protocol) = None
 tree_file (asked.Why file quiet protocol) = None
 tree_file (asked.Protocol file) = None
 
@@ -125,24 +125,24 @@ module _ (known : Option Declared) where
   abbrev pub IsDoneFor : Asked → List ℕ → Option (List ℕ) → List ℕ → Certified → Type 0
   IsDoneFor (asked.Search file tree all workers quiet protocol) text certificate reply ended =
       IsSearchFor (written_to (asked.Search file tree all workers quiet protocol)) (wanted_of all) text reply ended × MayWork known workers text
-  IsDoneFor (asked.Run file faults shown protocol) text certificate reply ended =
-      IsShownReply known shown (string_bytes faults) text reply ended.status × (certificate_of ended ≡ None)
-  IsDoneFor (asked.Draw file faults protocol) text certificate reply ended =
-      IsToldReply told.Picture known (string_bytes faults) text reply ended.status × (certificate_of ended ≡ None)
+  IsDoneFor (asked.Run file faults shown delays protocol) text certificate reply ended =
+      IsShownReply known shown (option_map string_bytes delays) (string_bytes faults) text reply ended.status × (certificate_of ended ≡ None)
+  IsDoneFor (asked.Draw file faults delays protocol) text certificate reply ended =
+      IsDrawnReply known (option_map string_bytes delays) (string_bytes faults) text reply ended.status × (certificate_of ended ≡ None)
   IsDoneFor (asked.Check file tree quiet protocol) text certificate reply ended =
       IsCheckOf text certificate reply ended.status × (certificate_of ended ≡ None)
-  IsDoneFor (asked.Answer file quiet protocol) text certificate reply ended =
-      IsAnswerReply known text reply ended.status × (certificate_of ended ≡ None)
+  IsDoneFor (asked.Answer file quiet every_delay protocol) text certificate reply ended =
+      IsAnswerAsked known every_delay text reply ended.status × (certificate_of ended ≡ None)
   IsDoneFor (asked.Why file quiet protocol) text certificate reply ended = IsWhyReply known text reply ended.status × (certificate_of ended ≡ None)
   IsDoneFor (asked.Protocol file) text certificate reply ended = IsProtocolReply text reply ended.status × (certificate_of ended ≡ None)
 
   -- for this cause workers give no answer
   abbrev pub IsCauseFor : Asked → List ℕ → ℕ → Type 0
   IsCauseFor (asked.Search file tree all workers quiet protocol) text number = IsCauseAt known workers text number
-  IsCauseFor (asked.Run file faults shown protocol) text number = ⊥
-  IsCauseFor (asked.Draw file faults protocol) text number = ⊥
+  IsCauseFor (asked.Run file faults shown delays protocol) text number = ⊥
+  IsCauseFor (asked.Draw file faults delays protocol) text number = ⊥
   IsCauseFor (asked.Check file tree quiet protocol) text number = ⊥
-  IsCauseFor (asked.Answer file quiet protocol) text number = ⊥
+  IsCauseFor (asked.Answer file quiet every_delay protocol) text number = ⊥
   IsCauseFor (asked.Why file quiet protocol) text number = ⊥
   IsCauseFor (asked.Protocol file) text number = ⊥
 

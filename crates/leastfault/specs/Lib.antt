@@ -5,6 +5,7 @@ pub mod Replies
 pub mod Searches
 pub mod Shown
 pub mod Why
+pub mod Delayed
 pub mod Engines
 pub mod Protocols
 pub mod Commands

@@ -1,5 +1,5 @@
 -- The replies to runs, told as it is asked.
-use Rattle.std.specs.Prelude.{◌≡◌, ◌⊎◌, ⊤, ℕ, false, true, List, string_bytes, Option}
+use Rattle.std.specs.Prelude.{◌≡◌, ◌⊎◌, ⊤, ℕ, Bool, false, true, List, string_bytes, Option, None, Some}
 use Rattle.lf_changes.specs.Beside.{beside_by}
 use Rattle.lf_changes.specs.Changes.{changes_by}
 use Rattle.lf_faults.specs.declared.fault.Parts.{Parts}
@@ -15,7 +15,8 @@ use Rattle.leastfault.specs.declared.shown.Told.{Told}
 use Rattle.leastfault.specs.declared.shown.Told.TheVariants as told
 use Rattle.leastfault.specs.Answers.{reaches_in}
 use Rattle.leastfault.specs.Known.{IsTextOf}
-use Rattle.leastfault.specs.Replies.{IsRunReply, RepliesNoSet, RepliesRefusal, tells_rules}
+use Rattle.leastfault.specs.Delayed.{IsDelayedReply}
+use Rattle.leastfault.specs.Replies.{IsRunReply, RepliesNoSet, RepliesRefusal, RepliesTrace, tells_rules}
 use Rattle.leastfault.specs.Reports.{run_status}
 
 -- what is told of the run of a set. No contract says which text a JSON document or a picture is
@@ -52,10 +53,36 @@ abbrev pub IsBesideReply : List ℕ → Option Declared → List ℕ → List �
 IsBesideReply other known words text reply status =
     RepliesRefusal known text reply status ⊎ ((s : Scenario) × IsTextOf known s text × RepliesBesides other words s reply status)
 
--- the reply of a run, told as it is asked
-abbrev pub IsShownReply : Option Declared → Shown → List ℕ → List ℕ → List ℕ → ℕ → Type 0
-IsShownReply known shown.Whole = IsRunReply known false
-IsShownReply known shown.Rules = IsRunReply known (tells_rules known true)
-IsShownReply known shown.Changes = IsToldReply told.Changes known
-IsShownReply known shown.Json = IsToldReply told.Json known
-IsShownReply known (shown.Beside other) = IsBesideReply (string_bytes other) known
+-- the reply of a run to a scenario and the words that name a set: with the rules that nodes took, or without
+abbrev pub RepliesRun : Bool → List ℕ → Scenario → List ℕ → ℕ → Type 0
+RepliesRun rules words s reply status = RepliesNoSet words s reply status ⊎ RepliesTrace rules words s reply status
+
+-- and one that tells this of it
+abbrev pub RepliesNamed : Told → List ℕ → Scenario → List ℕ → ℕ → Type 0
+RepliesNamed told words s reply status = RepliesNoSet words s reply status ⊎ RepliesTold told words s reply status
+
+-- the same, told as it is asked
+abbrev pub RepliesShown : Bool → Shown → List ℕ → Scenario → List ℕ → ℕ → Type 0
+RepliesShown rules shown.Whole = RepliesRun false
+RepliesShown rules shown.Rules = RepliesRun rules
+RepliesShown rules shown.Changes = RepliesNamed told.Changes
+RepliesShown rules shown.Json = RepliesNamed told.Json
+RepliesShown rules (shown.Beside other) = RepliesBesides (string_bytes other)
+
+-- the reply of a run by the scenario's seed, told as it is asked
+abbrev pub IsSeededReply : Option Declared → Shown → List ℕ → List ℕ → List ℕ → ℕ → Type 0
+IsSeededReply known shown.Whole = IsRunReply known false
+IsSeededReply known shown.Rules = IsRunReply known (tells_rules known true)
+IsSeededReply known shown.Changes = IsToldReply told.Changes known
+IsSeededReply known shown.Json = IsToldReply told.Json known
+IsSeededReply known (shown.Beside other) = IsBesideReply (string_bytes other) known
+
+-- the reply of a run, told as it is asked: by the seed, or where notes arrive as words say
+abbrev pub IsShownReply : Option Declared → Shown → Option (List ℕ) → List ℕ → List ℕ → List ℕ → ℕ → Type 0
+IsShownReply known how None words = IsSeededReply known how words
+IsShownReply known how (Some delays) words = IsDelayedReply known delays (RepliesShown (tells_rules known true) how words)
+
+-- the reply that draws it
+abbrev pub IsDrawnReply : Option Declared → Option (List ℕ) → List ℕ → List ℕ → List ℕ → ℕ → Type 0
+IsDrawnReply known None words = IsToldReply told.Picture known words
+IsDrawnReply known (Some delays) words = IsDelayedReply known delays (RepliesNamed told.Picture words)

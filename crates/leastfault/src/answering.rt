@@ -225,7 +225,11 @@ pub(crate) fn allowed_set(scenario: &Scenario, faults: &str) -> Option<FaultSet>
 }
 
 /// The reply that tells the run of a set of faults.
-fn traced(alloc: Global, scenario: &Scenario, set: &FaultSet) -> Result<Reply<u8>, AllocError>
+pub(crate) fn traced(
+    alloc: Global,
+    scenario: &Scenario,
+    set: &FaultSet,
+) -> Result<Reply<u8>, AllocError>
     ensures { IfOk result (λ reply.
         (string_bytes reply.text ≡ trace scenario.now.setting.machine (world_of scenario.now.setting) set.now scenario.now.formula)
         × (reply.value ≡ run_status (reaches_in scenario.now set.now))) }

@@ -7,14 +7,15 @@ ghost use Rattle.lf_words.specs.Words.{protocol_file, written_to};
 ghost use Rattle.leastfault.specs.Engines.{IsMadeHere, IsMadeOfAll, Remakes};
 ghost use Rattle.leastfault.specs.Known.{known_of};
 
-use crate::answering::{Wanted, answer_reply};
+use crate::answering::Wanted;
 use crate::certified::{certified_reply, reply_by};
 use crate::checking::check_reply;
+use crate::delayed::answer_asked;
 use crate::fault::BytesFault;
 use crate::protocol::{protocol_refused, protocol_reply};
 use crate::reading::{CommandTexts, read_command};
 use crate::reply::{Certified, Reply, Searched, without_certificate};
-use crate::shown::{Told, shown_reply, told_reply};
+use crate::shown::{drawn_reply, shown_reply};
 use crate::why::why_reply;
 use lf_protocol_file::read_protocol;
 use lf_streams::Source;
@@ -67,7 +68,8 @@ pub fn certificate_file(asked: &Asked) -> Option<&str>
 ///
 /// The protocol's file, where one is named, is read from the first source, the scenario, or the file that `protocol` checks, from the
 /// second, and the certificate that is to be judged from the third. A source that isn't asked for is left alone. All are read before
-/// anything is refused; then the protocol's refusal comes first, the scenario's second, and last that of the faults or the certificate.
+/// anything is refused; then the protocol's refusal comes first, the scenario's second, and last that of the delays, the faults or the
+/// certificate.
 ///
 /// A search by one worker and an answer are made in this thread, and a search by several and a check in several threads. The fault is
 /// never `Write`.
@@ -168,13 +170,21 @@ fn reply_knowing<T: Threads + Wait + Clock + Sync, V: Watch>(
             Some(_) => certified_reply(rt, alloc, known, wanted_of(*all), *workers, text, watch),
             None => uncertified(reply_by(rt, alloc, known, wanted_of(*all), *workers, text, watch)),
         },
-        Asked::Answer { .. } => Ok(alone(answer_reply(alloc, known, text, watch)?)),
-        Asked::Why { .. } => Ok(alone(why_reply(alloc, known, text, watch)?)),
-        Asked::Run { faults, shown, .. } => {
-            Ok(alone(shown_reply(alloc, known, shown, text, faults.as_str())?))
+        Asked::Answer { every_delay, .. } => {
+            Ok(alone(answer_asked(alloc, known, *every_delay, text, watch)?))
         }
-        Asked::Draw { faults, .. } => {
-            Ok(alone(told_reply(alloc, known, Told::Picture, text, faults.as_str())?))
+        Asked::Why { .. } => Ok(alone(why_reply(alloc, known, text, watch)?)),
+        Asked::Run {
+            faults,
+            shown,
+            delays,
+            ..
+        } => {
+            let delays = delays.as_deref();
+            Ok(alone(shown_reply(alloc, known, shown, delays, text, faults.as_str())?))
+        }
+        Asked::Draw { faults, delays, .. } => {
+            Ok(alone(drawn_reply(alloc, known, delays.as_deref(), text, faults.as_str())?))
         }
         Asked::Check { .. } => {
             Ok(alone(check_asked(rt, alloc, known, text, &texts.tree, watch)?))

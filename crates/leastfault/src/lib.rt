@@ -10,6 +10,7 @@ mod answering;
 mod certified;
 mod checking;
 mod commands;
+mod delayed;
 mod engine;
 mod fault;
 mod known;
@@ -32,6 +33,7 @@ pub use answer::{merged_answer, merged_watched, plain_answer};
 pub use answering::{Wanted, answer_reply, search_reply};
 pub use certified::{certified_known, search_certified};
 pub use commands::{certificate_file, execute, tree_file};
+pub use delayed::every_delay_reply;
 pub use engine::{
     all_bytes, all_shared, answer_bytes, check_bytes, check_bytes_rows, protocol_bytes, run_bytes,
     search_bytes, search_shared,

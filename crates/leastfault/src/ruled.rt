@@ -4,10 +4,11 @@ ghost use Rattle.std.specs.Prelude.{◌≡◌, Some, true, string_bytes, IfOk};
 ghost use Rattle.lf_sim.specs.Settings.{world_of};
 ghost use Rattle.lf_rule_trace.specs.RuleTraces.{rule_trace};
 ghost use Rattle.leastfault.specs.Answers.{reaches_in};
-ghost use Rattle.leastfault.specs.Replies.{IsRunReply};
+ghost use Rattle.leastfault.specs.Replies.{IsRunReply, told_trace};
 ghost use Rattle.leastfault.specs.Reports.{run_status};
+ghost use Rattle.leastfault.specs.Shown.{RepliesRun};
 
-use crate::answering::{allowed_set, no_set, refused, run_status};
+use crate::answering::{allowed_set, no_set, refused, run_status, traced as traced_alone};
 use crate::reply::Reply;
 use lf_faults::FaultSet;
 use lf_outcome::holds;
@@ -33,6 +34,38 @@ pub(crate) fn rules_reply(
             None => no_set(alloc),
         },
         Err(error) => refused(alloc, error),
+    }
+}
+
+/// The reply of a run to a scenario and the words that name a set of faults, with the rules that nodes took where they are to be told.
+pub(crate) fn run_of(
+    alloc: Global,
+    rules: bool,
+    scenario: &Scenario,
+    faults: &str,
+) -> Result<Reply<u8>, AllocError>
+    ensures { IfOk result (λ reply. RepliesRun rules faults.now scenario.now (string_bytes reply.text) reply.value) }
+{
+    match allowed_set(scenario, faults) {
+        None => no_set(alloc),
+        Some(set) => run_of_set(alloc, rules, scenario, &set),
+    }
+}
+
+/// The same for a set of faults.
+fn run_of_set(
+    alloc: Global,
+    rules: bool,
+    scenario: &Scenario,
+    set: &FaultSet,
+) -> Result<Reply<u8>, AllocError>
+    ensures { IfOk result (λ reply. (string_bytes reply.text ≡ told_trace rules scenario.now set.now)
+        × (reply.value ≡ run_status (reaches_in scenario.now set.now))) }
+{
+    if rules {
+        traced(alloc, scenario, set)
+    } else {
+        traced_alone(alloc, scenario, set)
     }
 }
 

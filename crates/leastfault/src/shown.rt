@@ -1,6 +1,6 @@
 //! The replies to runs, told as it is asked: by their trace or otherwise.
 
-ghost use Rattle.std.specs.Prelude.{◌≡◌, Some, true, string_bytes, IfOk};
+ghost use Rattle.std.specs.Prelude.{◌≡◌, Some, true, option_map, string_bytes, IfOk};
 ghost use Rattle.lf_changes.specs.Beside.{beside_by};
 ghost use Rattle.lf_changes.specs.Changes.{changes_by};
 ghost use Rattle.lf_sim.specs.Settings.{world_of};
@@ -9,12 +9,15 @@ ghost use Rattle.leastfault.specs.Answers.{reaches_in};
 ghost use Rattle.leastfault.specs.Known.{known_of};
 ghost use Rattle.leastfault.specs.Replies.{IsRunReply, tells_rules};
 ghost use Rattle.leastfault.specs.Reports.{run_status};
-ghost use Rattle.leastfault.specs.Shown.{IsBesideReply, IsShownReply, IsToldReply, RepliesBeside, RepliesBesides, Tells};
+ghost use Rattle.leastfault.specs.Shown.{IsBesideReply, IsDrawnReply, IsSeededReply, IsShownReply, IsToldReply, RepliesBeside, RepliesBesides, RepliesNamed};
+ghost use Rattle.leastfault.specs.Shown.{RepliesShown, Tells};
+ghost use Rattle.leastfault.specs.Delayed.{IsDelayedReply};
 
 use crate::answering::{allowed_set, no_set, refused, run_reply, run_status};
+use crate::delayed::read_given;
 use crate::known::read_known;
 use crate::reply::Reply;
-use crate::ruled::rules_reply;
+use crate::ruled::{rules_reply, run_of};
 use lf_changes::{beside, changes};
 use lf_drawing::picture;
 use lf_faults::FaultSet;
@@ -37,16 +40,82 @@ pub(crate) enum Told {
     Picture,
 }
 
-/// The reply of a run to a scenario's text and the words that name a set of faults, told as it is asked. The rules that nodes took are told where there
-/// is a protocol file that has some.
+/// The reply of a run to a scenario's text and the words that name a set of faults, told as it is asked: by the scenario's seed, or where
+/// notes arrive as words say. The rules that nodes took are told where there is a protocol file that has some.
 pub(crate) fn shown_reply(
+    alloc: Global,
+    known: Option<&ProtocolFile>,
+    shown: &Shown,
+    delays: Option<&str>,
+    text: &[u8],
+    faults: &str,
+) -> Result<Reply<u8>, AllocError>
+    ensures { IfOk result (λ reply. IsShownReply (known_of known.entry) shown.now (option_map (λ words. words.now) delays.entry) faults.now text.now
+        (string_bytes reply.text) reply.value) }
+{
+    match delays {
+        None => shown_by_seed(alloc, known, shown, text, faults),
+        Some(delays) => shown_by_delays(alloc, known, shown, delays, text, faults),
+    }
+}
+
+/// The same where notes arrive as the words say.
+fn shown_by_delays(
+    alloc: Global,
+    known: Option<&ProtocolFile>,
+    shown: &Shown,
+    delays: &str,
+    text: &[u8],
+    faults: &str,
+) -> Result<Reply<u8>, AllocError>
+    ensures { IfOk result (λ reply. IsDelayedReply (known_of known.entry) delays.now
+        (RepliesShown (tells_rules (known_of known.entry) true) shown.now faults.now) text.now (string_bytes reply.text) reply.value) }
+{
+    let read = read_given(alloc, known, text, delays)?;
+    match read {
+        Ok(scenario) => shown_of(alloc, has_rules(known), shown, &scenario, faults),
+        Err(reply) => Ok(reply),
+    }
+}
+
+/// Whether there is a protocol file that has rules.
+fn has_rules(known: Option<&ProtocolFile>) -> bool
+    ensures { result ≡ tells_rules (known_of known.entry) true }
+{
+    match known {
+        Some(_) => true,
+        None => false,
+    }
+}
+
+/// The reply of a run to a scenario and the words that name a set of faults, told as it is asked.
+fn shown_of(
+    alloc: Global,
+    rules: bool,
+    shown: &Shown,
+    scenario: &Scenario,
+    faults: &str,
+) -> Result<Reply<u8>, AllocError>
+    ensures { IfOk result (λ reply. RepliesShown rules shown.now faults.now scenario.now (string_bytes reply.text) reply.value) }
+{
+    match shown {
+        Shown::Whole => run_of(alloc, false, scenario, faults),
+        Shown::Rules => run_of(alloc, rules, scenario, faults),
+        Shown::Changes => told_named(alloc, Told::Changes, scenario, faults),
+        Shown::Json => told_named(alloc, Told::Json, scenario, faults),
+        Shown::Beside(other) => compared(alloc, scenario, faults, other.as_str()),
+    }
+}
+
+/// The same by the scenario's seed.
+fn shown_by_seed(
     alloc: Global,
     known: Option<&ProtocolFile>,
     shown: &Shown,
     text: &[u8],
     faults: &str,
 ) -> Result<Reply<u8>, AllocError>
-    ensures { IfOk result (λ reply. IsShownReply (known_of known.entry) shown.now faults.now text.now (string_bytes reply.text) reply.value) }
+    ensures { IfOk result (λ reply. IsSeededReply (known_of known.entry) shown.now faults.now text.now (string_bytes reply.text) reply.value) }
 {
     match shown {
         Shown::Whole => run_reply(alloc, known, text, faults),
@@ -73,8 +142,59 @@ fn with_rules(
     }
 }
 
+/// The reply to a scenario's text and the words that name a set of faults that draws the run: by the scenario's seed, or where notes arrive
+/// as words say.
+pub(crate) fn drawn_reply(
+    alloc: Global,
+    known: Option<&ProtocolFile>,
+    delays: Option<&str>,
+    text: &[u8],
+    faults: &str,
+) -> Result<Reply<u8>, AllocError>
+    ensures { IfOk result (λ reply. IsDrawnReply (known_of known.entry) (option_map (λ words. words.now) delays.entry) faults.now text.now
+        (string_bytes reply.text) reply.value) }
+{
+    match delays {
+        None => told_reply(alloc, known, Told::Picture, text, faults),
+        Some(delays) => drawn_by_delays(alloc, known, delays, text, faults),
+    }
+}
+
+/// The same where notes arrive as the words say.
+fn drawn_by_delays(
+    alloc: Global,
+    known: Option<&ProtocolFile>,
+    delays: &str,
+    text: &[u8],
+    faults: &str,
+) -> Result<Reply<u8>, AllocError>
+    ensures { IfOk result (λ reply. IsDelayedReply (known_of known.entry) delays.now (RepliesNamed Told.Picture faults.now) text.now
+        (string_bytes reply.text) reply.value) }
+{
+    let read = read_given(alloc, known, text, delays)?;
+    match read {
+        Ok(scenario) => told_named(alloc, Told::Picture, &scenario, faults),
+        Err(reply) => Ok(reply),
+    }
+}
+
+/// The reply to a scenario and the words that name a set of faults that tells this of the run.
+fn told_named(
+    alloc: Global,
+    told: Told,
+    scenario: &Scenario,
+    faults: &str,
+) -> Result<Reply<u8>, AllocError>
+    ensures { IfOk result (λ reply. RepliesNamed told faults.now scenario.now (string_bytes reply.text) reply.value) }
+{
+    match allowed_set(scenario, faults) {
+        Some(set) => told_of(alloc, scenario, told, &set),
+        None => no_set(alloc),
+    }
+}
+
 /// The reply to a scenario's text and the words that name a set of faults that tells this of the run.
-pub(crate) fn told_reply(
+fn told_reply(
     alloc: Global,
     known: Option<&ProtocolFile>,
     told: Told,

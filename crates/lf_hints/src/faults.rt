@@ -57,19 +57,22 @@ pub(crate) fn bar_of_numbers(spec: &FaultSpec, parts: Parts) -> Option<Words> {
             Some(Words::of("no note goes from a node to itself"))
         }
         Parts::Omit { from, to, step } => {
-            bar_of_point(spec, from.max(to), step).or(bar_of_omission(spec, step))
+            bar_of_point(spec.nodes(), spec.horizon(), from.max(to), step).or(bar_of_omission(
+                spec, step,
+            ))
         }
-        Parts::Crash { node, step } | Parts::Pause { node, step } => bar_of_point(spec, node, step),
+        Parts::Crash { node, step } | Parts::Pause { node, step } => {
+            bar_of_point(spec.nodes(), spec.horizon(), node, step)
+        }
     }
 }
 
-/// What bars a fault of a node at a step.
-fn bar_of_point(spec: &FaultSpec, node: u32, step: u32) -> Option<Words> {
-    let last = spec.nodes().saturating_sub(1);
+/// What bars a node at a step, among so many nodes and steps.
+pub(crate) fn bar_of_point(nodes: u32, horizon: u32, node: u32, step: u32) -> Option<Words> {
+    let last = nodes.saturating_sub(1);
     if node > last {
         return Some(Words::of(format_args!("the nodes are from 0 to {last}")));
     }
-    let horizon = spec.horizon();
     if step < 1 || horizon < step {
         return Some(Words::of(format_args!("the step is from 1 to {horizon}")));
     }

@@ -59,7 +59,7 @@ fn meant(word: &str) -> Option<Parts> {
 }
 
 /// The first number in a text, and what follows it. None where there is none, or one that is too large.
-fn first_number(text: &str) -> Option<(u32, &str)> {
+pub(crate) fn first_number(text: &str) -> Option<(u32, &str)> {
     let digits = text.trim_start_matches(is_no_digit);
     let rest = digits.trim_start_matches(is_digit);
     match digits.strip_suffix(rest)?.parse::<u32>() {

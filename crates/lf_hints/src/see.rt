@@ -1,6 +1,7 @@
 //! How to see what a set of faults does that was found.
 
 use crate::hint::{Hint, LONGEST_STEP, Words};
+use std::alloc::{AllocError, Global};
 
 /// The longest file name that is told, in bytes.
 const LONGEST_FILE: usize = 300;
@@ -33,6 +34,51 @@ pub(crate) fn run_command(file: &str, protocol: Option<&str>, reply: &[u8]) -> O
     } else {
         Some(shown("the first", file, faults, option))
     }
+}
+
+/// The command that shows the set of faults that the reply of an answer over every delay tells, and its late notes, for files as those of
+/// `run_command`. Every other note takes its least delay, so `--delays` stands there also where none is late. Empty where the reply tells
+/// of no set. The error, also below, is that memory has run out.
+pub(crate) fn late_run_command(
+    alloc: Global,
+    file: &str,
+    protocol: Option<&str>,
+    reply: &[u8],
+) -> Result<String, AllocError> {
+    let text = std::str::from_utf8(reply).unwrap_or("");
+    let (line, rest) = text.split_once('\n').unwrap_or((text, ""));
+    if !line.starts_with("least ") {
+        return Ok(String::new(alloc));
+    }
+    let (faults, delays) = told_apart(alloc, rest)?;
+    let mut command = format!(in alloc;
+        "to see it: leastfault run {file} '{faults}' --delays '{delays}'"
+    )?;
+    if let Some(protocol) = protocol {
+        write!(&mut command, " --protocol {protocol}")?;
+    }
+    Ok(command)
+}
+
+/// The faults that lines tell, and the late notes, each with commas between them.
+fn told_apart(alloc: Global, lines: &str) -> Result<(String, String), AllocError> {
+    let mut faults = String::new(alloc);
+    let mut delays = String::new(alloc);
+    for line in lines.lines() {
+        match line.strip_prefix("arrive ") {
+            Some(delay) => put(&mut delays, delay)?,
+            None => put(&mut faults, line)?,
+        }
+    }
+    Ok((faults, delays))
+}
+
+/// Adds a word to a list that commas join.
+fn put(list: &mut String, word: &str) -> Result<(), AllocError> {
+    if !list.is_empty() {
+        list.push(',')?;
+    }
+    list.push_str(word)
 }
 
 /// The command that runs a scenario under some faults.

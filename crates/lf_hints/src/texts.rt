@@ -1,13 +1,15 @@
 //! What is wrong with the texts that an engine was given.
 
+use crate::delays::delays_hint as delays_hint_of;
 use crate::faults::faults_hint;
 use crate::full::{Wanted, full_hint};
 use crate::hint::told;
 use crate::scenario::scenario_hint;
-use crate::see::run_command;
+use crate::see::{late_run_command, run_command};
+use crate::takes::at;
 use crate::tree::tree_hint;
 use crate::verdict::verdict_hint as hint_of;
-use lf_scenario::{Scenario, ScenarioError, read};
+use lf_scenario::{Key, Scenario, ScenarioError, read};
 use lf_tree::{TreeFault, read_tree};
 use std::alloc::{AllocError, Global};
 
@@ -58,6 +60,19 @@ pub fn set_hint(alloc: Global, scenario: &Scenario, faults: &str) -> Result<Stri
     told(alloc, faults_hint(&scenario.setting().spec, faults))
 }
 
+/// What is wrong with the text of a scenario, or else with the words for the arrivals of late notes.
+pub fn late_hint(alloc: Global, text: &[u8], delays: &str) -> Result<String, AllocError> {
+    match read(alloc, text) {
+        Ok(scenario) => delays_hint(alloc, &scenario, delays),
+        Err(error) => scenario_hint(alloc, text, error),
+    }
+}
+
+/// What is wrong with the words for the arrivals of late notes of a scenario.
+pub fn delays_hint(alloc: Global, scenario: &Scenario, delays: &str) -> Result<String, AllocError> {
+    told(alloc, delays_hint_of(&scenario.setting().network, delays))
+}
+
 /// What is wrong with the text of a scenario, or else with that of a certificate.
 pub fn check_hint(alloc: Global, text: &[u8], certificate: &[u8]) -> Result<String, AllocError> {
     match read(alloc, text) {
@@ -105,6 +120,26 @@ pub fn see_hint(
     reply: &[u8],
 ) -> Result<String, AllocError> {
     told(alloc, run_command(file, protocol, reply))
+}
+
+/// The same of the reply of an answer over every delay, whose lines of late notes the command has behind `--delays`.
+pub fn see_late_hint(
+    alloc: Global,
+    file: &str,
+    protocol: Option<&str>,
+    reply: &[u8],
+) -> Result<String, AllocError> {
+    late_run_command(alloc, file, protocol, reply)
+}
+
+/// That the seed of a scenario plays no part in an answer over every delay, where its text has one.
+pub fn seed_note(alloc: Global, text: &[u8]) -> Result<String, AllocError> {
+    match toml::table_from_slice(alloc, text) {
+        Ok(table) if at(&table, Key::Seed.name()).is_some() => {
+            String::from_str(alloc, "seed: it plays no part over every delay")
+        }
+        _ => Ok(String::new(alloc)),
+    }
 }
 
 /// What is wrong with the text of a certificate.

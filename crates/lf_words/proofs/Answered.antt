@@ -83,10 +83,10 @@ named_range (Some text) n is = is.2
 asked_range : (words : List Text) (o : Option (Text × List Row)) (a : Asked) → IsAskedIn words o a → IsWorkers (workers_of a)
 asked_range words None a h = elim h [ ]
 asked_range words (Some p) (asked.Search file tree all workers quiet protocol) h = named_range (first_of (codes "workers") p.1) workers h.0.4
-asked_range words (Some p) (asked.Run file faults shown protocol) h = (omega arith, omega arith)
-asked_range words (Some p) (asked.Draw file faults protocol) h = (omega arith, omega arith)
+asked_range words (Some p) (asked.Run file faults shown delays protocol) h = (omega arith, omega arith)
+asked_range words (Some p) (asked.Draw file faults delays protocol) h = (omega arith, omega arith)
 asked_range words (Some p) (asked.Check file tree quiet protocol) h = (omega arith, omega arith)
-asked_range words (Some p) (asked.Answer file quiet protocol) h = (omega arith, omega arith)
+asked_range words (Some p) (asked.Answer file quiet every_delay protocol) h = (omega arith, omega arith)
 asked_range words (Some p) (asked.Why file quiet protocol) h = (omega arith, omega arith)
 asked_range words (Some p) (asked.Protocol file) h = (omega arith, omega arith)
 

@@ -52,16 +52,16 @@ search_is words (Some p) file tree all workers quiet (asked.Search own own_tree 
       apart = refl;
       named = subst (λ o. AreNamed o own_workers) (ap (λ (q : Search). q.4) found) asked.0.4;
     }
-search_is words (Some p) file tree all workers quiet (asked.Run own faults shown protocol) names asked =
+search_is words (Some p) file tree all workers quiet (asked.Run own faults shown delays protocol) names asked =
     let found : named_search p ≡ (codes "search", Some file, tree, all, workers, quiet, None) = some_is _ _ names in
     absurd (run_or_search p.0 asked.0.0 (ap (λ (q : Search). q.0) found))
-search_is words (Some p) file tree all workers quiet (asked.Draw own faults protocol) names asked =
+search_is words (Some p) file tree all workers quiet (asked.Draw own faults delays protocol) names asked =
     let found : named_search p ≡ (codes "search", Some file, tree, all, workers, quiet, None) = some_is _ _ names in
     absurd (draw_or_search p.0 asked.0.0 (ap (λ (q : Search). q.0) found))
 search_is words (Some p) file tree all workers quiet (asked.Check own own_tree own_quiet own_protocol) names asked =
     let found : named_search p ≡ (codes "search", Some file, tree, all, workers, quiet, None) = some_is _ _ names in
     absurd (check_or_search p.0 asked.0.0 (ap (λ (q : Search). q.0) found))
-search_is words (Some p) file tree all workers quiet (asked.Answer own own_quiet own_protocol) names asked =
+search_is words (Some p) file tree all workers quiet (asked.Answer own own_quiet every_delay own_protocol) names asked =
     let found : named_search p ≡ (codes "search", Some file, tree, all, workers, quiet, None) = some_is _ _ names in
     absurd (answer_or_search p.0 asked.0.0 (ap (λ (q : Search). q.0) found))
 search_is words (Some p) file tree all workers quiet (asked.Why own own_quiet own_protocol) names asked =

@@ -44,13 +44,17 @@ is_taken (x ∷ y ∷ rest) plain = taken_other x (y ∷ rest) (not-true (x == 4
 abbrev named_known : Text × List Row → Option Text
 named_known p = first_of (codes "protocol") p.1
 
--- a run's name, its file, its faults, its flags, and the file of a protocol
-abbrev pub named_run : Text × List Row → Text × Option Text × Option Text × Flags × Option Text
-named_run p = (p.0, first_of (codes "file") p.1, first_of (codes "faults") p.1, shown_flags p.1, named_known p)
+-- the arrivals of late notes
+abbrev named_delays : Text × List Row → Option Text
+named_delays p = first_of (codes "delays") p.1
 
--- a command's name, its file, its faults, and the file of a protocol
-abbrev pub named_draw : Text × List Row → Text × Option Text × Option Text × Option Text
-named_draw p = (p.0, first_of (codes "file") p.1, first_of (codes "faults") p.1, named_known p)
+-- a run's name, its file, its faults, its flags, its delays, and the file of a protocol
+abbrev pub named_run : Text × List Row → Text × Option Text × Option Text × Flags × Option Text × Option Text
+named_run p = (p.0, first_of (codes "file") p.1, first_of (codes "faults") p.1, shown_flags p.1, named_delays p, named_known p)
+
+-- a command's name, its file, its faults, its delays, and the file of a protocol
+abbrev pub named_draw : Text × List Row → Text × Option Text × Option Text × Option Text × Option Text
+named_draw p = (p.0, first_of (codes "file") p.1, first_of (codes "faults") p.1, named_delays p, named_known p)
 
 -- whether nothing is to be told on the way
 abbrev named_quiet : Text × List Row → Bool
@@ -63,6 +67,10 @@ named_alone p = (p.0, first_of (codes "file") p.1)
 -- a command's name, its file, its flag, and the file of a protocol
 abbrev pub named_one : Text × List Row → Text × Option Text × Bool × Option Text
 named_one p = (p.0, first_of (codes "file") p.1, named_quiet p, named_known p)
+
+-- the same of an answer, with the flag for every delay
+abbrev pub named_answer : Text × List Row → Text × Option Text × Bool × Bool × Option Text
+named_answer p = (p.0, first_of (codes "file") p.1, named_quiet p, is_set (first_of (codes "every-delay") p.1), named_known p)
 
 -- the same of a check, with its tree
 abbrev pub named_check : Text × List Row → Text × Option Text × Option Text × Bool × Option Text
@@ -117,7 +125,7 @@ unfolding clap_on_literals
 run_fault file faults taken taken_too = rw (taken.no_end, taken.no_long, taken.no_short, taken_too.no_end, taken_too.no_long, taken_too.no_short) refl
 
 pub run_names : (file faults : Text) → IsTaken file → IsTaken faults
-    → option_map named_run (subcommand_of program (codes "run" ∷ file ∷ faults ∷ [])) ≡ Some (codes "run", Some file, Some faults, (false, false, false, None), None)
+    → option_map named_run (subcommand_of program (codes "run" ∷ file ∷ faults ∷ [])) ≡ Some (codes "run", Some file, Some faults, (false, false, false, None), None, None)
 unfolding clap_on_literals
 run_names file faults taken taken_too = rw (taken.no_end, taken.no_long, taken.no_short, taken_too.no_end, taken_too.no_long, taken_too.no_short) refl
 
@@ -126,7 +134,7 @@ unfolding clap_on_literals
 draw_fault file faults taken taken_too = rw (taken.no_end, taken.no_long, taken.no_short, taken_too.no_end, taken_too.no_long, taken_too.no_short) refl
 
 pub draw_names : (file faults : Text) → IsTaken file → IsTaken faults
-    → option_map named_draw (subcommand_of program (codes "draw" ∷ file ∷ faults ∷ [])) ≡ Some (codes "draw", Some file, Some faults, None)
+    → option_map named_draw (subcommand_of program (codes "draw" ∷ file ∷ faults ∷ [])) ≡ Some (codes "draw", Some file, Some faults, None, None)
 unfolding clap_on_literals
 draw_names file faults taken taken_too = rw (taken.no_end, taken.no_long, taken.no_short, taken_too.no_end, taken_too.no_long, taken_too.no_short) refl
 
@@ -145,7 +153,7 @@ unfolding clap_on_literals
 answer_fault file taken = rw (taken.no_end, taken.no_long, taken.no_short) refl
 
 pub answer_names : (file : Text) → IsTaken file
-    → option_map named_one (subcommand_of program (codes "answer" ∷ file ∷ [])) ≡ Some (codes "answer", Some file, false, None)
+    → option_map named_answer (subcommand_of program (codes "answer" ∷ file ∷ [])) ≡ Some (codes "answer", Some file, false, false, None)
 unfolding clap_on_literals
 answer_names file taken = rw (taken.no_end, taken.no_long, taken.no_short) refl
 

@@ -20,19 +20,22 @@ use Rattle.lf_words.specs.declared.types.Shown.{Shown}
 use Rattle.lf_words.specs.declared.types.Shown.TheVariants as shown
 use Rattle.lf_words.specs.declared.unasked.Unasked.{Unasked}
 use Rattle.lf_words.specs.declared.unasked.Unasked.TheVariants as unasked
-use Rattle.lf_words.proofs.Plain.{IsTaken, is_taken, named_alone, named_check, named_draw, named_one, named_run, named_search}
+use Rattle.lf_words.proofs.Plain.{IsTaken, is_taken, named_alone, named_answer, named_check, named_draw, named_one, named_run, named_search}
 use Rattle.lf_words.proofs.Plain.{answer_fault, answer_names, check_fault, check_names, draw_fault, draw_names, run_fault, run_names, search_fault, search_names}
 use Rattle.lf_words.proofs.Plain.{help_fault, protocol_fault, protocol_names, short_help_fault, short_version_fault, unknown_fault, version_fault, why_fault, why_names}
 use Rattle.lf_words.proofs.Reading.{apart, no_truth}
 
 abbrev Run : Type 0
-Run = Text × Option Text × Option Text × Flags × Option Text
+Run = Text × Option Text × Option Text × Flags × Option Text × Option Text
 
 abbrev Draw : Type 0
-Draw = Text × Option Text × Option Text × Option Text
+Draw = Text × Option Text × Option Text × Option Text × Option Text
 
 abbrev Check : Type 0
 Check = Text × Option Text × Option Text × Bool × Option Text
+
+abbrev Answer : Type 0
+Answer = Text × Option Text × Bool × Bool × Option Text
 
 abbrev One : Type 0
 One = Text × Option Text × Bool × Option Text
@@ -143,17 +146,19 @@ search_of words (Some p) file (asked.Search own tree all workers quiet protocol)
       told = sym asked.0.5 ∙ ap (λ (q : Search). q.5) found;
       shipped = sym asked.0.6 ∙ ap (λ (q : Search). q.6) found;
       short = refl;
+      undelayed = refl;
+      drawn = refl;
     }
-search_of words (Some p) file (asked.Run own faults shown protocol) names asked =
+search_of words (Some p) file (asked.Run own faults shown delays protocol) names asked =
     let found : named_search p ≡ (codes "search", Some file, None, false, None, false, None) = some_is _ _ names in
     absurd (run_or_search p.0 asked.0.0 (ap (λ (q : Search). q.0) found))
-search_of words (Some p) file (asked.Draw own drawn_faults protocol) names asked =
+search_of words (Some p) file (asked.Draw own drawn_faults delays protocol) names asked =
     let found : named_search p ≡ (codes "search", Some file, None, false, None, false, None) = some_is _ _ names in
     absurd (draw_or_search p.0 asked.0.0 (ap (λ (q : Search). q.0) found))
 search_of words (Some p) file (asked.Check own tree quiet protocol) names asked =
     let found : named_search p ≡ (codes "search", Some file, None, false, None, false, None) = some_is _ _ names in
     absurd (check_or_search p.0 asked.0.0 (ap (λ (q : Search). q.0) found))
-search_of words (Some p) file (asked.Answer own quiet protocol) names asked =
+search_of words (Some p) file (asked.Answer own quiet every_delay protocol) names asked =
     let found : named_search p ≡ (codes "search", Some file, None, false, None, false, None) = some_is _ _ names in
     absurd (answer_or_search p.0 asked.0.0 (ap (λ (q : Search). q.0) found))
 search_of words (Some p) file (asked.Why own quiet protocol) names asked =
@@ -190,14 +195,14 @@ whole_is shown.Json is = absurd (no_truth (sym (ap (λ (q : Flags). q.2) is)))
 whole_is (shown.Beside other) is = absurd (no_thing _ (sym (ap (λ (q : Flags). q.3) is)))
 
 run_of : (words : List Text) (o : Option (Text × List Row)) (file faults : Text) (a : Asked)
-    → option_map named_run o ≡ Some (codes "run", Some file, Some faults, (false, false, false, None), None)
+    → option_map named_run o ≡ Some (codes "run", Some file, Some faults, (false, false, false, None), None, None)
     → IsAskedIn words o a → IsPlainly (codes "run" ∷ file ∷ faults ∷ []) a
 run_of words None file faults a names asked = elim asked [ ]
 run_of words (Some p) file faults (asked.Search own tree all workers quiet protocol) names asked =
-    let pair : named_run p ≡ (codes "run", Some file, Some faults, (false, false, false, None), None) = some_is _ _ names in
+    let pair : named_run p ≡ (codes "run", Some file, Some faults, (false, false, false, None), None, None) = some_is _ _ names in
     absurd (run_or_search p.0 (ap (λ (q : Run). q.0) pair) asked.0.0)
-run_of words (Some p) file faults (asked.Run own own_faults shown protocol) names asked =
-    let pair : named_run p ≡ (codes "run", Some file, Some faults, (false, false, false, None), None) = some_is _ _ names in
+run_of words (Some p) file faults (asked.Run own own_faults shown delays protocol) names asked =
+    let pair : named_run p ≡ (codes "run", Some file, Some faults, (false, false, false, None), None, None) = some_is _ _ names in
     let same : own.bytes.items ≡ file = some_is _ _ (sym asked.0.1 ∙ ap (λ (q : Run). q.1) pair) in
     let same_too : own_faults.bytes.items ≡ faults = some_is _ _ (sym asked.0.2 ∙ ap (λ (q : Run). q.2) pair) in
     record {
@@ -206,53 +211,56 @@ run_of words (Some p) file faults (asked.Run own own_faults shown protocol) name
       one = refl;
       alone = refl;
       told = refl;
-      shipped = sym asked.0.4 ∙ ap (λ (q : Run). q.4) pair;
+      shipped = sym asked.0.5 ∙ ap (λ (q : Run). q.5) pair;
       short = whole_is shown (sym asked.0.3 ∙ ap (λ (q : Run). q.3) pair);
+      undelayed = sym asked.0.4 ∙ ap (λ (q : Run). q.4) pair;
+      drawn = refl;
     }
-run_of words (Some p) file faults (asked.Draw own drawn_faults protocol) names asked =
-    let pair : named_run p ≡ (codes "run", Some file, Some faults, (false, false, false, None), None) = some_is _ _ names in
+run_of words (Some p) file faults (asked.Draw own drawn_faults delays protocol) names asked =
+    let pair : named_run p ≡ (codes "run", Some file, Some faults, (false, false, false, None), None, None) = some_is _ _ names in
     absurd (draw_or_run p.0 asked.0.0 (ap (λ (q : Run). q.0) pair))
 run_of words (Some p) file faults (asked.Check own tree quiet protocol) names asked =
-    let pair : named_run p ≡ (codes "run", Some file, Some faults, (false, false, false, None), None) = some_is _ _ names in
+    let pair : named_run p ≡ (codes "run", Some file, Some faults, (false, false, false, None), None, None) = some_is _ _ names in
     absurd (check_or_run p.0 asked.0.0 (ap (λ (q : Run). q.0) pair))
-run_of words (Some p) file faults (asked.Answer own quiet protocol) names asked =
-    let pair : named_run p ≡ (codes "run", Some file, Some faults, (false, false, false, None), None) = some_is _ _ names in
+run_of words (Some p) file faults (asked.Answer own quiet every_delay protocol) names asked =
+    let pair : named_run p ≡ (codes "run", Some file, Some faults, (false, false, false, None), None, None) = some_is _ _ names in
     absurd (answer_or_run p.0 asked.0.0 (ap (λ (q : Run). q.0) pair))
 run_of words (Some p) file faults (asked.Why own quiet protocol) names asked =
-    let pair : named_run p ≡ (codes "run", Some file, Some faults, (false, false, false, None), None) = some_is _ _ names in
+    let pair : named_run p ≡ (codes "run", Some file, Some faults, (false, false, false, None), None, None) = some_is _ _ names in
     absurd (why_or_run p.0 asked.0.0 (ap (λ (q : Run). q.0) pair))
 run_of words (Some p) file faults (asked.Protocol own) names asked =
-    let pair : named_run p ≡ (codes "run", Some file, Some faults, (false, false, false, None), None) = some_is _ _ names in
+    let pair : named_run p ≡ (codes "run", Some file, Some faults, (false, false, false, None), None, None) = some_is _ _ names in
     absurd (protocol_or_run p.0 asked.0.0 (ap (λ (q : Run). q.0) pair))
 
 asks_run : (words : List Text) (o : Option (Text × List Row)) (file faults : String Global)
-    → option_map named_run o ≡ Some (codes "run", Some (string_bytes file), Some (string_bytes faults), (false, false, false, None), None)
-    → words ≡ codes "run" ∷ string_bytes file ∷ string_bytes faults ∷ [] → IsAskedIn words o (asked.Run file faults shown.Whole None)
+    → option_map named_run o ≡ Some (codes "run", Some (string_bytes file), Some (string_bytes faults), (false, false, false, None), None, None)
+    → words ≡ codes "run" ∷ string_bytes file ∷ string_bytes faults ∷ [] → IsAskedIn words o (asked.Run file faults shown.Whole None None)
 asks_run words None file faults names is = absurd (no_thing _ names)
 asks_run words (Some p) file faults names is =
-    let pair : named_run p ≡ (codes "run", Some (string_bytes file), Some (string_bytes faults), (false, false, false, None), None) = some_is _ _ names in (
+    let pair : named_run p ≡ (codes "run", Some (string_bytes file), Some (string_bytes faults), (false, false, false, None), None, None) = some_is _ _ names in (
       (
         ap (λ (q : Run). q.0) pair,
         ap (λ (q : Run). q.1) pair,
         ap (λ (q : Run). q.2) pair,
         ap (λ (q : Run). q.3) pair,
         ap (λ (q : Run). q.4) pair,
+        ap (λ (q : Run). q.5) pair,
       ),
       rw (is) (inl (refl, inl (refl, inl (refl, tt)))),
     )
 
 draw_of : (words : List Text) (o : Option (Text × List Row)) (file faults : Text) (a : Asked)
-    → option_map named_draw o ≡ Some (codes "draw", Some file, Some faults, None)
+    → option_map named_draw o ≡ Some (codes "draw", Some file, Some faults, None, None)
     → IsAskedIn words o a → IsPlainly (codes "draw" ∷ file ∷ faults ∷ []) a
 draw_of words None file faults a names asked = elim asked [ ]
 draw_of words (Some p) file faults (asked.Search own tree all workers quiet protocol) names asked =
-    let pair : named_draw p ≡ (codes "draw", Some file, Some faults, None) = some_is _ _ names in
+    let pair : named_draw p ≡ (codes "draw", Some file, Some faults, None, None) = some_is _ _ names in
     absurd (draw_or_search p.0 (ap (λ (q : Draw). q.0) pair) asked.0.0)
-draw_of words (Some p) file faults (asked.Run own own_faults shown protocol) names asked =
-    let pair : named_draw p ≡ (codes "draw", Some file, Some faults, None) = some_is _ _ names in
+draw_of words (Some p) file faults (asked.Run own own_faults shown delays protocol) names asked =
+    let pair : named_draw p ≡ (codes "draw", Some file, Some faults, None, None) = some_is _ _ names in
     absurd (draw_or_run p.0 (ap (λ (q : Draw). q.0) pair) asked.0.0)
-draw_of words (Some p) file faults (asked.Draw own own_faults protocol) names asked =
-    let pair : named_draw p ≡ (codes "draw", Some file, Some faults, None) = some_is _ _ names in
+draw_of words (Some p) file faults (asked.Draw own own_faults delays protocol) names asked =
+    let pair : named_draw p ≡ (codes "draw", Some file, Some faults, None, None) = some_is _ _ names in
     let same : own.bytes.items ≡ file = some_is _ _ (sym asked.0.1 ∙ ap (λ (q : Draw). q.1) pair) in
     let same_too : own_faults.bytes.items ≡ faults = some_is _ _ (sym asked.0.2 ∙ ap (λ (q : Draw). q.2) pair) in
     record {
@@ -261,29 +269,37 @@ draw_of words (Some p) file faults (asked.Draw own own_faults protocol) names as
       one = refl;
       alone = refl;
       told = refl;
-      shipped = sym asked.0.3 ∙ ap (λ (q : Draw). q.3) pair;
+      shipped = sym asked.0.4 ∙ ap (λ (q : Draw). q.4) pair;
       short = refl;
+      undelayed = sym asked.0.3 ∙ ap (λ (q : Draw). q.3) pair;
+      drawn = refl;
     }
 draw_of words (Some p) file faults (asked.Check own tree quiet protocol) names asked =
-    let pair : named_draw p ≡ (codes "draw", Some file, Some faults, None) = some_is _ _ names in
+    let pair : named_draw p ≡ (codes "draw", Some file, Some faults, None, None) = some_is _ _ names in
     absurd (check_or_draw p.0 asked.0.0 (ap (λ (q : Draw). q.0) pair))
-draw_of words (Some p) file faults (asked.Answer own quiet protocol) names asked =
-    let pair : named_draw p ≡ (codes "draw", Some file, Some faults, None) = some_is _ _ names in
+draw_of words (Some p) file faults (asked.Answer own quiet every_delay protocol) names asked =
+    let pair : named_draw p ≡ (codes "draw", Some file, Some faults, None, None) = some_is _ _ names in
     absurd (answer_or_draw p.0 asked.0.0 (ap (λ (q : Draw). q.0) pair))
 draw_of words (Some p) file faults (asked.Why own quiet protocol) names asked =
-    let pair : named_draw p ≡ (codes "draw", Some file, Some faults, None) = some_is _ _ names in
+    let pair : named_draw p ≡ (codes "draw", Some file, Some faults, None, None) = some_is _ _ names in
     absurd (why_or_draw p.0 asked.0.0 (ap (λ (q : Draw). q.0) pair))
 draw_of words (Some p) file faults (asked.Protocol own) names asked =
-    let pair : named_draw p ≡ (codes "draw", Some file, Some faults, None) = some_is _ _ names in
+    let pair : named_draw p ≡ (codes "draw", Some file, Some faults, None, None) = some_is _ _ names in
     absurd (protocol_or_draw p.0 asked.0.0 (ap (λ (q : Draw). q.0) pair))
 
 asks_draw : (words : List Text) (o : Option (Text × List Row)) (file faults : String Global)
-    → option_map named_draw o ≡ Some (codes "draw", Some (string_bytes file), Some (string_bytes faults), None)
-    → words ≡ codes "draw" ∷ string_bytes file ∷ string_bytes faults ∷ [] → IsAskedIn words o (asked.Draw file faults None)
+    → option_map named_draw o ≡ Some (codes "draw", Some (string_bytes file), Some (string_bytes faults), None, None)
+    → words ≡ codes "draw" ∷ string_bytes file ∷ string_bytes faults ∷ [] → IsAskedIn words o (asked.Draw file faults None None)
 asks_draw words None file faults names is = absurd (no_thing _ names)
 asks_draw words (Some p) file faults names is =
-    let pair : named_draw p ≡ (codes "draw", Some (string_bytes file), Some (string_bytes faults), None) = some_is _ _ names in (
-      (ap (λ (q : Draw). q.0) pair, ap (λ (q : Draw). q.1) pair, ap (λ (q : Draw). q.2) pair, ap (λ (q : Draw). q.3) pair),
+    let pair : named_draw p ≡ (codes "draw", Some (string_bytes file), Some (string_bytes faults), None, None) = some_is _ _ names in (
+      (
+        ap (λ (q : Draw). q.0) pair,
+        ap (λ (q : Draw). q.1) pair,
+        ap (λ (q : Draw). q.2) pair,
+        ap (λ (q : Draw). q.3) pair,
+        ap (λ (q : Draw). q.4) pair,
+      ),
       rw (is) (inl (refl, inl (refl, inl (refl, tt)))),
     )
 
@@ -294,10 +310,10 @@ check_of words None file tree a names asked = elim asked [ ]
 check_of words (Some p) file tree (asked.Search own written all workers quiet protocol) names asked =
     let pair : named_check p ≡ (codes "check", Some file, Some tree, false, None) = some_is _ _ names in
     absurd (check_or_search p.0 (ap (λ (q : Check). q.0) pair) asked.0.0)
-check_of words (Some p) file tree (asked.Run own faults shown protocol) names asked =
+check_of words (Some p) file tree (asked.Run own faults shown delays protocol) names asked =
     let pair : named_check p ≡ (codes "check", Some file, Some tree, false, None) = some_is _ _ names in
     absurd (check_or_run p.0 (ap (λ (q : Check). q.0) pair) asked.0.0)
-check_of words (Some p) file tree (asked.Draw own drawn_faults protocol) names asked =
+check_of words (Some p) file tree (asked.Draw own drawn_faults delays protocol) names asked =
     let pair : named_check p ≡ (codes "check", Some file, Some tree, false, None) = some_is _ _ names in
     absurd (check_or_draw p.0 (ap (λ (q : Check). q.0) pair) asked.0.0)
 check_of words (Some p) file tree (asked.Check own own_tree quiet protocol) names asked =
@@ -312,8 +328,10 @@ check_of words (Some p) file tree (asked.Check own own_tree quiet protocol) name
       told = sym asked.0.3 ∙ ap (λ (q : Check). q.3) pair;
       shipped = sym asked.0.4 ∙ ap (λ (q : Check). q.4) pair;
       short = refl;
+      undelayed = refl;
+      drawn = refl;
     }
-check_of words (Some p) file tree (asked.Answer own quiet protocol) names asked =
+check_of words (Some p) file tree (asked.Answer own quiet every_delay protocol) names asked =
     let pair : named_check p ≡ (codes "check", Some file, Some tree, false, None) = some_is _ _ names in
     absurd (answer_or_check p.0 asked.0.0 (ap (λ (q : Check). q.0) pair))
 check_of words (Some p) file tree (asked.Why own quiet protocol) names asked =
@@ -340,46 +358,54 @@ asks_check words (Some p) file tree names is =
     )
 
 answer_of : (words : List Text) (o : Option (Text × List Row)) (file : Text) (a : Asked)
-    → option_map named_one o ≡ Some (codes "answer", Some file, false, None) → IsAskedIn words o a → IsPlainly (codes "answer" ∷ file ∷ []) a
+    → option_map named_answer o ≡ Some (codes "answer", Some file, false, false, None) → IsAskedIn words o a → IsPlainly (codes "answer" ∷ file ∷ []) a
 answer_of words None file a names asked = elim asked [ ]
 answer_of words (Some p) file (asked.Search own tree all workers quiet protocol) names asked =
-    let found : named_one p ≡ (codes "answer", Some file, false, None) = some_is _ _ names in
-    absurd (answer_or_search p.0 (ap (λ (q : One). q.0) found) asked.0.0)
-answer_of words (Some p) file (asked.Run own faults shown protocol) names asked =
-    let found : named_one p ≡ (codes "answer", Some file, false, None) = some_is _ _ names in
-    absurd (answer_or_run p.0 (ap (λ (q : One). q.0) found) asked.0.0)
-answer_of words (Some p) file (asked.Draw own drawn_faults protocol) names asked =
-    let found : named_one p ≡ (codes "answer", Some file, false, None) = some_is _ _ names in
-    absurd (answer_or_draw p.0 (ap (λ (q : One). q.0) found) asked.0.0)
+    let found : named_answer p ≡ (codes "answer", Some file, false, false, None) = some_is _ _ names in
+    absurd (answer_or_search p.0 (ap (λ (q : Answer). q.0) found) asked.0.0)
+answer_of words (Some p) file (asked.Run own faults shown delays protocol) names asked =
+    let found : named_answer p ≡ (codes "answer", Some file, false, false, None) = some_is _ _ names in
+    absurd (answer_or_run p.0 (ap (λ (q : Answer). q.0) found) asked.0.0)
+answer_of words (Some p) file (asked.Draw own drawn_faults delays protocol) names asked =
+    let found : named_answer p ≡ (codes "answer", Some file, false, false, None) = some_is _ _ names in
+    absurd (answer_or_draw p.0 (ap (λ (q : Answer). q.0) found) asked.0.0)
 answer_of words (Some p) file (asked.Check own tree quiet protocol) names asked =
-    let found : named_one p ≡ (codes "answer", Some file, false, None) = some_is _ _ names in
-    absurd (answer_or_check p.0 (ap (λ (q : One). q.0) found) asked.0.0)
-answer_of words (Some p) file (asked.Answer own quiet protocol) names asked =
-    let found : named_one p ≡ (codes "answer", Some file, false, None) = some_is _ _ names in
-    let same : own.bytes.items ≡ file = some_is _ _ (sym asked.0.1 ∙ ap (λ (q : One). q.1) found) in
+    let found : named_answer p ≡ (codes "answer", Some file, false, false, None) = some_is _ _ names in
+    absurd (answer_or_check p.0 (ap (λ (q : Answer). q.0) found) asked.0.0)
+answer_of words (Some p) file (asked.Answer own quiet every_delay protocol) names asked =
+    let found : named_answer p ≡ (codes "answer", Some file, false, false, None) = some_is _ _ names in
+    let same : own.bytes.items ≡ file = some_is _ _ (sym asked.0.1 ∙ ap (λ (q : Answer). q.1) found) in
     record {
       texts = rw (same) refl;
       unwritten = refl;
       one = refl;
       alone = refl;
-      told = sym asked.0.2 ∙ ap (λ (q : One). q.2) found;
-      shipped = sym asked.0.3 ∙ ap (λ (q : One). q.3) found;
+      told = sym asked.0.2 ∙ ap (λ (q : Answer). q.2) found;
+      shipped = sym asked.0.4 ∙ ap (λ (q : Answer). q.4) found;
       short = refl;
+      undelayed = refl;
+      drawn = sym asked.0.3 ∙ ap (λ (q : Answer). q.3) found;
     }
 answer_of words (Some p) file (asked.Why own quiet protocol) names asked =
-    let found : named_one p ≡ (codes "answer", Some file, false, None) = some_is _ _ names in
-    absurd (why_or_answer p.0 asked.0.0 (ap (λ (q : One). q.0) found))
+    let found : named_answer p ≡ (codes "answer", Some file, false, false, None) = some_is _ _ names in
+    absurd (why_or_answer p.0 asked.0.0 (ap (λ (q : Answer). q.0) found))
 answer_of words (Some p) file (asked.Protocol own) names asked =
-    let found : named_one p ≡ (codes "answer", Some file, false, None) = some_is _ _ names in
-    absurd (protocol_or_answer p.0 asked.0.0 (ap (λ (q : One). q.0) found))
+    let found : named_answer p ≡ (codes "answer", Some file, false, false, None) = some_is _ _ names in
+    absurd (protocol_or_answer p.0 asked.0.0 (ap (λ (q : Answer). q.0) found))
 
 asks_answer : (words : List Text) (o : Option (Text × List Row)) (file : String Global)
-    → option_map named_one o ≡ Some (codes "answer", Some (string_bytes file), false, None)
-    → words ≡ codes "answer" ∷ string_bytes file ∷ [] → IsAskedIn words o (asked.Answer file false None)
+    → option_map named_answer o ≡ Some (codes "answer", Some (string_bytes file), false, false, None)
+    → words ≡ codes "answer" ∷ string_bytes file ∷ [] → IsAskedIn words o (asked.Answer file false false None)
 asks_answer words None file names is = absurd (no_thing _ names)
 asks_answer words (Some p) file names is =
-    let found : named_one p ≡ (codes "answer", Some (string_bytes file), false, None) = some_is _ _ names in (
-      (ap (λ (q : One). q.0) found, ap (λ (q : One). q.1) found, ap (λ (q : One). q.2) found, ap (λ (q : One). q.3) found),
+    let found : named_answer p ≡ (codes "answer", Some (string_bytes file), false, false, None) = some_is _ _ names in (
+      (
+        ap (λ (q : Answer). q.0) found,
+        ap (λ (q : Answer). q.1) found,
+        ap (λ (q : Answer). q.2) found,
+        ap (λ (q : Answer). q.3) found,
+        ap (λ (q : Answer). q.4) found,
+      ),
       rw (is) (inl (refl, inl (refl, tt))),
     )
 
@@ -389,16 +415,16 @@ why_of words None file a names asked = elim asked [ ]
 why_of words (Some p) file (asked.Search own tree all workers quiet protocol) names asked =
     let found : named_one p ≡ (codes "why", Some file, false, None) = some_is _ _ names in
     absurd (why_or_search p.0 (ap (λ (q : One). q.0) found) asked.0.0)
-why_of words (Some p) file (asked.Run own faults shown protocol) names asked =
+why_of words (Some p) file (asked.Run own faults shown delays protocol) names asked =
     let found : named_one p ≡ (codes "why", Some file, false, None) = some_is _ _ names in
     absurd (why_or_run p.0 (ap (λ (q : One). q.0) found) asked.0.0)
-why_of words (Some p) file (asked.Draw own drawn_faults protocol) names asked =
+why_of words (Some p) file (asked.Draw own drawn_faults delays protocol) names asked =
     let found : named_one p ≡ (codes "why", Some file, false, None) = some_is _ _ names in
     absurd (why_or_draw p.0 (ap (λ (q : One). q.0) found) asked.0.0)
 why_of words (Some p) file (asked.Check own tree quiet protocol) names asked =
     let found : named_one p ≡ (codes "why", Some file, false, None) = some_is _ _ names in
     absurd (why_or_check p.0 (ap (λ (q : One). q.0) found) asked.0.0)
-why_of words (Some p) file (asked.Answer own quiet protocol) names asked =
+why_of words (Some p) file (asked.Answer own quiet every_delay protocol) names asked =
     let found : named_one p ≡ (codes "why", Some file, false, None) = some_is _ _ names in
     absurd (why_or_answer p.0 (ap (λ (q : One). q.0) found) asked.0.0)
 why_of words (Some p) file (asked.Why own quiet protocol) names asked =
@@ -412,6 +438,8 @@ why_of words (Some p) file (asked.Why own quiet protocol) names asked =
       told = sym asked.0.2 ∙ ap (λ (q : One). q.2) found;
       shipped = sym asked.0.3 ∙ ap (λ (q : One). q.3) found;
       short = refl;
+      undelayed = refl;
+      drawn = refl;
     }
 why_of words (Some p) file (asked.Protocol own) names asked =
     let found : named_one p ≡ (codes "why", Some file, false, None) = some_is _ _ names in
@@ -433,16 +461,16 @@ protocol_of words None file a names asked = elim asked [ ]
 protocol_of words (Some p) file (asked.Search own tree all workers quiet protocol) names asked =
     let found : named_alone p ≡ (codes "protocol", Some file) = some_is _ _ names in
     absurd (protocol_or_search p.0 (ap (λ (q : Alone). q.0) found) asked.0.0)
-protocol_of words (Some p) file (asked.Run own faults shown protocol) names asked =
+protocol_of words (Some p) file (asked.Run own faults shown delays protocol) names asked =
     let found : named_alone p ≡ (codes "protocol", Some file) = some_is _ _ names in
     absurd (protocol_or_run p.0 (ap (λ (q : Alone). q.0) found) asked.0.0)
-protocol_of words (Some p) file (asked.Draw own drawn_faults protocol) names asked =
+protocol_of words (Some p) file (asked.Draw own drawn_faults delays protocol) names asked =
     let found : named_alone p ≡ (codes "protocol", Some file) = some_is _ _ names in
     absurd (protocol_or_draw p.0 (ap (λ (q : Alone). q.0) found) asked.0.0)
 protocol_of words (Some p) file (asked.Check own tree quiet protocol) names asked =
     let found : named_alone p ≡ (codes "protocol", Some file) = some_is _ _ names in
     absurd (protocol_or_check p.0 (ap (λ (q : Alone). q.0) found) asked.0.0)
-protocol_of words (Some p) file (asked.Answer own quiet protocol) names asked =
+protocol_of words (Some p) file (asked.Answer own quiet every_delay protocol) names asked =
     let found : named_alone p ≡ (codes "protocol", Some file) = some_is _ _ names in
     absurd (protocol_or_answer p.0 (ap (λ (q : Alone). q.0) found) asked.0.0)
 protocol_of words (Some p) file (asked.Why own quiet protocol) names asked =
@@ -451,7 +479,7 @@ protocol_of words (Some p) file (asked.Why own quiet protocol) names asked =
 protocol_of words (Some p) file (asked.Protocol own) names asked =
     let found : named_alone p ≡ (codes "protocol", Some file) = some_is _ _ names in
     let same : own.bytes.items ≡ file = some_is _ _ (sym asked.0.1 ∙ ap (λ (q : Alone). q.1) found) in
-    record { texts = rw (same) refl; unwritten = refl; one = refl; alone = refl; told = refl; shipped = refl; short = refl }
+    record { texts = rw (same) refl; unwritten = refl; one = refl; alone = refl; told = refl; shipped = refl; short = refl; undelayed = refl; drawn = refl }
 
 asks_protocol : (words : List Text) (o : Option (Text × List Row)) (file : String Global)
     → option_map named_alone o ≡ Some (codes "protocol", Some (string_bytes file))
@@ -465,10 +493,10 @@ asks_protocol words (Some p) file names is =
 pub counted : (words : List Text) (o : Option (Text × List Row)) (a : Asked) → IsAskedIn words o a → IsUncounted o → ⊥
 counted words None a asked uncounted = elim asked [ ]
 counted words (Some p) (asked.Search file tree all workers quiet protocol) asked uncounted = uncounted.1 workers asked.0.4
-counted words (Some p) (asked.Run file faults shown protocol) asked uncounted = run_or_search p.0 asked.0.0 uncounted.0
-counted words (Some p) (asked.Draw file faults protocol) asked uncounted = draw_or_search p.0 asked.0.0 uncounted.0
+counted words (Some p) (asked.Run file faults shown delays protocol) asked uncounted = run_or_search p.0 asked.0.0 uncounted.0
+counted words (Some p) (asked.Draw file faults delays protocol) asked uncounted = draw_or_search p.0 asked.0.0 uncounted.0
 counted words (Some p) (asked.Check file tree quiet protocol) asked uncounted = check_or_search p.0 asked.0.0 uncounted.0
-counted words (Some p) (asked.Answer file quiet protocol) asked uncounted = answer_or_search p.0 asked.0.0 uncounted.0
+counted words (Some p) (asked.Answer file quiet every_delay protocol) asked uncounted = answer_or_search p.0 asked.0.0 uncounted.0
 counted words (Some p) (asked.Why file quiet protocol) asked uncounted = why_or_search p.0 asked.0.0 uncounted.0
 counted words (Some p) (asked.Protocol file) asked uncounted = protocol_or_search p.0 asked.0.0 uncounted.0
 
@@ -561,15 +589,15 @@ asks_plainly (command ∷ one ∷ other ∷ more ∷ rest) a plain asks = absurd
 shared_not_plain : (a : Asked) (shared : Bool) → shares_input a ≡ shared → is_plain_command (texts_of a) ≡ true → shares_input a ≡ false
 shared_not_plain a false is plain = is
 shared_not_plain (asked.Search file tree all workers quiet protocol) true is plain = absurd (no_truth is)
-shared_not_plain (asked.Run file faults shown protocol) true is plain = absurd (no_truth is)
-shared_not_plain (asked.Draw file faults protocol) true is plain = absurd (no_truth is)
+shared_not_plain (asked.Run file faults shown delays protocol) true is plain = absurd (no_truth is)
+shared_not_plain (asked.Draw file faults delays protocol) true is plain = absurd (no_truth is)
 shared_not_plain (asked.Check file tree quiet protocol) true is plain =
     elim (two_are (codes "check") file.bytes.items tree.bytes.items plain).0 [
       | inl run ↦ absurd (check_or_run (codes "check") refl run)
       | inr (inl draw) ↦ absurd (check_or_draw (codes "check") refl draw)
       | inr (inr check) ↦ absurd (no_truth (sym (not-true _ check.1) ∙ is))
     ]
-shared_not_plain (asked.Answer file quiet protocol) true is plain = absurd (no_truth is)
+shared_not_plain (asked.Answer file quiet every_delay protocol) true is plain = absurd (no_truth is)
 shared_not_plain (asked.Why file quiet protocol) true is plain = absurd (no_truth is)
 shared_not_plain (asked.Protocol file) true is plain = absurd (no_truth is)
 
@@ -577,10 +605,10 @@ shared_not_plain (asked.Protocol file) true is plain = absurd (no_truth is)
 unwritten_is_kept : (a : Asked) → written_to a ≡ None → overwrites a ≡ false
 unwritten_is_kept (asked.Search file None all workers quiet protocol) unwritten = refl
 unwritten_is_kept (asked.Search file (Some tree) all workers quiet protocol) unwritten = absurd (no_thing _ (sym unwritten))
-unwritten_is_kept (asked.Run file faults shown protocol) unwritten = refl
-unwritten_is_kept (asked.Draw file faults protocol) unwritten = refl
+unwritten_is_kept (asked.Run file faults shown delays protocol) unwritten = refl
+unwritten_is_kept (asked.Draw file faults delays protocol) unwritten = refl
 unwritten_is_kept (asked.Check file tree quiet protocol) unwritten = refl
-unwritten_is_kept (asked.Answer file quiet protocol) unwritten = refl
+unwritten_is_kept (asked.Answer file quiet every_delay protocol) unwritten = refl
 unwritten_is_kept (asked.Why file quiet protocol) unwritten = refl
 unwritten_is_kept (asked.Protocol file) unwritten = refl
 
@@ -611,7 +639,7 @@ asks_some (command ∷ file ∷ []) plain =
       | inr (inl answer) ↦
           let words = codes "answer" ∷ string_bytes file ∷ [] in
           subst (λ c. (a : Asked) × Asks (c ∷ string_bytes file ∷ []) a) (sym answer) (
-            asked.Answer file false None,
+            asked.Answer file false false None,
             (
               answer_fault (string_bytes file) is.1,
               asks_answer words (subcommand_of program words) file (answer_names (string_bytes file) is.1) refl,
@@ -642,7 +670,7 @@ asks_some (command ∷ one ∷ other ∷ []) plain =
       | inl run ↦
           let words = codes "run" ∷ string_bytes one ∷ string_bytes other ∷ [] in
           subst (λ c. (a : Asked) × Asks (c ∷ string_bytes one ∷ string_bytes other ∷ []) a) (sym run) (
-            asked.Run one other shown.Whole None,
+            asked.Run one other shown.Whole None None,
             (
               run_fault (string_bytes one) (string_bytes other) is.1 is.2,
               asks_run words (subcommand_of program words) one other (run_names (string_bytes one) (string_bytes other) is.1 is.2) refl,
@@ -651,7 +679,7 @@ asks_some (command ∷ one ∷ other ∷ []) plain =
       | inr (inl draw) ↦
           let words = codes "draw" ∷ string_bytes one ∷ string_bytes other ∷ [] in
           subst (λ c. (a : Asked) × Asks (c ∷ string_bytes one ∷ string_bytes other ∷ []) a) (sym draw) (
-            asked.Draw one other None,
+            asked.Draw one other None None,
             (
               draw_fault (string_bytes one) (string_bytes other) is.1 is.2,
               asks_draw words (subcommand_of program words) one other (draw_names (string_bytes one) (string_bytes other) is.1 is.2) refl,
@@ -703,13 +731,13 @@ size (x ∷ y ∷ z ∷ more ∷ rest) = 4
 
 shared_is : (a : Asked) → texts_of a ≡ shared_words → shares_input a ≡ true
 shared_is (asked.Search file tree all workers quiet protocol) is = absurd (apart 2 3 (omega arith) (ap size is))
-shared_is (asked.Run file faults shown protocol) is = absurd (check_or_run (codes "check") refl (sym (ap head is)))
-shared_is (asked.Draw file faults protocol) is = absurd (check_or_draw (codes "check") refl (sym (ap head is)))
+shared_is (asked.Run file faults shown delays protocol) is = absurd (check_or_run (codes "check") refl (sym (ap head is)))
+shared_is (asked.Draw file faults delays protocol) is = absurd (check_or_draw (codes "check") refl (sym (ap head is)))
 shared_is (asked.Check file tree quiet protocol) is =
     let one : is_input file.bytes.items ≡ true = (bytes_eq-Decides file.bytes.items (codes "-")).1 (ap second is) in
     let other : is_input tree.bytes.items ≡ true = (bytes_eq-Decides tree.bytes.items (codes "-")).1 (ap third is) in
     rw (one, other) refl
-shared_is (asked.Answer file quiet protocol) is = absurd (apart 2 3 (omega arith) (ap size is))
+shared_is (asked.Answer file quiet every_delay protocol) is = absurd (apart 2 3 (omega arith) (ap size is))
 shared_is (asked.Why file quiet protocol) is = absurd (apart 2 3 (omega arith) (ap size is))
 shared_is (asked.Protocol file) is = absurd (apart 2 3 (omega arith) (ap size is))
 

@@ -58,6 +58,14 @@ json = flag (codes "json")
 abbrev pub beside : Rule
 beside = option (codes "beside")
 
+-- the option --delays LIST
+abbrev pub delays : Rule
+delays = option (codes "delays")
+
+-- the flag --every-delay
+abbrev pub every_delay : Rule
+every_delay = flag (codes "every-delay")
+
 -- a command with this name and the argument FILE
 abbrev pub of_file : Text → App
 of_file name = with_rule (new_app name) file
@@ -102,17 +110,25 @@ changed_run = with_rule ruled_run changes
 abbrev pub written_run : App
 written_run = with_rule changed_run json
 
+-- run FILE FAULTS, without --delays and --protocol
+abbrev pub prompt_run : App
+prompt_run = with_rule written_run beside
+
 -- run FILE FAULTS, without --protocol
 abbrev pub shipped_run : App
-shipped_run = with_rule written_run beside
+shipped_run = with_rule prompt_run delays
 
 -- run FILE FAULTS
 abbrev pub run : App
 run = with_rule shipped_run known
 
--- draw FILE FAULTS, without its option
+-- draw FILE FAULTS, without its options
+abbrev pub prompt_draw : App
+prompt_draw = with_rule (of_file (codes "draw")) faults
+
+-- draw FILE FAULTS, without --protocol
 abbrev pub shipped_draw : App
-shipped_draw = with_rule (of_file (codes "draw")) faults
+shipped_draw = with_rule prompt_draw delays
 
 -- draw FILE FAULTS
 abbrev pub draw : App
@@ -134,9 +150,13 @@ shipped_check = with_rule loud_check quiet
 abbrev pub check : App
 check = with_rule shipped_check known
 
+-- answer FILE, with --quiet alone
+abbrev pub drawn_answer : App
+drawn_answer = with_rule (of_file (codes "answer")) quiet
+
 -- answer FILE, without --protocol
 abbrev pub shipped_answer : App
-shipped_answer = with_rule (of_file (codes "answer")) quiet
+shipped_answer = with_rule drawn_answer every_delay
 
 -- answer FILE
 abbrev pub answer : App

@@ -24,82 +24,102 @@ IsPartOf (text ∷ texts) (word ∷ words) = ((text ≡ word) × IsPartOf texts 
 -- the file of the scenario, or of the protocol
 abbrev pub file_of : Asked → Text
 file_of (asked.Search file tree all workers quiet protocol) = file.bytes.items
-file_of (asked.Run file faults shown protocol) = file.bytes.items
-file_of (asked.Draw file faults protocol) = file.bytes.items
+file_of (asked.Run file faults shown delays protocol) = file.bytes.items
+file_of (asked.Draw file faults delays protocol) = file.bytes.items
 file_of (asked.Check file tree quiet protocol) = file.bytes.items
-file_of (asked.Answer file quiet protocol) = file.bytes.items
+file_of (asked.Answer file quiet every_delay protocol) = file.bytes.items
 file_of (asked.Why file quiet protocol) = file.bytes.items
 file_of (asked.Protocol file) = file.bytes.items
 
 -- the command, and what it requires
 abbrev pub texts_of : Asked → List Text
 texts_of (asked.Search file tree all workers quiet protocol) = codes "search" ∷ file.bytes.items ∷ []
-texts_of (asked.Run file faults shown protocol) = codes "run" ∷ file.bytes.items ∷ faults.bytes.items ∷ []
-texts_of (asked.Draw file faults protocol) = codes "draw" ∷ file.bytes.items ∷ faults.bytes.items ∷ []
+texts_of (asked.Run file faults shown delays protocol) = codes "run" ∷ file.bytes.items ∷ faults.bytes.items ∷ []
+texts_of (asked.Draw file faults delays protocol) = codes "draw" ∷ file.bytes.items ∷ faults.bytes.items ∷ []
 texts_of (asked.Check file tree quiet protocol) = codes "check" ∷ file.bytes.items ∷ tree.bytes.items ∷ []
-texts_of (asked.Answer file quiet protocol) = codes "answer" ∷ file.bytes.items ∷ []
+texts_of (asked.Answer file quiet every_delay protocol) = codes "answer" ∷ file.bytes.items ∷ []
 texts_of (asked.Why file quiet protocol) = codes "why" ∷ file.bytes.items ∷ []
 texts_of (asked.Protocol file) = codes "protocol" ∷ file.bytes.items ∷ []
 
 -- the file for a certificate that is to be written
 abbrev pub written_to : Asked → Option Text
 written_to (asked.Search file tree all workers quiet protocol) = option_map (λ t. t.bytes.items) tree
-written_to (asked.Run file faults shown protocol) = None
-written_to (asked.Draw file faults protocol) = None
+written_to (asked.Run file faults shown delays protocol) = None
+written_to (asked.Draw file faults delays protocol) = None
 written_to (asked.Check file tree quiet protocol) = None
-written_to (asked.Answer file quiet protocol) = None
+written_to (asked.Answer file quiet every_delay protocol) = None
 written_to (asked.Why file quiet protocol) = None
 written_to (asked.Protocol file) = None
 
 -- all least sets are to be told
 abbrev pub wants_all : Asked → Bool
 wants_all (asked.Search file tree all workers quiet protocol) = all
-wants_all (asked.Run file faults shown protocol) = false
-wants_all (asked.Draw file faults protocol) = false
+wants_all (asked.Run file faults shown delays protocol) = false
+wants_all (asked.Draw file faults delays protocol) = false
 wants_all (asked.Check file tree quiet protocol) = false
-wants_all (asked.Answer file quiet protocol) = false
+wants_all (asked.Answer file quiet every_delay protocol) = false
 wants_all (asked.Why file quiet protocol) = false
 wants_all (asked.Protocol file) = false
 
 -- how many workers are to do it
 abbrev pub workers_of : Asked → ℕ
 workers_of (asked.Search file tree all workers quiet protocol) = workers
-workers_of (asked.Run file faults shown protocol) = 1
-workers_of (asked.Draw file faults protocol) = 1
+workers_of (asked.Run file faults shown delays protocol) = 1
+workers_of (asked.Draw file faults delays protocol) = 1
 workers_of (asked.Check file tree quiet protocol) = 1
-workers_of (asked.Answer file quiet protocol) = 1
+workers_of (asked.Answer file quiet every_delay protocol) = 1
 workers_of (asked.Why file quiet protocol) = 1
 workers_of (asked.Protocol file) = 1
 
 -- nothing is to be told on the way
 abbrev pub is_quiet : Asked → Bool
 is_quiet (asked.Search file tree all workers quiet protocol) = quiet
-is_quiet (asked.Run file faults shown protocol) = false
-is_quiet (asked.Draw file faults protocol) = false
+is_quiet (asked.Run file faults shown delays protocol) = false
+is_quiet (asked.Draw file faults delays protocol) = false
 is_quiet (asked.Check file tree quiet protocol) = quiet
-is_quiet (asked.Answer file quiet protocol) = quiet
+is_quiet (asked.Answer file quiet every_delay protocol) = quiet
 is_quiet (asked.Why file quiet protocol) = quiet
 is_quiet (asked.Protocol file) = false
 
 -- the file of the protocol that the scenario may name besides the shipped ones
 abbrev pub protocol_file : Asked → Option Text
 protocol_file (asked.Search file tree all workers quiet protocol) = option_map (λ t. t.bytes.items) protocol
-protocol_file (asked.Run file faults shown protocol) = option_map (λ t. t.bytes.items) protocol
-protocol_file (asked.Draw file faults protocol) = option_map (λ t. t.bytes.items) protocol
+protocol_file (asked.Run file faults shown delays protocol) = option_map (λ t. t.bytes.items) protocol
+protocol_file (asked.Draw file faults delays protocol) = option_map (λ t. t.bytes.items) protocol
 protocol_file (asked.Check file tree quiet protocol) = option_map (λ t. t.bytes.items) protocol
-protocol_file (asked.Answer file quiet protocol) = option_map (λ t. t.bytes.items) protocol
+protocol_file (asked.Answer file quiet every_delay protocol) = option_map (λ t. t.bytes.items) protocol
 protocol_file (asked.Why file quiet protocol) = option_map (λ t. t.bytes.items) protocol
 protocol_file (asked.Protocol file) = None
 
 -- what is to be told of a run
 abbrev pub shown_of : Asked → Shown
 shown_of (asked.Search file tree all workers quiet protocol) = shown.Whole
-shown_of (asked.Run file faults shown protocol) = shown
-shown_of (asked.Draw file faults protocol) = shown.Whole
+shown_of (asked.Run file faults shown delays protocol) = shown
+shown_of (asked.Draw file faults delays protocol) = shown.Whole
 shown_of (asked.Check file tree quiet protocol) = shown.Whole
-shown_of (asked.Answer file quiet protocol) = shown.Whole
+shown_of (asked.Answer file quiet every_delay protocol) = shown.Whole
 shown_of (asked.Why file quiet protocol) = shown.Whole
 shown_of (asked.Protocol file) = shown.Whole
+
+-- each note takes whatever its link may take
+abbrev pub is_over_every_delay : Asked → Bool
+is_over_every_delay (asked.Search file tree all workers quiet protocol) = false
+is_over_every_delay (asked.Run file faults shown delays protocol) = false
+is_over_every_delay (asked.Draw file faults delays protocol) = false
+is_over_every_delay (asked.Check file tree quiet protocol) = false
+is_over_every_delay (asked.Answer file quiet every_delay protocol) = every_delay
+is_over_every_delay (asked.Why file quiet protocol) = false
+is_over_every_delay (asked.Protocol file) = false
+
+-- the arrivals of notes that are late in a run, as they were written
+abbrev pub delays_of : Asked → Option Text
+delays_of (asked.Search file tree all workers quiet protocol) = None
+delays_of (asked.Run file faults shown delays protocol) = option_map (λ t. t.bytes.items) delays
+delays_of (asked.Draw file faults delays protocol) = option_map (λ t. t.bytes.items) delays
+delays_of (asked.Check file tree quiet protocol) = None
+delays_of (asked.Answer file quiet every_delay protocol) = None
+delays_of (asked.Why file quiet protocol) = None
+delays_of (asked.Protocol file) = None
 
 -- the rules that were taken are to be told
 abbrev pub are_rules : Shown → Bool
@@ -118,6 +138,8 @@ pub record IsPlainly (words : List Text) (a : Asked) : Type 0 where
   pub told : is_quiet a ≡ false
   pub shipped : protocol_file a ≡ None
   pub short : shown_of a ≡ shown.Whole
+  pub undelayed : delays_of a ≡ None
+  pub drawn : is_over_every_delay a ≡ false
 
 -- the file is standard input
 abbrev pub is_input : Text → Bool
@@ -126,10 +148,10 @@ is_input file = bytes_eq file (codes "-")
 -- two texts are to be read from standard input
 abbrev pub shares_input : Asked → Bool
 shares_input (asked.Search file tree all workers quiet protocol) = false
-shares_input (asked.Run file faults shown protocol) = false
-shares_input (asked.Draw file faults protocol) = false
+shares_input (asked.Run file faults shown delays protocol) = false
+shares_input (asked.Draw file faults delays protocol) = false
 shares_input (asked.Check file tree quiet protocol) = is_input file.bytes.items && is_input tree.bytes.items
-shares_input (asked.Answer file quiet protocol) = false
+shares_input (asked.Answer file quiet every_delay protocol) = false
 shares_input (asked.Why file quiet protocol) = false
 shares_input (asked.Protocol file) = false
 
@@ -145,10 +167,10 @@ overwrites (asked.Search file None all workers quiet protocol) = false
 overwrites (asked.Search file (Some tree) all workers quiet protocol) =
     (not (is_input file.bytes.items) && bytes_eq file.bytes.items tree.bytes.items)
     || has_name tree.bytes.items (option_map (λ t. t.bytes.items) protocol)
-overwrites (asked.Run file faults shown protocol) = false
-overwrites (asked.Draw file faults protocol) = false
+overwrites (asked.Run file faults shown delays protocol) = false
+overwrites (asked.Draw file faults delays protocol) = false
 overwrites (asked.Check file tree quiet protocol) = false
-overwrites (asked.Answer file quiet protocol) = false
+overwrites (asked.Answer file quiet every_delay protocol) = false
 overwrites (asked.Why file quiet protocol) = false
 overwrites (asked.Protocol file) = false
 
@@ -208,16 +230,20 @@ IsMatched name rows (asked.Search file tree all workers quiet protocol) = (name 
     × (first_of (codes "tree") rows ≡ option_map (λ t. t.bytes.items) tree) × (is_set (first_of (codes "all") rows) ≡ all)
     × AreNamed (first_of (codes "workers") rows) workers × (is_set (first_of (codes "quiet") rows) ≡ quiet)
     × (first_of (codes "protocol") rows ≡ option_map (λ t. t.bytes.items) protocol)
-IsMatched name rows (asked.Run file faults shown protocol) = (name ≡ codes "run") × (first_of (codes "file") rows ≡ Some file.bytes.items)
+IsMatched name rows (asked.Run file faults shown delays protocol) = (name ≡ codes "run") × (first_of (codes "file") rows ≡ Some file.bytes.items)
     × (first_of (codes "faults") rows ≡ Some faults.bytes.items) × (shown_flags rows ≡ flags_of shown)
+    × (first_of (codes "delays") rows ≡ option_map (λ t. t.bytes.items) delays)
     × (first_of (codes "protocol") rows ≡ option_map (λ t. t.bytes.items) protocol)
-IsMatched name rows (asked.Draw file faults protocol) = (name ≡ codes "draw") × (first_of (codes "file") rows ≡ Some file.bytes.items)
-    × (first_of (codes "faults") rows ≡ Some faults.bytes.items) × (first_of (codes "protocol") rows ≡ option_map (λ t. t.bytes.items) protocol)
+IsMatched name rows (asked.Draw file faults delays protocol) = (name ≡ codes "draw") × (first_of (codes "file") rows ≡ Some file.bytes.items)
+    × (first_of (codes "faults") rows ≡ Some faults.bytes.items)
+    × (first_of (codes "delays") rows ≡ option_map (λ t. t.bytes.items) delays)
+    × (first_of (codes "protocol") rows ≡ option_map (λ t. t.bytes.items) protocol)
 IsMatched name rows (asked.Check file tree quiet protocol) = (name ≡ codes "check") × (first_of (codes "file") rows ≡ Some file.bytes.items)
     × (first_of (codes "tree") rows ≡ Some tree.bytes.items) × (is_set (first_of (codes "quiet") rows) ≡ quiet)
     × (first_of (codes "protocol") rows ≡ option_map (λ t. t.bytes.items) protocol)
-IsMatched name rows (asked.Answer file quiet protocol) = (name ≡ codes "answer") × (first_of (codes "file") rows ≡ Some file.bytes.items)
-    × (is_set (first_of (codes "quiet") rows) ≡ quiet) × (first_of (codes "protocol") rows ≡ option_map (λ t. t.bytes.items) protocol)
+IsMatched name rows (asked.Answer file quiet every_delay protocol) = (name ≡ codes "answer") × (first_of (codes "file") rows ≡ Some file.bytes.items)
+    × (is_set (first_of (codes "quiet") rows) ≡ quiet) × (is_set (first_of (codes "every-delay") rows) ≡ every_delay)
+    × (first_of (codes "protocol") rows ≡ option_map (λ t. t.bytes.items) protocol)
 IsMatched name rows (asked.Why file quiet protocol) = (name ≡ codes "why") × (first_of (codes "file") rows ≡ Some file.bytes.items)
     × (is_set (first_of (codes "quiet") rows) ≡ quiet) × (first_of (codes "protocol") rows ≡ option_map (λ t. t.bytes.items) protocol)
 IsMatched name rows (asked.Protocol file) = (name ≡ codes "protocol") × (first_of (codes "file") rows ≡ Some file.bytes.items)

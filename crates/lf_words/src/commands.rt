@@ -2,7 +2,7 @@
 
 ghost use Rattle.std.specs.Prelude.{◌≡◌, IfOk, false};
 ghost use Rattle.clap.specs.Words.{App, Rule, app_of, rule_of, with_rule, with_subcommand};
-ghost use Rattle.lf_words.specs.Commands.{IsBuilt, answer, check, draw, faults, flag, known, of_file, option, plain, positional, program, protocol, quiet, run, search, why};
+ghost use Rattle.lf_words.specs.Commands.{IsBuilt, answer, check, delays, draw, faults, flag, known, of_file, option, plain, positional, program, protocol, quiet, run, search, why};
 
 use clap::{Arg, ArgAction, Command};
 use std::alloc::{AllocError, Global};
@@ -19,17 +19,24 @@ Without arguments it reads a scenario from standard input and searches, as `leas
 const NOTES: &str = "Arguments:
   FILE    a scenario, a TOML file, or for `protocol` a protocol file; - is standard input
   FAULTS  faults joined by single commas: 'omit 0>1 @2,crash 2 @3'; '' is no fault
+  LIST    when notes arrive that are late, joined by single commas: '0>1 @9 13,2>0 @5 9'; '' is none
   TREE    a certificate, a JSON file; - is standard input, but not for FILE and TREE at once. After --tree it is the file to write
 
-A scenario may name a protocol of your own: --protocol PROTOCOL gives its file, for search, run, draw, check, answer
-and why.
+A scenario may name a protocol of your own: --protocol PROTOCOL gives its file, for search, run, draw, check, answer, why
+and sweep.
+
+Each note takes its link's least delay, and up to its spread more, as the scenario's seed has it. `answer --every-delay` answers for
+every delay that the links allow, and `run` and `draw` take the late notes of its answer: --delays LIST.
+
+One command more: `leastfault sweep FILE --vary KEY=VALUES ..` answers the scenario for every combination of values; see
+`leastfault sweep --help`.
 
 Exit status:
   0  no allowed faults make the scenario miss its outcome, the run reaches it, or the certificate or the protocol file is right; also help
      and the version
   1  faults that make it miss were found, the run misses it, or the certificate is wrong
-  2  the arguments, the scenario, the faults, the certificate's text or the protocol file are refused, or a level of the search has too
-     many sets (`full`)
+  2  the arguments, the scenario, the faults, the delays, the certificate's text or the protocol file are refused, or a level of the
+     search has too many sets (`full`)
   3  out of memory (`memory`), a file or stream failed (`read`, `write`), or the workers gave no answer (`pool NUMBER`)
 
 Examples:
@@ -47,15 +54,16 @@ Exit status:
   2  the arguments, the protocol file or the scenario are refused, or a level of the search has too many sets (`full`)
   3  out of memory (`memory`), a file or stream failed (`read`, `write`), or the workers gave no answer (`pool NUMBER`)";
 
-/// An example of `run`, and its statuses.
+/// Examples of `run`, and its statuses.
 const RUN_NOTES: &str = "Examples:
   leastfault run commit.toml 'omit 0>1 @1,crash 0 @2'
   leastfault run commit.toml 'omit 0>1 @1,crash 0 @2' --beside ''
+  leastfault run commit.toml '' --delays '0>1 @9 13,2>0 @5 9'
 
 Exit status:
   0  the run reaches the outcome
   1  the run misses the outcome
-  2  the arguments, the protocol file, the scenario or the faults are refused
+  2  the arguments, the protocol file, the scenario, the faults or the delays are refused
   3  out of memory (`memory`), or a file or stream failed (`read`, `write`)";
 
 /// An example of `draw`, and its statuses.
@@ -65,7 +73,7 @@ const DRAW_NOTES: &str = "Example:
 Exit status:
   0  the run reaches the outcome
   1  the run misses the outcome
-  2  the arguments, the protocol file, the scenario or the faults are refused
+  2  the arguments, the protocol file, the scenario, the faults or the delays are refused
   3  out of memory (`memory`), or a file or stream failed (`read`, `write`)";
 
 /// An example of `check`, and its statuses.
@@ -79,9 +87,13 @@ Exit status:
   2  the arguments, the protocol file, the scenario or the certificate's text are refused
   3  out of memory (`memory`), or a file or stream failed (`read`, `write`)";
 
-/// An example of `answer`, and its statuses.
-const ANSWER_NOTES: &str = "Example:
+/// Examples of `answer`, what the lines of late notes are, and its statuses.
+const ANSWER_NOTES: &str = "Examples:
   leastfault answer commit.toml
+  leastfault answer commit.toml --every-delay
+
+Behind the faults, --every-delay prints the notes that are late: `arrive 0>1 @9 13` is the note that node 0 sends to node 1 at
+step 9, and it arrives at step 13. Every other note takes its least delay.
 
 Exit status:
   0  `none`: no allowed faults make the scenario miss its outcome
@@ -171,7 +183,8 @@ fn search<'a>(alloc: Global) -> Result<Command<'a>, AllocError>
     with_argument(command, known(alloc))
 }
 
-/// The command `run FILE FAULTS`, with the flags `--rules`, `--changes` and `--json` and the options `--beside FAULTS` and `--protocol PROTOCOL`.
+/// The command `run FILE FAULTS`, with the flags `--rules`, `--changes` and `--json` and the options `--beside FAULTS`, `--delays LIST` and
+/// `--protocol PROTOCOL`.
 fn run<'a>(alloc: Global) -> Result<Command<'a>, AllocError>
     ensures { IfOk result (IsBuilt run) }
 {
@@ -201,7 +214,7 @@ fn run<'a>(alloc: Global) -> Result<Command<'a>, AllocError>
     );
     let command = with_argument(with_argument(command, faults(alloc)), rules);
     let command = with_argument(with_argument(command, changes), json);
-    let command = with_argument(command, beside);
+    let command = with_argument(with_argument(command, beside), delays(alloc));
     with_argument(command, known(alloc))
 }
 
@@ -217,7 +230,19 @@ fn faults<'a>(alloc: Global) -> Arg<'a>
     )
 }
 
-/// The command `draw FILE FAULTS`, with the option `--protocol PROTOCOL`.
+/// The option `--delays LIST`.
+fn delays<'a>(alloc: Global) -> Arg<'a>
+    ensures { (rule_of result ≡ delays) × (result.global ≡ false) }
+{
+    option(
+        alloc,
+        "delays",
+        "LIST",
+        "Lets the notes of LIST arrive so, '0>1 @9 13,2>0 @5 9', and each other after its least delay; '' is none",
+    )
+}
+
+/// The command `draw FILE FAULTS`, with the options `--delays LIST` and `--protocol PROTOCOL`.
 fn draw<'a>(alloc: Global) -> Result<Command<'a>, AllocError>
     ensures { IfOk result (IsBuilt draw) }
 {
@@ -228,7 +253,8 @@ fn draw<'a>(alloc: Global) -> Result<Command<'a>, AllocError>
         "Draws the run of the scenario FILE with the faults FAULTS: prints an SVG picture",
         DRAW_NOTES,
     );
-    with_argument(with_argument(command, faults(alloc)), known(alloc))
+    let command = with_argument(with_argument(command, faults(alloc)), delays(alloc));
+    with_argument(command, known(alloc))
 }
 
 /// The command `check FILE TREE`, with the flag `--quiet` and the option `--protocol PROTOCOL`.
@@ -252,7 +278,7 @@ fn check<'a>(alloc: Global) -> Result<Command<'a>, AllocError>
     with_argument(command, known(alloc))
 }
 
-/// The command `answer FILE`, with the flag `--quiet` and the option `--protocol PROTOCOL`.
+/// The command `answer FILE`, with the flags `--quiet` and `--every-delay` and the option `--protocol PROTOCOL`.
 fn answer<'a>(alloc: Global) -> Result<Command<'a>, AllocError>
     ensures { IfOk result (IsBuilt answer) }
 {
@@ -264,7 +290,13 @@ fn answer<'a>(alloc: Global) -> Result<Command<'a>, AllocError>
 It has no limit on the number of sets and writes no certificate: use it where `search` says `full`.",
         ANSWER_NOTES,
     );
-    with_argument(with_argument(command, quiet(alloc)), known(alloc))
+    let every_delay = flag(
+        alloc,
+        "every-delay",
+        "Prints the answer over every delay: each note takes its least delay, or up to its spread more, whatever is worst",
+    );
+    let command = with_argument(with_argument(command, quiet(alloc)), every_delay);
+    with_argument(command, known(alloc))
 }
 
 /// The command `why FILE`, with the flag `--quiet` and the option `--protocol PROTOCOL`.

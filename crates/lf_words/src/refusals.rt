@@ -5,13 +5,14 @@ use lf_near::nearest;
 use std::alloc::{AllocError, Global};
 
 /// The words that a command line can begin with.
-const FIRST_WORDS: [&str; 9] = [
+const FIRST_WORDS: [&str; 10] = [
     "search",
     "run",
     "draw",
     "check",
     "answer",
     "why",
+    "sweep",
     "protocol",
     "--help",
     "--version",

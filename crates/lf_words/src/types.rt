@@ -46,6 +46,9 @@ pub enum Asked {
         faults: String,
         /// What is to be told of the run.
         shown: Shown,
+        /// The arrivals of the notes that are late, as they were written, if they are given: every other note arrives after its least
+        /// delay. Without them each note takes what the scenario draws for it.
+        delays: Option<String>,
         /// The file of the protocol that the scenario may name besides the shipped ones, if there is one.
         protocol: Option<String>,
     },
@@ -55,6 +58,8 @@ pub enum Asked {
         file: String,
         /// The faults, as they were written.
         faults: String,
+        /// The arrivals of the notes that are late, as of a run.
+        delays: Option<String>,
         /// The file of the protocol that the scenario may name besides the shipped ones, if there is one.
         protocol: Option<String>,
     },
@@ -75,6 +80,8 @@ pub enum Asked {
         file: String,
         /// Whether nothing is to be told on the way.
         quiet: bool,
+        /// Whether it is to be the answer over every delay: each note takes whatever its link may take.
+        every_delay: bool,
         /// The file of the protocol that the scenario may name besides the shipped ones, if there is one.
         protocol: Option<String>,
     },

@@ -212,10 +212,12 @@ fn run(
     let Some(shown) = told_by(alloc, matches)? else {
         return Ok(None);
     };
+    let delays = text(alloc, matches, "delays")?;
     Ok(Some(Asked::Run {
         file: String::from_str(alloc, file)?,
         faults: String::from_str(alloc, faults)?,
         shown,
+        delays,
         protocol: text(alloc, matches, "protocol")?,
     }))
 }
@@ -273,6 +275,7 @@ fn draw(
     Ok(Some(Asked::Draw {
         file: String::from_str(alloc, file)?,
         faults: String::from_str(alloc, faults)?,
+        delays: text(alloc, matches, "delays")?,
         protocol: text(alloc, matches, "protocol")?,
     }))
 }
@@ -321,6 +324,7 @@ fn answer(
     Ok(Some(Asked::Answer {
         file: String::from_str(alloc, file)?,
         quiet: is_set(matches, "quiet"),
+        every_delay: is_set(matches, "every-delay"),
         protocol: text(alloc, matches, "protocol")?,
     }))
 }

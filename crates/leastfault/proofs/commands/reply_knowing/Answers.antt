@@ -3,10 +3,9 @@ use Rattle.lf_words.specs.declared.types.Asked.TheVariants as asked
 use Rattle.leastfault.specs.Commands.{IsCheckOf, IsDoneFor}
 use Rattle.leastfault.specs.Known.{known_of}
 use Rattle.leastfault.specs.Protocols.{IsProtocolReply}
-use Rattle.leastfault.specs.Replies.{IsAnswerReply}
-use Rattle.leastfault.specs.Shown.{IsShownReply, IsToldReply}
+use Rattle.leastfault.specs.Delayed.{IsAnswerAsked}
+use Rattle.leastfault.specs.Shown.{IsDrawnReply, IsShownReply}
 use Rattle.leastfault.specs.Why.{IsWhyReply}
-use Rattle.leastfault.specs.declared.shown.Told.TheVariants as tells
 use Rattle.leastfault.proofs.CommandLemmas.{Done, done_alone, done_certified, done_uncertified}
 use Rattle.leastfault.proofs.commands.reply_knowing.Goals as goal
 
@@ -31,16 +30,16 @@ returns-in-None g c =
     (done_uncertified known c.as_slice-text.result.now tree c.args.asked.now arm.file arm.all arm.workers arm.quiet arm.protocol wanted.result
     c.reply_by.result c.uncertified.result is wanted.ensures c.reply_by.ensures c.uncertified.ensures)
 
-pub returns-in_ok-answer_reply-in-Answer : goal.returns-in_ok-answer_reply-in-Answer
-returns-in_ok-answer_reply-in-Answer g c =
+pub returns-in_ok-answer_asked-in-Answer : goal.returns-in_ok-answer_asked-in-Answer
+returns-in_ok-answer_asked-in-Answer g c =
     let arm = c.in-Answer in
     let known = known_of c.args.known in
     let text = c.as_slice-text.result.now in
     let tree = option_map (λ bytes. bytes.items) c.args.texts.now.tree in
     let told = c.alone.result in
     subst (λ t. IsDoneFor known c.args.asked.now t tree (string_bytes told.text) told.value) c.as_slice-text.ensures.value
-    (done_alone known text tree c.args.asked.now (asked.Answer arm.file arm.quiet arm.protocol) (IsAnswerReply known text)
-    c.in_ok-answer_reply-in-Answer.field-0 told arm.is (λ reply ended is. is) c.in_ok-answer_reply-in-Answer.ensures c.alone.ensures)
+    (done_alone known text tree c.args.asked.now (asked.Answer arm.file arm.quiet arm.every_delay arm.protocol) (IsAnswerAsked known arm.every_delay text)
+    c.in_ok-answer_asked-in-Answer.field-0 told arm.is (λ reply ended is. is) c.in_ok-answer_asked-in-Answer.ensures c.alone.ensures)
 
 pub returns-in_ok-why_reply-in-Why : goal.returns-in_ok-why_reply-in-Why
 returns-in_ok-why_reply-in-Why g c =
@@ -61,26 +60,30 @@ returns-in_ok-shown_reply-in-Run g c =
     let tree = option_map (λ bytes. bytes.items) c.args.texts.now.tree in
     let made = c.in_ok-shown_reply-in-Run.field-0 in
     let told = c.alone-in-Run.result in
-    let replied = subst (λ words. IsShownReply known arm.shown words text (string_bytes made.text) made.value) c.as_str.ensures.value
-    c.in_ok-shown_reply-in-Run.ensures in
+    let replied = subst (λ words. IsShownReply known arm.shown (option_map string_bytes arm.delays) words text (string_bytes made.text) made.value)
+    c.as_str.ensures.value
+    (subst (λ delays. IsShownReply known arm.shown delays c.as_str.result.now text (string_bytes made.text) made.value) c.as_deref-delays.ensures.value
+    c.in_ok-shown_reply-in-Run.ensures) in
     subst (λ t. IsDoneFor known c.args.asked.now t tree (string_bytes told.text) told.value) c.as_slice-text.ensures.value
-    (done_alone known text tree c.args.asked.now (asked.Run arm.file arm.faults arm.shown arm.protocol)
-    (IsShownReply known arm.shown (string_bytes arm.faults) text) made told arm.is (λ reply ended is. is) replied
+    (done_alone known text tree c.args.asked.now (asked.Run arm.file arm.faults arm.shown arm.delays arm.protocol)
+    (IsShownReply known arm.shown (option_map string_bytes arm.delays) (string_bytes arm.faults) text) made told arm.is (λ reply ended is. is) replied
     c.alone-in-Run.ensures)
 
-pub returns-in_ok-told_reply-in-Draw : goal.returns-in_ok-told_reply-in-Draw
-returns-in_ok-told_reply-in-Draw g c =
+pub returns-in_ok-drawn_reply-in-Draw : goal.returns-in_ok-drawn_reply-in-Draw
+returns-in_ok-drawn_reply-in-Draw g c =
     let arm = c.in-Draw in
     let known = known_of c.args.known in
     let text = c.as_slice-text.result.now in
     let tree = option_map (λ bytes. bytes.items) c.args.texts.now.tree in
-    let made = c.in_ok-told_reply-in-Draw.field-0 in
+    let made = c.in_ok-drawn_reply-in-Draw.field-0 in
     let told = c.alone-in-Draw.result in
-    let replied = subst (λ words. IsToldReply tells.Picture known words text (string_bytes made.text) made.value) c.as_str-in-Draw.ensures.value
-    c.in_ok-told_reply-in-Draw.ensures in
+    let replied = subst (λ words. IsDrawnReply known (option_map string_bytes arm.delays) words text (string_bytes made.text) made.value)
+    c.as_str-in-Draw.ensures.value
+    (subst (λ delays. IsDrawnReply known delays c.as_str-in-Draw.result.now text (string_bytes made.text) made.value) c.as_deref.ensures.value
+    c.in_ok-drawn_reply-in-Draw.ensures) in
     subst (λ t. IsDoneFor known c.args.asked.now t tree (string_bytes told.text) told.value) c.as_slice-text.ensures.value
-    (done_alone known text tree c.args.asked.now (asked.Draw arm.file arm.faults arm.protocol)
-    (IsToldReply tells.Picture known (string_bytes arm.faults) text) made told arm.is (λ reply ended is. is) replied
+    (done_alone known text tree c.args.asked.now (asked.Draw arm.file arm.faults arm.delays arm.protocol)
+    (IsDrawnReply known (option_map string_bytes arm.delays) (string_bytes arm.faults) text) made told arm.is (λ reply ended is. is) replied
     c.alone-in-Draw.ensures)
 
 pub returns-in_ok-check_asked-in-Check : goal.returns-in_ok-check_asked-in-Check

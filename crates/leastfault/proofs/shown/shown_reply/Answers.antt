@@ -1,23 +1,7 @@
-use Rattle.std.proofs.Common.{subst, string_bytes}
-use Rattle.std.specs.Prelude.{IfOk}
-use Rattle.leastfault.specs.Known.{known_of}
-use Rattle.leastfault.specs.Shown.{IsBesideReply}
 use Rattle.leastfault.proofs.shown.shown_reply.Goals as goal
 
-pub returns-in-Whole : goal.returns-in-Whole
-returns-in-Whole c = rw (c.in-Whole.is) c.run_reply.ensures
+pub returns-in-None : goal.returns-in-None
+returns-in-None c = rw (c.in-None.is) c.shown_by_seed.ensures
 
-pub returns-in-Rules : goal.returns-in-Rules
-returns-in-Rules c = rw (c.in-Rules.is) c.with_rules.ensures
-
-pub returns-in-Changes : goal.returns-in-Changes
-returns-in-Changes c = rw (c.in-Changes.is) c.told_reply.ensures
-
-pub returns-in-Json : goal.returns-in-Json
-returns-in-Json c = rw (c.in-Json.is) c.told_reply-in-Json.ensures
-
-pub returns-in-Beside : goal.returns-in-Beside
-returns-in-Beside c = rw (c.in-Beside.is) (subst
-    (λ other. IfOk c.beside_reply.result
-    (λ reply. IsBesideReply other (known_of c.args.known) c.args.faults.now c.args.text.now (string_bytes reply.text) reply.value))
-    c.as_str.ensures.value c.beside_reply.ensures)
+pub returns-in-Some : goal.returns-in-Some
+returns-in-Some c = rw (c.in-Some.is) c.shown_by_delays.ensures

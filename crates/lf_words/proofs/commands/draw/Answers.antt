@@ -1,4 +1,5 @@
 use Rattle.lf_words.proofs.commands.draw.Goals as goal
 
 pub returns : goal.returns
-returns c = c.with_argument-2.ensures _ _ (c.with_argument.ensures _ _ c.of_file-command.ensures c.faults.ensures) c.known.ensures
+returns c = c.with_argument-2.ensures _ _ (c.with_argument-command.ensures _ _ (c.with_argument.ensures _ _ c.of_file-command.ensures
+    c.faults.ensures) c.delays.ensures) c.known.ensures

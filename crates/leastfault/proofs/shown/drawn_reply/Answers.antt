@@ -1,0 +1,7 @@
+use Rattle.leastfault.proofs.shown.drawn_reply.Goals as goal
+
+pub returns-in-None : goal.returns-in-None
+returns-in-None c = rw (c.in-None.is) c.told_reply.ensures
+
+pub returns-in-Some : goal.returns-in-Some
+returns-in-Some c = rw (c.in-Some.is) c.drawn_by_delays.ensures

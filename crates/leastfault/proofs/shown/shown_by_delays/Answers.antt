@@ -1,0 +1,27 @@
+use Rattle.std.proofs.Common.{◌≡◌, subst, true, string_bytes}
+use Rattle.std.proofs.lemmas.Result.{IfOk-weaker}
+use Rattle.leastfault.specs.Delayed.{IsDelayedReply}
+use Rattle.leastfault.specs.Known.{known_of}
+use Rattle.leastfault.specs.Replies.{tells_rules}
+use Rattle.leastfault.specs.Shown.{RepliesShown}
+use Rattle.leastfault.proofs.DelayedLemmas.{given_of, not_given}
+use Rattle.leastfault.proofs.shown.shown_by_delays.Goals as goal
+
+pub returns-in-Ok : goal.returns-in-Ok
+returns-in-Ok c =
+    let known = known_of c.args.known in
+    let words = c.args.faults.now in
+    let how = c.args.shown.now in
+    let given = c.in-Ok.scenario in
+    IfOk-weaker c.shown_of.result (λ reply. RepliesShown c.has_rules.result how words given (string_bytes reply.text) reply.value)
+    (λ reply. IsDelayedReply known c.args.delays.now (RepliesShown (tells_rules known true) how words) c.args.text.now (string_bytes reply.text) reply.value)
+    (λ reply said. given_of known c.args.delays.now c.args.text.now (RepliesShown (tells_rules known true) how words) c.in_ok-read.read given
+    (string_bytes reply.text) reply.value c.in-Ok.is c.in_ok-read.ensures
+    (subst (λ rules. RepliesShown rules how words given (string_bytes reply.text) reply.value) c.has_rules.ensures said))
+    c.shown_of.ensures
+
+pub returns-in-Err : goal.returns-in-Err
+returns-in-Err c =
+    let known = known_of c.args.known in
+    not_given known c.args.delays.now c.args.text.now (RepliesShown (tells_rules known true) c.args.shown.now c.args.faults.now)
+    c.in_ok-read.read c.in-Err.reply c.in-Err.is c.in_ok-read.ensures
