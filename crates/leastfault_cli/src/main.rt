@@ -2,12 +2,13 @@
 //! a certificate of its answer is right; or it reads a protocol file and prints whether it is one.
 //!
 //!     leastfault search FILE [--protocol PROTOCOL] [--all] [--tree TREE] [--workers N] [--quiet]
-//!     leastfault answer FILE [--protocol PROTOCOL] [--quiet]
+//!     leastfault answer FILE [--protocol PROTOCOL] [--every-delay] [--quiet]
 //!     leastfault why FILE [--protocol PROTOCOL] [--quiet]
-//!     leastfault run FILE FAULTS [--protocol PROTOCOL] [--rules | --changes | --json | --beside FAULTS]
-//!     leastfault draw FILE FAULTS [--protocol PROTOCOL]
+//!     leastfault run FILE FAULTS [--protocol PROTOCOL] [--delays LIST] [--rules | --changes | --json | --beside FAULTS]
+//!     leastfault draw FILE FAULTS [--protocol PROTOCOL] [--delays LIST]
 //!     leastfault check FILE TREE [--protocol PROTOCOL] [--quiet]
 //!     leastfault protocol FILE
+//!     leastfault sweep FILE --vary KEY=VALUES .. [--by answer|search] [--workers N] [--part I/N] [--json] [--protocol PROTOCOL] [--quiet]
 //!
 //! PROTOCOL is the file of a protocol that the scenario names besides the shipped ones, always a file's name, also where it is `-`.
 //!
@@ -19,30 +20,44 @@
 //! `answer` prints what `search` does, by another way: it keeps configurations of the cluster and no sets, so no level can be too full, and
 //! it makes no certificate. `why` prints what `search` does, and behind it what each fault is needed for, or what stands behind `none`.
 //!
+//! `answer --every-delay` prints the answer whatever each note takes between its link's least delay and its spread more, and behind the
+//! faults the notes that are late: `arrive 0>1 @9 13` is sent at step 9 and arrives at step 13. With `--delays` a run or a picture has such
+//! notes, `0>1 @9 13,2>0 @5 9`, and every other note takes its least delay; the empty word is none.
+//!
 //! With `--protocol` the scenario may name the protocol of that file, and give its constants anew; `run --rules` prints under each step which
 //! of its rules each node took. `run --changes` prints of each step only the nodes that change, and the notes; `run --beside FAULTS` prints
 //! only the lines that differ from those of the run with these faults; `run --json` prints it as a JSON document. `draw` prints the run as a picture, an SVG document.
+//!
+//! `sweep` prints a line for each combination of values: the values, and the reply to the scenario that has them, with tabs between. `--vary` gives
+//! a key its values, `--by` says which command replies, `--part` takes one of N parts of the combinations, and `--json` makes each line an object.
+//! Standard error counts the replies, but with `--quiet`.
 //!
 //! `protocol` prints `ok` where the file is a protocol file, and else `refused protocol NUMBER PLACE`, without the place where the file as
 //! a whole is refused.
 //!
 //! The status is 0 where no allowed set of faults defeats the outcome, where the run reaches it, where the certificate is right, where the
 //! file is a protocol file, and after help or the version; 1 where a set defeats it, the run misses it, or the certificate is wrong; 2 where
-//! the scenario, the faults, the certificate's text, the protocol file or the words are refused, or a level of the search is too full; and 3
+//! the scenario, the faults, the delays, the certificate's text, the protocol file or the words are refused, or a level of the search is too full; and 3
 //! where memory ran out, a device failed, or the workers gave no answer: standard error then has the line `memory`, `read` or `write`,
 //! with the device on the next line, or `pool NUMBER`.
 //!
 //! Where the status is 2, standard error says in words what is wrong with what was refused. Where a protocol file is one, it says what the
 //! file has, and what in it looks like a slip. Of a search, `why` and a run with `--protocol` it says where the run without faults passes a range or
-//! replaces a note. Else it stays empty where all is well. But where it is a terminal, a search, an answer, `why` or a
+//! replaces a note, and of an answer over every delay that a seed plays no part. Else it stays empty where all is well. But where it is a terminal, a search, an answer, `why` or a
 //! check that takes longer than a second says on one line there how far it has come, and erases that line before it replies. With
 //! `--quiet` it doesn't.
 #![tactic(auto)]
 
 mod devices;
+mod json_line;
 mod kept;
 mod line;
+mod report;
 mod stop;
+mod sweep_words;
+mod sweeping;
+mod tally;
+mod varying;
 
 use devices::{Text, name_of, opened, opened_by_name, print, put};
 use leastfault::{
@@ -50,8 +65,9 @@ use leastfault::{
     certificate_file, execute, read_known, read_protocol, tree_file,
 };
 use lf_hints::{
-    Wanted, all_hint, certificate_hint, check_hint, judged_hint, level_hint, run_hint, search_hint,
-    see_hint, set_hint, tree_hint, verdict_hint,
+    Wanted, all_hint, certificate_hint, check_hint, delays_hint, judged_hint, late_hint,
+    level_hint, run_hint, search_hint, see_hint, see_late_hint, seed_note, set_hint, tree_hint,
+    verdict_hint,
 };
 use lf_own_hints::{own_hint, run_notes};
 use lf_protocol_hints::{protocol_hint, protocol_notes};
@@ -64,6 +80,7 @@ use std::rt::Clock;
 use std::sync::Wait;
 use std::thread::Threads;
 use stop::Stop;
+use sweeping::sweep_done;
 
 fn main(rt: HostRuntime) -> ExitCode {
     match status(&rt, &rt) {
@@ -93,6 +110,11 @@ fn status(rt: &HostRuntime, threads: &(impl Threads + Wait + Clock + Sync)) -> R
     };
     if words.is_empty() && rt.stdin().is_terminal() {
         let _told = eprintln!(rt; "reading a scenario from standard input; see --help").is_ok();
+    }
+    if let Some((first, rest)) = words.as_slice().split_first() {
+        if first.as_str() == "sweep" {
+            return sweep_done(rt, threads, rest);
+        }
     }
     match asked(rt.alloc(), words.as_slice()) {
         Ok(asked) => done(rt, threads, &asked),
@@ -260,12 +282,23 @@ fn with_notes(
     Ok(notes)
 }
 
-/// Where the run without faults passes a range or replaces a note: of a search, a run or a picture of a protocol file's scenario.
+/// Where the run without faults passes a range or replaces a note: of a search, a run or a picture of a protocol file's scenario, by its
+/// seed. Of an answer over every delay, that a seed plays no part.
 fn notes_of(alloc: Global, asked: &Asked, texts: &Texts<'_>) -> Result<String, AllocError> {
+    if let Asked::Answer {
+        every_delay: true,
+        ..
+    } = asked
+    {
+        return seed_note(alloc, texts.scenario);
+    }
     if asked.protocol_file().is_none()
         || !matches!(
             asked,
-            Asked::Search { .. } | Asked::Why { .. } | Asked::Run { .. } | Asked::Draw { .. }
+            Asked::Search { .. }
+                | Asked::Why { .. }
+                | Asked::Run { delays: None, .. }
+                | Asked::Draw { delays: None, .. }
         )
     {
         return Ok(String::new(alloc));
@@ -295,6 +328,18 @@ fn found_hint(
     texts: &Texts<'_>,
 ) -> Result<String, AllocError> {
     match asked {
+        Asked::Answer {
+            file,
+            every_delay: true,
+            ..
+        } if file.as_str() != "-" => {
+            see_late_hint(
+                alloc,
+                file.as_str(),
+                asked.protocol_file(),
+                reply.as_bytes(),
+            )
+        }
         Asked::Search { file, .. } | Asked::Answer { file, .. } if file.as_str() != "-" => {
             see_hint(
                 alloc,
@@ -346,6 +391,9 @@ fn refused_hint(
         };
     }
     let text = texts.scenario;
+    if let Some(delays) = refused_delays(asked, reply) {
+        return late_hint(alloc, text, delays);
+    }
     let words = match asked {
         Asked::Search { .. } if reply.starts_with("refused tree") => {
             tree_hint(alloc, &[], TreeFault::TooLong)?
@@ -360,6 +408,15 @@ fn refused_hint(
         Asked::Protocol { .. } => String::new(alloc),
     };
     with_option(alloc, reply, words)
+}
+
+/// The words for late notes, where a reply refuses them.
+fn refused_delays<'a>(asked: &'a Asked, reply: &str) -> Option<&'a str> {
+    match asked {
+        Asked::Run { delays, .. } | Asked::Draw { delays, .. }
+            if reply.starts_with("refused delays") => { delays.as_deref() }
+        _ => None,
+    }
 }
 
 /// What is wrong with the text of a scenario, or with the words for the faults of a run, or else with those of the run beside it.
@@ -415,6 +472,9 @@ fn known_hint(
         Ok(scenario) => scenario,
         Err(error) => return own_hint(alloc, texts.scenario, file, error),
     };
+    if let Some(delays) = refused_delays(asked, reply) {
+        return delays_hint(alloc, &scenario, delays);
+    }
     match asked {
         Asked::Search { .. } if reply.starts_with("refused tree") => {
             tree_hint(alloc, &[], TreeFault::TooLong)

@@ -1,0 +1,7 @@
+//! Worked examples of sweeps.
+#![tactic(auto)]
+
+#[cfg(test)]
+mod reading;
+#[cfg(test)]
+mod sweeps;
