@@ -432,17 +432,17 @@ test_told() {
 # The answer over every delay, and runs where messages come as a list says.
 test_every_delay() {
     local late="examples/late_votes.toml" delays="'0>2 @1 5,2>0 @5 9,0>1 @9 13'"
-    expect 1 $'least 0\narrive 0>2 @1 5\narrive 2>0 @5 9\narrive 0>1 @9 13' '?*' "leastfault answer $late --every-delay"
+    expect 1 $'least 0\narrive 0>2 @1 5\narrive 2>0 @5 9\narrive 0>1 @9 13' '' "leastfault answer $late --every-delay"
     ends 1 misses '' "leastfault run $late '' --delays $delays"
     ends 0 reaches '' "leastfault run $late '' --delays ''"
     ends 0 reaches '' "leastfault run $late ''"
     expect 0 'none 2' '' "sed 's/patience = 10/patience = 11/' $late | leastfault answer - --every-delay --quiet"
-    ends 1 '+ misses' '' "leastfault run $late '' --beside 'crash 0 @24' --delays $delays"
+    ends 1 '= misses' '' "leastfault run $late '' --beside 'crash 0 @24' --delays $delays"
     ends 1 misses '' "leastfault run $late '' --changes --delays $delays"
     ends 1 '}' '' "leastfault run $late '' --json --delays $delays"
     ends 1 '</svg>' '' "leastfault draw $late '' --delays $delays"
     # Where no link has a spread, it is the answer, with its status.
-    expect 1 $'least 2\nomit 0>1 @1\ncrash 0 @2' '?*' 'leastfault answer examples/crash_between_tries.toml --every-delay'
+    expect 1 $'least 2\nomit 0>1 @1\ncrash 0 @2' '' 'leastfault answer examples/crash_between_tries.toml --every-delay'
     # Refusals: the scenario's, then that of the delays, then that of the faults.
     expect 2 'refused delays' '?*' "leastfault run $late '' --delays '0>2 @1 6'"
     expect 2 'refused delays' '?*' "leastfault run $late '' --delays '0>2 @1 1'"
