@@ -48,6 +48,7 @@
 //! `--quiet` it doesn't.
 #![tactic(auto)]
 
+mod combination;
 mod devices;
 mod json_line;
 mod kept;
@@ -71,6 +72,7 @@ use lf_hints::{
 };
 use lf_own_hints::{own_hint, run_notes};
 use lf_protocol_hints::{protocol_hint, protocol_notes};
+use lf_words::shell_word;
 use line::Line;
 use std::alloc::{AllocError, Global};
 use std::env;
@@ -328,25 +330,24 @@ fn found_hint(
     texts: &Texts<'_>,
 ) -> Result<String, AllocError> {
     match asked {
-        Asked::Answer {
-            file,
-            every_delay: true,
-            ..
-        } if file.as_str() != "-" => {
-            see_late_hint(
-                alloc,
-                file.as_str(),
-                asked.protocol_file(),
-                reply.as_bytes(),
-            )
-        }
         Asked::Search { file, .. } | Asked::Answer { file, .. } if file.as_str() != "-" => {
-            see_hint(
-                alloc,
-                file.as_str(),
-                asked.protocol_file(),
-                reply.as_bytes(),
-            )
+            let file = shell_word(alloc, file.as_str())?;
+            let protocol = match asked.protocol_file() {
+                Some(protocol) => Some(shell_word(alloc, protocol)?),
+                None => None,
+            };
+            let (file, protocol) = (file.as_str(), protocol.as_deref());
+            if matches!(
+                asked,
+                Asked::Answer {
+                    every_delay: true,
+                    ..
+                }
+            ) {
+                see_late_hint(alloc, file, protocol, reply.as_bytes())
+            } else {
+                see_hint(alloc, file, protocol, reply.as_bytes())
+            }
         }
         _ => wrong_hint(alloc, asked, reply, texts),
     }

@@ -2,6 +2,7 @@
 
 ghost use Rattle.std.specs.Prelude.{◌≡◌, false};
 
+use crate::combination::refused_words;
 use crate::devices::{Text, name_of, opened, opened_by_name, print};
 use crate::report::{Report, Unwritten};
 use crate::stop::Stop;
@@ -104,8 +105,12 @@ fn swept(
     match ended(threads, alloc, asked, protocol, study, &mut report) {
         Ok(_) => {
             if !asked.quiet {
-                if let Ok(words) = report.tally().words(alloc, names.as_slice()) {
-                    let _told = eprintln!(rt; "{words}").is_ok();
+                hinted(rt, report.tally().words(alloc, names.as_slice()));
+                if let Some(line) = report.tally().first_refused() {
+                    hinted(
+                        rt,
+                        refused_words(alloc, protocol, study, names.as_slice(), line),
+                    );
                 }
             }
             Ok(report.tally().status())

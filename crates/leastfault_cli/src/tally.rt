@@ -11,6 +11,8 @@ pub(crate) struct Tally {
     refused: u64,
     full: u64,
     fewest: Option<Fewest>,
+    /// The line of the first combination that is refused, without its line feed.
+    first_refused: Option<String>,
 }
 
 /// The first combination with the fewest faults.
@@ -31,6 +33,7 @@ impl Tally {
             refused: 0,
             full: 0,
             fewest: None,
+            first_refused: None,
         }
     }
 
@@ -52,9 +55,19 @@ impl Tally {
                     self.add_least(faults, line)?;
                 }
             }
-            _ => self.refused = self.refused.saturating_add(1),
+            _ => {
+                self.refused = self.refused.saturating_add(1);
+                if self.first_refused.is_none() {
+                    self.first_refused = Some(String::from_str(self.alloc, line)?);
+                }
+            }
         }
         Ok(())
+    }
+
+    /// The line of the first combination that is refused, if one is, without its line feed.
+    pub(crate) fn first_refused(&self) -> Option<&str> {
+        self.first_refused.as_deref()
     }
 
     /// Keeps a line with so many faults, where none before has as few.

@@ -10,9 +10,19 @@ use lf_scenario::{Key, LONGEST, ScenarioError};
 use std::alloc::{AllocError, Global};
 use toml::{Table, Value};
 
-/// What is wrong with a text that `lf_scenario`'s `read` refuses with this error. The error here is that memory has run out.
+/// What is wrong with a text that `lf_scenario`'s `read` refuses with this error. The error here, also below, is that memory has run out.
 pub fn scenario_hint(
     alloc: Global,
+    text: &[u8],
+    error: ScenarioError,
+) -> Result<String, AllocError> {
+    made_hint(alloc, text, text, error)
+}
+
+/// The same of a text that was made of another: lines are those of that one.
+pub(crate) fn made_hint(
+    alloc: Global,
+    origin: &[u8],
     text: &[u8],
     error: ScenarioError,
 ) -> Result<String, AllocError> {
@@ -22,7 +32,7 @@ pub fn scenario_hint(
         }
         ScenarioError::Memory => Err(AllocError),
         _ => match toml::table_from_slice(alloc, text) {
-            Ok(table) => told(alloc, table_hint(alloc, text, &table, error)?),
+            Ok(table) => told(alloc, table_hint(alloc, origin, &table, error)?),
             Err(fault) => toml_hint(alloc, text, &fault),
         },
     }

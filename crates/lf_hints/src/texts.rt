@@ -4,7 +4,7 @@ use crate::delays::delays_hint as delays_hint_of;
 use crate::faults::faults_hint;
 use crate::full::{Wanted, full_hint};
 use crate::hint::told;
-use crate::scenario::scenario_hint;
+use crate::scenario::{made_hint, scenario_hint};
 use crate::see::{late_run_command, run_command};
 use crate::takes::at;
 use crate::tree::tree_hint;
@@ -34,6 +34,15 @@ fn search_hint_for(
     match read(alloc, text) {
         Ok(scenario) => level_hint(alloc, &scenario, wanted, reply),
         Err(error) => scenario_hint(alloc, text, error),
+    }
+}
+
+/// What is wrong with the text of a combination of a sweep, which was made of this scenario's: lines are those of the scenario. Nothing
+/// where it isn't refused.
+pub fn combination_hint(alloc: Global, scenario: &[u8], text: &[u8]) -> Result<String, AllocError> {
+    match read(alloc, text) {
+        Ok(_) => Ok(String::new(alloc)),
+        Err(error) => made_hint(alloc, scenario, text, error),
     }
 }
 
