@@ -554,7 +554,10 @@ test_sweep() {
     local commit=examples/blocked_commit.toml vary='--vary patience=1..3 --vary crashes=0,1,9 --vary outcome=agreement,unblocked' all n
     local raft=examples/protocols/raft_election.toml own=examples/protocols/scenarios/raft_election_forgets.toml
     expect 1 $'0\tnone 0\n1\tleast 1\tcrash 0 @2\n7\trefused 6 budget' \
-        '3 combinations: 1 none, 1 least, 1 refused; the fewest faults: 1, first at budget=1'$'\n' "leastfault sweep $commit --vary budget=0,1,7"
+        '3 combinations: 1 none, 1 least, 1 refused; the fewest faults: 1, first at budget=1'$'\nrefused, first at budget=7: budget = 7: a whole number from 0 to 6\n' \
+        "leastfault sweep $commit --vary budget=0,1,7"
+    expect 2 $'1\trefused 4' $'1 combinations: 0 none, 0 least, 1 refused\nrefused, first at patiense=1: "patiense": no such key; did you mean `patience`?\n' \
+        "leastfault sweep $commit --vary patiense=1"
     expect 0 $'agreement\tnone 1' $'1 combinations: 1 none, 0 least\n' "leastfault sweep - --vary outcome=agreement <$commit"
     expect 2 $'x\trefused 10 outcome' '' "leastfault sweep $commit --vary outcome=x --quiet"
     expect 2 $'5\tfull 2 6\n100\tnone 6' '' 'leastfault sweep examples/three_tries.toml --vary max_sets=5,100 --by search --quiet'

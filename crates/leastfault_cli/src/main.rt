@@ -30,7 +30,7 @@
 //!
 //! `sweep` prints a line for each combination of values: the values, and the reply to the scenario that has them, with tabs between. `--vary` gives
 //! a key its values, `--by` says which command replies, `--part` takes one of N parts of the combinations, and `--json` makes each line an object.
-//! Standard error counts the replies, but with `--quiet`.
+//! Standard error counts the replies and says what is wrong with the first combination that is refused, but with `--quiet`.
 //!
 //! `protocol` prints `ok` where the file is a protocol file, and else `refused protocol NUMBER PLACE`, without the place where the file as
 //! a whole is refused.

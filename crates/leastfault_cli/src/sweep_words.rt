@@ -18,7 +18,8 @@ const NOTES: &str =
     "KEY is a key of the scenario, or given.NAME for a constant of its protocol. VALUES are A..B, all whole numbers from A to B, or
 values with commas between. Of seed they are the last digits.
 
-A combination that is refused has its line, as any other. A last line on standard error counts the replies.
+A combination that is refused has its line, as any other. At the end standard error counts the replies, and says what is wrong with
+the first combination that is refused.
 
 Examples:
   leastfault sweep commit.toml --vary patience=1..8 --vary seed=0..99

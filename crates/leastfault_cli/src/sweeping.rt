@@ -88,7 +88,7 @@ fn read(
     swept(rt, threads, asked, protocol, &study)
 }
 
-/// Sweeps, and counts the replies on standard error.
+/// Sweeps, counts the replies on standard error, and says there what is wrong with the first combination that is refused.
 fn swept(
     rt: &HostRuntime,
     threads: &(impl Threads + Sync),
