@@ -1,4 +1,4 @@
-use Rattle.std.proofs.Common.{◌≡◌, [], ◌∷◌, ◌∙◌, sym, subst, arith}
+use Rattle.std.proofs.Common.{[], ◌∷◌, ◌∙◌, sym, subst, arith}
 use Rattle.lf_work.specs.Scratches.{IsScratchFor}
 use Rattle.lf_pool.specs.Holds.{AreJobsOf, IsJobOf}
 use Rattle.lf_pool.proofs.HoldLemmas.{one-off}

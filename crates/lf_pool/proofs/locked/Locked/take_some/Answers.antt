@@ -1,4 +1,4 @@
-use Rattle.std.proofs.Common.{◌≡◌, sym, subst, ◌∙◌, arith, List}
+use Rattle.std.proofs.Common.{sym, subst, ◌∙◌, arith, List}
 use Rattle.std.proofs.lemmas.List.Elements.{All-push}
 use Rattle.lf_scenario.specs.declared.scenario.Scenario.{Scenario}
 use Rattle.lf_book.specs.Books.{scenario_of, task_of_job, IsGivenFor}

@@ -6,7 +6,7 @@ use Rattle.lf_pool.proofs.ScenarioLemmas.{last-got, found-of-some}
 use Rattle.lf_pool.proofs.shared.SharedBook.work_handful.Goals as goal
 
 pub work_each-worked-requires-clause-same : goal.work_each-worked-requires-clause-same
-work_each-worked-requires-clause-same g c =
+work_each-worked-requires-clause-same g c κs within =
     let jobs = c.take_handful.new.jobs.items in
     let same = c.take_handful.ensures.same in
     let value = rw (c.deref.ensures.value) at c.last.ensures.value in
