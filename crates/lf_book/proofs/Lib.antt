@@ -3,6 +3,7 @@ mod CountLemmas
 mod DriveLemmas
 mod EndedLemmas
 mod FilingLemmas
+mod GivenLemmas
 mod HeldLemmas
 pub mod Laws
 mod LeastLemmas

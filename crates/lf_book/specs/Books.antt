@@ -50,6 +50,12 @@ pub record IsJobFor (book : Book) (p : List ℕ) (t : ℕ) (job : Job) : Type 0 
   pub ticket : job.ticket ≡ t
   pub works : task_at (state_of book).marks p ≡ Some (task_of_job job)
 
+-- the set at a path is worked with the task in a state that a search of the scenario can have: so it is in all of them in which it stands
+pub record IsGivenFor (s : Scenario) (path : List ℕ) (task : Task) : Type 0 where
+  pub state : State
+  pub closed : ∥ IsClosedFor s state ∥₁
+  pub works : task_at state.marks path ≡ Some task
+
 -- a take's answer: a job of the scenario, whose set is claimed now, or why there is none
 abbrev pub IsTaken : Book → Book → Taken → Type 0
 IsTaken old new (taken.Job job) =

@@ -3,7 +3,7 @@
 ghost use Rattle.std.specs.Prelude.{◌≡◌, ◌≢◌, ◌↔◌, ℕ, true, false, List, Some, OnOk, OnErr, IfErr, IsTrue, MatchOption};
 ghost use Rattle.std.specs.Arc.{arc_value};
 ghost use Rattle.lf_book.specs.Books.{scenario_of, state_of, task_of_job, task_of_finding, number_of};
-ghost use Rattle.lf_book.specs.Books.{IsRefusedFor, IsFiled, IsFoundOf, IsGivenBack, IsClaimOf};
+ghost use Rattle.lf_book.specs.Books.{IsRefusedFor, IsFiled, IsFoundOf, IsGivenBack, IsClaimOf, IsGivenFor};
 ghost use Rattle.lf_faults.specs.Faults.{set_is_before};
 ghost use Rattle.lf_marks.specs.Answers.{mark_for};
 ghost use Rattle.lf_marks.specs.Marks.{mark_at, level_of};
@@ -86,6 +86,27 @@ impl Book {
         Ok(())
     }
 
+    /// The same, for a finding that is known to be of the book's scenario, and of a job that a book of that scenario gave out: its set and its
+    /// exclusions aren't compared, since they are the same in every such book.
+    pub fn file_given(&mut self, finding: Finding) -> Result<(), (Refusal, Finding)>
+        requires same { AreSame (scenario_of self.old) (arc_value finding.job.scenario) }
+        requires given { IsGivenFor (arc_value finding.job.scenario) finding.job.path.items (task_of_finding finding) }
+        ensures ok { OnOk result (IsClaimOf self.old finding.job.ticket (arc_value finding.job.scenario) finding.job.path.items (task_of_finding finding)) }
+        ensures filed { OnOk result (IsFiled finding self.old self.new) }
+        ensures found { OnOk result (IsFoundOf finding) }
+        ensures refused { IfErr result (λ back. IsRefusedFor self.old finding.job.ticket (arc_value finding.job.scenario) finding.job.path.items
+            (task_of_finding finding) back.0) }
+        ensures back { IfErr result (λ back. back.1 ≡ finding) }
+        ensures unchanged { OnErr result (self.new ≡ self.old) }
+        ensures scenario { scenario_of self.new ≡ scenario_of self.old }
+    {
+        if let Some(refusal) = self.refusal_given(finding.job()) {
+            return Err((refusal, finding));
+        }
+        self.file_claimed(finding);
+        Ok(())
+    }
+
     /// The same, for a finding that is known to be of a claim of the book, as one is of a job that was taken in the same turn: nothing is
     /// compared.
     pub fn file_claimed(&mut self, finding: Finding)
@@ -154,6 +175,20 @@ impl Book {
             return Some(Refusal::OtherSet);
         }
         None
+    }
+
+    /// Why a job that a book of the same scenario gave out is of no claim of the book. None where it is of one.
+    fn refusal_given(&self, job: &Job) -> Option<Refusal>
+        requires same { AreSame (scenario_of self.now) (arc_value job.now.scenario) }
+        requires given { IsGivenFor (arc_value job.now.scenario) job.now.path.items (task_of_job job.now) }
+        ensures { MatchOption result
+            (IsClaimOf self.now job.now.ticket (arc_value job.now.scenario) job.now.path.items (task_of_job job.now))
+            (IsRefusedFor self.now job.now.ticket (arc_value job.now.scenario) job.now.path.items (task_of_job job.now)) }
+    {
+        if self.marks.is_claimed_at(job.ticket(), job.path()) {
+            return None;
+        }
+        Some(self.refusal_elsewhere(job, true))
     }
 
     /// Why a job is refused whose ticket doesn't claim the set at its path.

@@ -1,13 +1,19 @@
 -- Jobs and findings of one scenario.
-use Rattle.std.proofs.Common.{◌≡◌, ◌-◌, Some, None, inl, inr, sym, ◌∙◌, subst, length, List, [], ◌∷◌, ◌++◌}
+use Rattle.std.proofs.Common.{◌≡◌, ℕ, ◌-◌, Some, None, inl, inr, sym, ◌∙◌, subst, length, List, [], ◌∷◌, ◌++◌, arith, take, drop}
 use Rattle.std.proofs.lemmas.Option.{slice_get_cases}
 use Rattle.std.proofs.lemmas.List.Elements.{All-nil, All-cons, All-push, All-head, All-tail}
 use Rattle.std.specs.Arc.{arc_value}
 use Rattle.std.specs.List.{All, slice_get}
+use Rattle.std.specs.List.Sorted.{IsPermutation}
+use Rattle.std.proofs.lemmas.List.{take_at}
+use Rattle.std.proofs.lemmas.List.Sorted.{All-permutation}
 use Rattle.lf_scenario.specs.declared.scenario.Scenario.{Scenario}
 use Rattle.lf_work.specs.declared.finding.Finding.{Finding}
 use Rattle.lf_work.specs.declared.job.Job.{Job}
-use Rattle.lf_pool.specs.Holds.{AreJobsOf, AreOfJobs}
+use Rattle.lf_book.specs.Books.{IsGivenFor}
+use Rattle.lf_faults.specs.declared.fault.Parts.{Parts}
+use Rattle.lf_work.specs.Jobs.{IsOfJob}
+use Rattle.lf_pool.specs.Holds.{AreJobsOf, AreOfJobs, IsFoundFor, IsJobOf}
 
 -- of a list what is so of all is so of its first part,
 pub front : {X : Type 0} (P : X → Type 0) (xs ys : List X) → All P (xs ++ ys) → All P xs
@@ -28,18 +34,27 @@ within P whole old new done x h e all =
 -- the last job of jobs of a scenario is of that scenario,
 pub last-of : (s : Scenario) (old new : List Job) (job : Job) → old ≡ new ++ job ∷ [] → AreJobsOf s old → arc_value job.scenario ≡ s
 last-of s old new job e all =
-    let P : Job → Type 0 = λ j. arc_value j.scenario ≡ s in
-    All-head P job [] (back P new (job ∷ []) (subst (All P) e all))
+    (All-head (IsJobOf s) job [] (back (IsJobOf s) new (job ∷ []) (subst (AreJobsOf s) e all))).0
+
+-- what is found of a job that a book gave out is of such a job
+same-given : (s : Scenario) (p q : List ℕ) (fs gs es ds : List Parts) → q ≡ p → gs ≡ fs → ds ≡ es
+    → IsGivenFor s p (record { faults = fs; excluded = es }) → IsGivenFor s q (record { faults = gs; excluded = ds })
+same-given s p q fs gs es ds paths sets excluded h = rw (paths, sets, excluded) h
+
+found-for : (s : Scenario) (job : Job) (finding : Finding) → IsOfJob job finding → IsJobOf s job → IsFoundFor s finding
+found-for s job finding of h = (
+  of.scenario ∙ h.0,
+  same-given s job.path.items finding.job.path.items job.set finding.job.set job.excluded.items finding.job.excluded.items of.path of.set of.excluded h.1,
+)
 
 -- and what is found of jobs of a scenario is of that scenario
 pub found-of : (s : Scenario) (jobs : List Job) (findings : List Finding) → AreJobsOf s jobs → AreOfJobs jobs findings
-    → All (λ (f : Finding). arc_value f.job.scenario ≡ s) findings
-found-of s [] findings h of = subst (All (λ (f : Finding). arc_value f.job.scenario ≡ s)) (sym of) (All-nil (λ (f : Finding). arc_value f.job.scenario ≡ s))
+    → All (IsFoundFor s) findings
+found-of s [] findings h of = subst (All (IsFoundFor s)) (sym of) (All-nil (IsFoundFor s))
 found-of s (job ∷ jobs) findings h of =
-    let P : Finding → Type 0 = λ f. arc_value f.job.scenario ≡ s in
-    let others = found-of s jobs of.0 (All-tail (λ (j : Job). arc_value j.scenario ≡ s) job jobs h) of.4 in
-    let own : arc_value of.1.job.scenario ≡ s = of.3.scenario ∙ All-head (λ (j : Job). arc_value j.scenario ≡ s) job jobs h in
-    subst (All P) (sym of.2) (All-push P of.0 of.1 others own)
+    let others = found-of s jobs of.0 (All-tail (IsJobOf s) job jobs h) of.4 in
+    let own = found-for s job of.1 of.3 (All-head (IsJobOf s) job jobs h) in
+    subst (All (IsFoundFor s)) (sym of.2) (All-push (IsFoundFor s) of.0 of.1 others own)
 
 -- the job that stands last of jobs of a scenario is of it
 pub last-got : (s : Scenario) (jobs : List Job) (job : Job) → AreJobsOf s jobs → slice_get jobs (length jobs - 1) ≡ Some job
@@ -48,14 +63,18 @@ last-got s jobs job all got = elim ((slice_get_cases jobs (length jobs - 1)).1) 
   | inl found ↦
       let same : found.0 ≡ job = (let e : Some found.0 ≡ Some job = sym found.2 ∙ got in cc) in
       let there : arc_value found.0.scenario ≡ s =
-      subst (λ (j : Job). arc_value j.scenario ≡ s) found.3 (all (length jobs - 1) found.0 found.1) in
+      (subst (IsJobOf s) found.3 (all (length jobs - 1) found.0 found.1)).0 in
       subst (λ (j : Job). arc_value j.scenario ≡ s) same there
   | inr none ↦ let never : None ≡ Some job = sym none.1 ∙ got in absurd cc
 ]
 
 -- of jobs of a scenario what is found of those at the end is of it
 pub found-of-some : (s : Scenario) (jobs left done : List Job) (findings : List Finding) → AreJobsOf s jobs → jobs ≡ left ++ done
-    → AreOfJobs done findings → All (λ (f : Finding). arc_value f.job.scenario ≡ s) findings
-found-of-some s jobs left done findings all is of =
-    let P : Job → Type 0 = λ j. arc_value j.scenario ≡ s in
-    found-of s done findings (back P left done (subst (All P) is all)) of
+    → AreOfJobs done findings → All (IsFoundFor s) findings
+found-of-some s jobs left done findings all is of = found-of s done findings (back (IsJobOf s) left done (subst (AreJobsOf s) is all)) of
+
+-- and jobs that are turned around are of it
+pub turned-jobs : (s : Scenario) (jobs turned : List Job) (n : ℕ) → IsPermutation jobs turned → length jobs ≡ n → length turned ≡ length jobs
+    → AreJobsOf s jobs → AreJobsOf s (take n (turned ++ drop (length turned) jobs))
+turned-jobs s jobs turned n same long as-long all =
+    subst (AreJobsOf s) (sym (take_at turned (drop (length turned) jobs) n (omega (arith, long, as-long)))) (All-permutation (IsJobOf s) jobs turned same all)

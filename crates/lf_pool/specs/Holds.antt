@@ -8,7 +8,7 @@ use Rattle.std.specs.Arc.{arc_value}
 use Rattle.std.specs.List.{All}
 use Rattle.lf_scenario.specs.Sameness.{AreSame}
 use Rattle.lf_scenario.specs.declared.scenario.Scenario.{Scenario}
-use Rattle.lf_book.specs.Books.{scenario_of, state_of, task_of_finding, task_of_job, IsTaken, IsDeepened, IsFiled, IsGivenBack, IsClaimOf}
+use Rattle.lf_book.specs.Books.{scenario_of, state_of, task_of_finding, task_of_job, IsTaken, IsDeepened, IsFiled, IsGivenBack, IsClaimOf, IsGivenFor}
 use Rattle.lf_book.specs.declared.book.Book.{Book}
 use Rattle.lf_book.specs.declared.taking.Taken.TheVariants as taken
 use Rattle.lf_search.specs.Events.{FindsBusy}
@@ -70,14 +70,23 @@ AreOfJobs [] findings = findings ≡ []
 AreOfJobs (job ∷ jobs) findings = (others : List Finding) × (finding : Finding) × (findings ≡ others ++ finding ∷ []) × IsOfJob job finding
     × AreOfJobs jobs others
 
--- jobs are of a scenario
+-- a job is of a scenario, and a book of that scenario gave it out
+abbrev pub IsJobOf : Scenario → Job → Type 0
+IsJobOf s job = (arc_value job.scenario ≡ s) × IsGivenFor s job.path.items (task_of_job job)
+
 abbrev pub AreJobsOf : Scenario → List Job → Type 0
-AreJobsOf s = All (λ job. arc_value job.scenario ≡ s)
+AreJobsOf s = All (IsJobOf s)
 
--- findings are of one scenario
+-- a finding is of such a job
+abbrev pub IsFoundFor : Scenario → Finding → Type 0
+IsFoundFor s finding = (arc_value finding.job.scenario ≡ s) × IsGivenFor s finding.job.path.items (task_of_finding finding)
+
+-- and findings are so for one scenario
 abbrev pub AreOfOne : List Finding → Type 0
-AreOfOne findings = (s : Scenario) × All (λ finding. arc_value finding.job.scenario ≡ s) findings
+AreOfOne findings = (s : Scenario) × All (IsFoundFor s) findings
 
--- a finding is of the scenario that the book searches
+-- a finding is of the scenario that the book searches, and of a job that such a book gave out
 abbrev pub IsOfBook : Book → Finding → Type 0
-IsOfBook book finding = AreSame (scenario_of book) (arc_value finding.job.scenario)
+IsOfBook book finding =
+    AreSame (scenario_of book) (arc_value finding.job.scenario)
+    × IsGivenFor (arc_value finding.job.scenario) finding.job.path.items (task_of_finding finding)

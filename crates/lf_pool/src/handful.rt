@@ -4,7 +4,7 @@ ghost use Rattle.std.specs.Prelude.{◌≤◌};
 ghost use Rattle.lf_pool.specs.declared.handful.TheConstants.{HANDFUL};
 
 /// The most sets that a worker takes in one hold of the lock.
-pub(crate) const HANDFUL: usize = 32;
+pub(crate) const HANDFUL: usize = 64;
 
 /// How many sets are open for each that a worker takes in one hold. So there are some for each worker, and the last sets of a level are
 /// taken one by one.

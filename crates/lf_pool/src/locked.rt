@@ -38,9 +38,9 @@ pub(crate) enum Begun {
 }
 
 impl<L: Ledger> Locked<L> {
-    ghost use Rattle.std.specs.Prelude.{◌+◌, ◌≤◌, [], length, vec_capacity, Ok, IfOk, MatchBool, MatchOption};
+    ghost use Rattle.std.specs.Prelude.{◌+◌, ◌≤◌, [], length, vec_capacity, Ok, IfOk, IfSome, MatchBool, MatchOption};
     ghost use Rattle.std.specs.List.{All};
-    ghost use Rattle.lf_book.specs.Books.{IsGivenBack, IsTaken};
+    ghost use Rattle.lf_book.specs.Books.{task_of_job, IsGivenBack, IsGivenFor, IsTaken};
     ghost use Rattle.lf_book.specs.declared.taking.Taken.TheVariants as taken;
     ghost use Rattle.lf_pool.specs.Holds.{AreEnded, AreFiled, AreGivenBack, AreJobsOf, AreOfOne, AreTaken, IsBegun, IsBusy, IsFindingClaimed, IsJobClaimed};
     ghost use Rattle.lf_pool.specs.declared.locked.Begun.TheVariants as begun;
@@ -64,8 +64,8 @@ impl<L: Ledger> Locked<L> {
         }
     }
 
-    /// Files a finding, which may be known to be of the book's scenario, and raises the total and the worker's share by one. Nothing changes where it
-    /// is of no claim of the book.
+    /// Files a finding, which may be known to be of a job that a book of the same scenario gave out, and raises the total and the worker's share by
+    /// one. Nothing changes where it is of no claim of the book.
     pub(crate) fn file(&mut self, share: &mut Share<L>, finding: Finding, same: bool) -> bool
         requires { IsTrue same → IsOfBook self.old.book finding }
         ensures filed { MatchBool result
@@ -121,10 +121,12 @@ impl<L: Ledger> Locked<L> {
     fn take_job(&mut self) -> Option<Job>
         ensures taken { MatchOption result (self.new.book ≡ self.old.book)
             (λ job. IsTaken self.old.book self.new.book (taken.Job job)) }
+        ensures given { IfSome result (λ job. IsGivenFor (scenario_of self.old.book) job.path.items (task_of_job job)) }
         ensures scenario { scenario_of self.new.book ≡ scenario_of self.old.book }
         ensures total { self.new.total ≡ self.old.total }
     {
         let Locked { book, total: _ } = self;
+        books_are_closed(book);
         match book.take() {
             Ok(Taken::Job(job)) => Some(job),
             Ok(Taken::Busy | Taken::LevelDone | Taken::Finished | Taken::Spent) | Err(_) => None,
@@ -152,7 +154,7 @@ impl<L: Ledger> Locked<L> {
     }
 
     /// Files findings of one scenario, the last one first, and tells how many the book didn't refuse. By so many the total and the worker's share are
-    /// raised. The scenario is compared with the book's once.
+    /// raised. The scenario is compared with the book's once, and if it is the same, no set and no exclusions are: they are those of the claim.
     fn file_all(&mut self, share: &mut Share<L>, findings: &mut Vec<Finding>) -> u64
         requires { AreOfOne findings.old.items }
         ensures filed { AreFiled findings.old.items result self.old.book self.new.book }
@@ -169,7 +171,7 @@ impl<L: Ledger> Locked<L> {
         share.filed - before
     }
 
-    /// Whether findings of one scenario are known to be of the book's.
+    /// Whether findings of jobs of one scenario are known to be of the book's.
     fn searches(&self, findings: &[Finding]) -> bool
         requires { AreOfOne findings.now }
         ensures { IsTrue result → All (IsOfBook self.now.book) findings.now }
@@ -194,7 +196,7 @@ impl<L: Ledger> Locked<L> {
     }
 }
 
-/// Files a finding, which may be known to be of the book's scenario.
+/// Files a finding, which may be known to be of a job that a book of the same scenario gave out.
 fn file_in(book: &mut Book, finding: Finding, same: bool) -> Result<(), (Refusal, Finding)>
     requires { IsTrue same → IsOfBook book.old finding }
     ensures filed { OnOk result (IsFiled finding book.old book.new) }
@@ -204,7 +206,7 @@ fn file_in(book: &mut Book, finding: Finding, same: bool) -> Result<(), (Refusal
     ensures scenario { scenario_of book.new ≡ scenario_of book.old }
 {
     if same {
-        book.file_same(finding)
+        book.file_given(finding)
     } else {
         book.file(finding)
     }

@@ -5,6 +5,7 @@ ghost use Rattle.lf_scenario.specs.declared.scenario.Scenario.{Scenario};
 ghost use Rattle.lf_work.specs.Scratches.{IsScratchFor};
 ghost use Rattle.lf_pool.specs.Holds.{AreJobsOf, AreOfJobs, AreOfOne, IsBusy};
 ghost use Rattle.std.specs.Sync.Mutex.{mutex_guard_value};
+ghost use Rattle.lf_pool.specs.declared.handful.TheConstants.{HANDFUL};
 ghost use Rattle.lf_pool.specs.declared.turning.Turn.TheVariants as turn;
 
 use crate::gate::Gate;
@@ -113,7 +114,7 @@ impl<L: Ledger> SharedBook<L> {
         ensures err { OnErr result (share.old.filed ≤ share.new.filed) }
     {
         let Hands { jobs, findings } = hands;
-        self.lock.lock(rt).take_some(jobs);
+        self.take_handful(rt, jobs);
         let Some(last) = jobs.last() else {
             return Ok(0);
         };
@@ -122,6 +123,19 @@ impl<L: Ledger> SharedBook<L> {
         let filed = self.end_some(rt, share, jobs, findings);
         worked?;
         Ok(filed)
+    }
+
+    /// Takes a handful of sets where many are open, and puts the first one last: so it is worked first and filed last. The book looks for a claim
+    /// among all that stand, from those of the highest tickets on, so it is then quick to take each out.
+    fn take_handful<R: Wait>(&self, rt: &R, jobs: &mut Vec<Job>)
+        requires none { jobs.old.items ≡ [] }
+        requires room { HANDFUL ≤ vec_capacity jobs.old }
+        ensures same { (s : Scenario) × AreJobsOf s jobs.new.items }
+        ensures few { length jobs.new.items ≤ HANDFUL }
+        ensures room { vec_capacity jobs.new ≡ vec_capacity jobs.old }
+    {
+        self.lock.lock(rt).take_some(jobs);
+        jobs.as_mut_slice().reverse();
     }
 
     /// Files what was found, gives the other jobs back, and wakes all that wait. It answers how much was filed.

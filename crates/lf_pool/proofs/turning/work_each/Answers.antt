@@ -1,8 +1,6 @@
-use Rattle.std.proofs.Common.{◌≡◌, [], ◌∷◌, ◌∙◌, sym, subst, arith}
-use Rattle.std.specs.Arc.{arc_value}
+use Rattle.std.proofs.Common.{[], ◌∷◌, ◌∙◌, sym, subst, arith}
 use Rattle.lf_work.specs.Scratches.{IsScratchFor}
-use Rattle.lf_work.specs.declared.job.Job.{Job}
-use Rattle.lf_pool.specs.Holds.{AreJobsOf}
+use Rattle.lf_pool.specs.Holds.{AreJobsOf, IsJobOf}
 use Rattle.lf_pool.proofs.HoldLemmas.{one-off}
 use Rattle.lf_pool.proofs.ScenarioLemmas.{front, last-of}
 use Rattle.lf_pool.proofs.turning.work_each.Goals as goal
@@ -25,7 +23,7 @@ jobs-preserved g c =
       worked = (c.jobs.findings.items, c.in-Ok.finding, put.items, c.in-Ok.ensures.finding, so.worked);
       same = (
         so.same.0,
-        front (λ (j : Job). arc_value j.scenario ≡ so.same.0) c.pop.new.self.items (job ∷ []) (subst (AreJobsOf so.same.0) popped.items so.same.1),
+        front (IsJobOf so.same.0) c.pop.new.self.items (job ∷ []) (subst (AreJobsOf so.same.0) popped.items so.same.1),
         subst (λ s. IsScratchFor s c.run.new.scratch)
             (last-of so.same.0 c.jobs.jobs.items c.pop.new.self.items job popped.items so.same.1) c.run.ensures.scratch,
       );

@@ -26,9 +26,9 @@ pub file-filed-requires : goal.file-filed-requires
 file-filed-requires g c = λ same.
     let so = c.findings.invariant in
     let f = c.in-Some.finding in
-    subst (λ s. AreSame s (arc_value f.job.scenario)) (sym so.scenario)
-    (within (IsOfBook c.args.self.now.book) c.args.findings.now.items c.findings.findings.items c.pop.new.self.items so.done f so.rest
-    c.in-Some.ensures.items (rw (c.deref.ensures.value) at c.searches-same.ensures same))
+    let own = within (IsOfBook c.args.self.now.book) c.args.findings.now.items c.findings.findings.items c.pop.new.self.items so.done f so.rest
+    c.in-Some.ensures.items (rw (c.deref.ensures.value) at c.searches-same.ensures same) in
+    (subst (λ s. AreSame s (arc_value f.job.scenario)) (sym so.scenario) own.0, own.1)
 
 pub searches-same-requires : goal.searches-same-requires
 searches-same-requires g c = subst AreOfOne (sym c.deref.ensures.value) c.requires

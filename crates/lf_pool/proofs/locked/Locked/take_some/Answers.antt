@@ -1,9 +1,9 @@
-use Rattle.std.proofs.Common.{◌≡◌, sym, subst, ◌∙◌, arith, List}
+use Rattle.std.proofs.Common.{sym, subst, ◌∙◌, arith, List}
 use Rattle.std.proofs.lemmas.List.Elements.{All-push}
-use Rattle.std.specs.Arc.{arc_value}
-use Rattle.lf_book.specs.Books.{scenario_of}
+use Rattle.lf_scenario.specs.declared.scenario.Scenario.{Scenario}
+use Rattle.lf_book.specs.Books.{scenario_of, task_of_job, IsGivenFor}
 use Rattle.lf_work.specs.declared.job.Job.{Job}
-use Rattle.lf_pool.specs.Holds.{AreJobsOf, AreTaken}
+use Rattle.lf_pool.specs.Holds.{AreJobsOf, AreTaken, IsJobOf}
 use Rattle.lf_pool.proofs.HoldLemmas.{taken-more}
 use Rattle.lf_pool.proofs.locked.Locked.take_some.Goals as goal
 
@@ -16,8 +16,10 @@ jobs-preserved g c =
       taken = subst (λ (l : List Job). AreTaken l c.args.self.now.book c.take_job.new.self.book) (sym put.items)
           (taken-more c.jobs.jobs.items c.in-Some.job c.args.self.now.book c.jobs.self.book c.take_job.new.self.book so.taken took.taken);
       same = subst (AreJobsOf (scenario_of c.args.self.now.book)) (sym put.items)
-          (All-push (λ (job : Job). arc_value job.scenario ≡ scenario_of c.args.self.now.book) c.jobs.jobs.items c.in-Some.job so.same
-          (took.taken.0 ∙ so.scenario));
+          (All-push (IsJobOf (scenario_of c.args.self.now.book)) c.jobs.jobs.items c.in-Some.job so.same (
+            took.taken.0 ∙ so.scenario,
+            subst (λ (s : Scenario). IsGivenFor s c.in-Some.job.path.items (task_of_job c.in-Some.job)) so.scenario took.given,
+          ));
       few = omega (arith, so.few, put.len);
       room = put.capacity ∙ so.room;
       scenario = took.scenario ∙ so.scenario;
