@@ -1,10 +1,9 @@
 -- primary_backup: no step takes back a flag that is set.
-use Rattle.std.proofs.Common.{◌≡◌, ℕ, Bool, true, false, cond, nat_eq, List, refl}
+use Rattle.std.proofs.Common.{◌≡◌, ℕ, true, cond, nat_eq, List, refl}
 use Rattle.std.specs.Prelude.{◌&&◌, not, fold}
 use Rattle.std.proofs.lemmas.Bool.{cond_both}
 use Rattle.std.proofs.lemmas.List.Folds.{fold_along}
 use Rattle.lf_sim.specs.declared.letter.Letter.{Letter}
-use Rattle.lf_sim.specs.declared.out.Stepped.{Stepped}
 use Rattle.lf_sim.specs.Outs.{note_to}
 use Rattle.lf_protocols.specs.declared.fact.Fact.{Fact}
 use Rattle.lf_protocols.specs.declared.fact.Fact.TheVariants as facts
