@@ -9,6 +9,8 @@ mod commits;
 #[cfg(test)]
 mod deliveries;
 #[cfg(test)]
+mod lasting;
+#[cfg(test)]
 mod laws;
 #[cfg(test)]
 mod limits;

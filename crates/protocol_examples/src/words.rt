@@ -7,7 +7,7 @@ use lf_sim::Machine;
 use std::process::Abort;
 
 /// Whether a word is one of a list.
-fn is_among(word: &str, list: &str) -> bool {
+pub(crate) fn is_among(word: &str, list: &str) -> bool {
     for other in list.split(' ') {
         if other == word {
             return true;

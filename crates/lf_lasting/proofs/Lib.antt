@@ -1,0 +1,6 @@
+mod Commits
+mod Deliveries
+mod Replicas
+mod Steps
+mod Views
+pub mod Laws
