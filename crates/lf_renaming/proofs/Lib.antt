@@ -1,2 +1,6 @@
 mod Names
 mod Sets
+mod Pieces
+mod Inboxes
+mod Machines
+mod Runs
