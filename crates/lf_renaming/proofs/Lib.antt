@@ -4,3 +4,7 @@ mod Pieces
 mod Inboxes
 mod Machines
 mod Runs
+mod Outs
+mod Wraps
+mod Showing
+mod Deliveries
