@@ -8,3 +8,5 @@ mod Outs
 mod Wraps
 mod Showing
 mod Deliveries
+mod NodeSets
+mod Commits
