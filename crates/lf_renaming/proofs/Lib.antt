@@ -10,3 +10,4 @@ mod Showing
 mod Deliveries
 mod NodeSets
 mod Commits
+mod TwoPhase
