@@ -11,3 +11,4 @@ mod Deliveries
 mod NodeSets
 mod Commits
 mod TwoPhase
+mod ThreePhase
