@@ -2,7 +2,6 @@ mod Names
 mod Sets
 mod Pieces
 mod Inboxes
-mod Machines
 mod Runs
 mod Outs
 mod Wraps
@@ -12,3 +11,5 @@ mod NodeSets
 mod Commits
 mod TwoPhase
 mod ThreePhase
+mod Renamings
+pub mod Laws
