@@ -10,5 +10,3 @@
 mod known;
 #[cfg(test)]
 mod texts;
-#[cfg(test)]
-mod witnesses;

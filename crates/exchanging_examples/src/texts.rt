@@ -1,9 +1,9 @@
 //! The texts of examples, and how they are compared.
 
+use lf_exchanging::answer_every_delay;
 use lf_faults::{FaultSet, fault_text};
 use lf_latency::Arrivals;
 use lf_scenario::{Scenario, read};
-use lf_exchanging::answer_every_delay;
 use std::alloc::{AllocError, Global};
 use std::process::Abort;
 
@@ -80,19 +80,5 @@ fn row_agrees(alloc: Global, row: &str) -> bool {
 pub(crate) fn answers(rt: &impl Abort, alloc: Global, table: &str) {
     for row in table.lines() {
         agrees(rt, row_agrees(alloc, row), row);
-    }
-}
-
-/// The step at which the note of a slot comes in the run that the answer to a table's first scenario shows: nodes in 0..=7, and a step in
-/// 1..=48. None where there is no such run.
-pub(crate) fn comes(alloc: Global, table: &str, from: u32, to: u32, step: u32) -> Option<u32> {
-    if from > 7 || to > 7 || step < 1 || step > 48 {
-        return None;
-    }
-    let (lines, _) = table.split_once('|').unwrap_or((table, ""));
-    let scenario = scenario(alloc, lines)?;
-    match found(alloc, &scenario)? {
-        Some(pair) => Some(pair.1.arrival(from, to, step)),
-        None => None,
     }
 }
