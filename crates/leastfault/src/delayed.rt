@@ -15,7 +15,7 @@ use lf_latency::Arrivals;
 use lf_scenario::Scenario;
 use lf_sim::run;
 use lf_watch::Watch;
-use lf_windows::every_delay_watched;
+use lf_exchanging::every_delay_watched;
 use lf_written::ProtocolFile;
 use std::alloc::{AllocError, Global};
 
