@@ -10,12 +10,12 @@ use crate::known::read_known;
 use crate::reply::Reply;
 use crate::report;
 use lf_delays::{push_delays, read_delays, told_delays};
+use lf_exchanging::every_delay_watched;
 use lf_faults::FaultSet;
 use lf_latency::Arrivals;
 use lf_scenario::Scenario;
 use lf_sim::run;
 use lf_watch::Watch;
-use lf_exchanging::every_delay_watched;
 use lf_written::ProtocolFile;
 use std::alloc::{AllocError, Global};
 
