@@ -16,7 +16,8 @@ const RELAYS: &str = concat!(
     "nodes = 3;horizon = 4;last_omission = 3;crashes = 2;budget = 1;protocol = \"redundant\";pauses = 2;pause_length = 4;least = 3;spread = 2;",
     "tries = 3;outcome = [\"shows\", 2, 2, \"lacks\"]|least 1;crash 2 @1\n",
     "nodes = 3;horizon = 5;last_omission = 3;crashes = 1;budget = 2;protocol = \"redundant\";spread = 2;tries = 1;",
-    "outcome = [\"all\", [\"any\", [\"any\", [\"shows\", 0, 5, \"lacks\"], [\"shows\", 1, 5, \"has\"]], [\"shows\", 1, 4, \"lacks\"]], [\"shows\", 0, 5, \"lacks\"]]|least 0\n",
+    "outcome = [\"all\", [\"any\", [\"any\", [\"shows\", 0, 5, \"lacks\"], [\"shows\", 1, 5, \"has\"]], ",
+    "[\"shows\", 1, 4, \"lacks\"]], [\"shows\", 0, 5, \"lacks\"]]|least 0\n",
 );
 
 #[test]
