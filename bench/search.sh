@@ -1,6 +1,6 @@
 #!/usr/bin/env bash
-# Searches the scenarios of bench/scenarios by the built program, and plainly beside it: one allowed set after another, as
-# `plain_answer` does. Prints for each what is found, and for both how many sets are run, the seconds of processor time
+# Searches the scenarios of bench/scenarios by the built program, and plainly beside it: one allowed set after another in the order of
+# `plain_answer`, but each from its first step. Prints for each what is found, and for both how many sets are run, the seconds of processor time
 # of the fastest of three runs, sets a second, and the peak memory. A plain search is stopped after three million sets.
 #
 # With --instructions it counts instructions in place of seconds, for each set and for each point (one node at one step) of it, of both
