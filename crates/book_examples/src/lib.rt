@@ -16,4 +16,6 @@ mod refusals;
 #[cfg(test)]
 mod searches;
 #[cfg(test)]
+mod spent;
+#[cfg(test)]
 mod texts;

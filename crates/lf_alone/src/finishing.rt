@@ -94,7 +94,8 @@ fn open_sets(book: &Book) -> u64 {
     book.counts().ready
 }
 
-/// Works an open set. The scenarios of the book, of its claim and of the scratch are one, so nothing is compared.
+/// Works an open set. The scenarios of the book, of its claim and of the scratch are one, so nothing is compared. The job is made of what the one
+/// before it left.
 fn work_next(book: &mut Book, scratch: &mut Scratch) -> Result<Worked, AllocError>
     requires free { IsUnclaimed (state_of book.old).marks }
     requires ready { ¬ IsUnmarked (state_of book.old).marks mark.Open }
@@ -106,14 +107,14 @@ fn work_next(book: &mut Book, scratch: &mut Scratch) -> Result<Worked, AllocErro
     ensures scenario { scenario_of book.new ≡ scenario_of book.old }
 {
     books_are_closed(book);
-    let job = match book.take()? {
+    let job = match book.take_with(scratch.take_spent())? {
         Taken::Job(job) => job,
         Taken::Spent => return Ok(Worked::Spent),
         Taken::Busy | Taken::LevelDone | Taken::Finished => unreachable!(),
     };
     books_are_closed(book);
     let finding = work_on(job, scratch)?;
-    book.file_claimed(finding);
+    scratch.keep(book.file_claimed(finding));
     Ok(Worked::Done)
 }
 

@@ -68,6 +68,13 @@ impl Book {
         &self.scenario
     }
 
+    /// The same, to be shared.
+    pub fn shared(&self) -> &Arc<Scenario>
+        ensures { arc_value result.now ≡ scenario_of self.now }
+    {
+        &self.scenario
+    }
+
     /// How many faults the sets have that may be worked, 0..=6. Every book is closed: what is marked of its sets is what their runs show,
     /// whatever calls made it.
     pub fn level(&self) -> u32

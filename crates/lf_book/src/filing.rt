@@ -1,6 +1,6 @@
 //! What becomes of claims.
 
-ghost use Rattle.std.specs.Prelude.{◌≡◌, ◌≢◌, ◌↔◌, ℕ, true, false, List, Some, OnOk, OnErr, IfErr, IsTrue, MatchOption};
+ghost use Rattle.std.specs.Prelude.{◌≡◌, ◌≢◌, ◌↔◌, ℕ, true, false, List, Some, OnOk, OnErr, IfOk, IfErr, IsTrue, MatchOption};
 ghost use Rattle.std.specs.Arc.{arc_value};
 ghost use Rattle.lf_book.specs.Books.{scenario_of, state_of, task_of_job, task_of_finding, number_of};
 ghost use Rattle.lf_book.specs.Books.{IsRefusedFor, IsFiled, IsFoundOf, IsGivenBack, IsClaimOf, IsGivenFor};
@@ -11,12 +11,13 @@ ghost use Rattle.lf_marks.specs.Steps.{Answered, GaveBack, Reclaimed, IsMarked, 
 ghost use Rattle.lf_marks.specs.Steps as marking;
 ghost use Rattle.lf_scenario.specs.Sameness.{AreSame};
 ghost use Rattle.lf_search.specs.Events.{Reclaims};
+ghost use Rattle.lf_work.specs.Jobs.{IsSpentOf};
 
 use crate::book::Book;
 use crate::facts::marks_have_shape;
 use lf_faults::FaultSet;
 use lf_marks::{Answer, Marks};
-use lf_work::{Finding, Job};
+use lf_work::{Finding, Job, Spent};
 use thiserror::Error;
 
 /// Why a finding is refused.
@@ -63,7 +64,7 @@ impl Book {
         if let Some(refusal) = self.refusal(finding.job(), same) {
             return Err((refusal, finding));
         }
-        self.file_claimed(finding);
+        let _spent = self.file_claimed(finding);
         Ok(())
     }
 
@@ -82,18 +83,19 @@ impl Book {
         if let Some(refusal) = self.refusal(finding.job(), true) {
             return Err((refusal, finding));
         }
-        self.file_claimed(finding);
+        let _spent = self.file_claimed(finding);
         Ok(())
     }
 
     /// The same, for a finding that is known to be of the book's scenario, and of a job that a book of that scenario gave out: its set and its
-    /// exclusions aren't compared, since they are the same in every such book.
-    pub fn file_given(&mut self, finding: Finding) -> Result<(), (Refusal, Finding)>
+    /// exclusions aren't compared, since they are the same in every such book. It answers what the finding's job leaves, for a later one.
+    pub fn file_given(&mut self, finding: Finding) -> Result<Spent, (Refusal, Finding)>
         requires same { AreSame (scenario_of self.old) (arc_value finding.job.scenario) }
         requires given { IsGivenFor (arc_value finding.job.scenario) finding.job.path.items (task_of_finding finding) }
         ensures ok { OnOk result (IsClaimOf self.old finding.job.ticket (arc_value finding.job.scenario) finding.job.path.items (task_of_finding finding)) }
         ensures filed { OnOk result (IsFiled finding self.old self.new) }
         ensures found { OnOk result (IsFoundOf finding) }
+        ensures spent { IfOk result (IsSpentOf (arc_value finding.job.scenario)) }
         ensures refused { IfErr result (λ back. IsRefusedFor self.old finding.job.ticket (arc_value finding.job.scenario) finding.job.path.items
             (task_of_finding finding) back.0) }
         ensures back { IfErr result (λ back. back.1 ≡ finding) }
@@ -103,23 +105,24 @@ impl Book {
         if let Some(refusal) = self.refusal_given(finding.job()) {
             return Err((refusal, finding));
         }
-        self.file_claimed(finding);
-        Ok(())
+        Ok(self.file_claimed(finding))
     }
 
     /// The same, for a finding that is known to be of a claim of the book, as one is of a job that was taken in the same turn: nothing is
-    /// compared.
-    pub fn file_claimed(&mut self, finding: Finding)
+    /// compared. It answers what the finding's job leaves, for a later one.
+    pub fn file_claimed(&mut self, finding: Finding) -> Spent
         requires { IsClaimOf self.old finding.job.ticket (arc_value finding.job.scenario) finding.job.path.items (task_of_finding finding) }
         ensures filed { IsFiled finding self.old self.new }
         ensures found { IsFoundOf finding }
+        ensures spent { IsSpentOf (arc_value finding.job.scenario) result }
         ensures scenario { scenario_of self.new ≡ scenario_of self.old }
     {
         let ticket = finding.ticket();
         let set = finding.set();
-        let answer = finding.into_answer();
+        let (spent, answer) = finding.into_parts();
         self.least = lowered(self.least, set, &answer);
         mark_answered(&mut self.marks, ticket, answer);
+        spent
     }
 
     /// Gives a job back: its set is open again. It is refused, and handed back, where no claim with its ticket, scenario, path, set and

@@ -76,7 +76,7 @@ impl Book {
         let paths = self.marks.missing()?;
         let mut sets = Vec::with_capacity(alloc, paths.len())?;
         'paths: for path in paths.as_slice() {
-            let task = self.task(alloc, path.as_slice())?;
+            let task = self.task(Vec::new(alloc), path.as_slice())?;
             sets.push(task.set)?;
         }
         Ok(sets)

@@ -17,5 +17,7 @@ pub use driving::{Event, Reply};
 pub use filing::Refusal;
 pub use finishing::Unfinished;
 pub use lf_marks::{Counts, Steps};
-pub use lf_work::{Finding, Job, Scratch, work, work_on, work_reusing, work_suited, work_up};
+pub use lf_work::{
+    Finding, Job, Scratch, Spent, work, work_on, work_reusing, work_suited, work_up,
+};
 pub use taking::Taken;

@@ -1,16 +1,20 @@
 //! Taking a set to work it.
 
-ghost use Rattle.std.specs.Prelude.{◌≡◌, ◌<◌, false, IsSome, IfOk, OnErr};
+ghost use Rattle.std.specs.Prelude.{◌≡◌, ◌<◌, false, IsSome, IfOk, IfSome, OnErr};
+ghost use Rattle.std.specs.Arc.{arc_value};
 ghost use Rattle.lf_book.specs.Books.{scenario_of, state_of, IfNoJob, IsTaken, IsNear, IsJobFor};
 ghost use Rattle.lf_book.specs.declared.taking.Taken.TheVariants as taken;
 ghost use Rattle.lf_marks.specs.Steps.{IsUnmarked};
 ghost use Rattle.lf_marks.specs.Steps as mark;
 ghost use Rattle.lf_search.specs.States.{last_ticket};
+ghost use Rattle.lf_work.specs.Jobs.{IsSpentOf};
 
 use crate::book::Book;
 use crate::facts::marks_have_shape;
+use lf_faults::Fault;
 use lf_marks::{Claimable, Steps};
-use lf_work::Job;
+use lf_scenario::Scenario;
+use lf_work::{Job, Spent};
 use std::alloc::AllocError;
 use std::marker::Brand;
 use std::sync::Arc;
@@ -43,26 +47,58 @@ impl Book {
         ensures err { OnErr result (self.new ≡ self.old) }
         ensures scenario { scenario_of self.new ≡ scenario_of self.old }
     {
-        self.take_from::<Brand>(Blank::new(1))
+        self.take_with(None)
+    }
+
+    /// The same, where a job is made of what another one of the book's scenario left: then it takes no memory for it, if that has enough.
+    pub fn take_with(&mut self, spent: Option<Spent>) -> Result<Taken, AllocError>
+        requires { IfSome spent (IsSpentOf (scenario_of self.old)) }
+        ensures taken { IfOk result (IsTaken self.old self.new) }
+        ensures unchanged { IfOk result (λ taken. IfNoJob taken (self.new ≡ self.old)) }
+        ensures err { OnErr result (self.new ≡ self.old) }
+        ensures scenario { scenario_of self.new ≡ scenario_of self.old }
+    {
+        self.take_from::<Brand>(spent, Blank::new(1))
     }
 
     /// The same, with steps of its own.
-    fn take_from<L: Ledger>(&mut self, blank: Blank) -> Result<Taken, AllocError>
+    fn take_from<L: Ledger>(
+        &mut self,
+        spent: Option<Spent>,
+        blank: Blank,
+    ) -> Result<Taken, AllocError>
         requires name { blank.name ≡ L.name }
         requires parts { blank.parts ≡ L.parts }
         requires some { 0 < blank.parts }
+        requires spent { IfSome spent (IsSpentOf (scenario_of self.old)) }
         ensures taken { IfOk result (IsTaken self.old self.new) }
         ensures unchanged { IfOk result (λ taken. IfNoJob taken (self.new ≡ self.old)) }
         ensures err { OnErr result (self.new ≡ self.old) }
         ensures scenario { scenario_of self.new ≡ scenario_of self.old }
     {
         let mut steps = Steps::<L>::new(blank);
-        self.take_counted(&mut steps)
+        self.take_near(spent, &mut steps)
     }
 
     /// The same, with its steps counted: a step is a look at a set on the way to an open one. For a job there are at most one, and one for
     /// each kid of the sets above its own; for any other answer there is at most one.
     pub fn take_counted<L: Ledger>(&mut self, steps: &mut Steps<L>) -> Result<Taken, AllocError>
+        ensures taken { IfOk result (IsTaken self.old self.new) }
+        ensures steps { IfOk result (λ taken. IsNear (state_of self.old).marks taken steps.old steps.new) }
+        ensures unchanged { IfOk result (λ taken. IfNoJob taken (self.new ≡ self.old)) }
+        ensures err { OnErr result (self.new ≡ self.old) }
+        ensures scenario { scenario_of self.new ≡ scenario_of self.old }
+    {
+        self.take_near(None, steps)
+    }
+
+    /// The same, where a job is made of what another one left.
+    fn take_near<L: Ledger>(
+        &mut self,
+        spent: Option<Spent>,
+        steps: &mut Steps<L>,
+    ) -> Result<Taken, AllocError>
+        requires { IfSome spent (IsSpentOf (scenario_of self.old)) }
         ensures taken { IfOk result (IsTaken self.old self.new) }
         ensures steps { IfOk result (λ taken. IsNear (state_of self.old).marks taken steps.old steps.new) }
         ensures unchanged { IfOk result (λ taken. IfNoJob taken (self.new ≡ self.old)) }
@@ -82,43 +118,65 @@ impl Book {
         if self.next == LAST_TICKET {
             return Ok(Taken::Spent);
         }
-        Ok(Taken::Job(self.claim(steps)?))
+        Ok(Taken::Job(self.claim(spent, steps)?))
     }
 
     /// Claims an open set, and tells its job. All memory is taken before the book is changed.
-    fn claim<L: Ledger>(&mut self, steps: &mut Steps<L>) -> Result<Job, AllocError>
+    fn claim<L: Ledger>(
+        &mut self,
+        spent: Option<Spent>,
+        steps: &mut Steps<L>,
+    ) -> Result<Job, AllocError>
         requires going { (state_of self.old).finished ≡ false }
         requires ready { ¬ IsUnmarked (state_of self.old).marks mark.Open }
         requires room { (state_of self.old).next < last_ticket }
+        requires spent { IfSome spent (IsSpentOf (scenario_of self.old)) }
         ensures taken { IfOk result (λ job. IsTaken self.old self.new (taken.Job job)) }
         ensures steps { IfOk result (λ job. IsNear (state_of self.old).marks (taken.Job job) steps.old steps.new) }
         ensures err { OnErr result (self.new ≡ self.old) }
         ensures scenario { scenario_of self.new ≡ scenario_of self.old }
     {
         let ticket = self.next;
-        let found = self.marks.find_open(steps)?;
+        let Spent {
+            scenario,
+            excluded,
+            path,
+        } = self.spent_or_new(spent)?;
+        let found = self.marks.find_open(path, steps)?;
         let Some(Claimable { path, room }) = found else {
             unreachable!()
         };
-        let job = self.job(path, ticket)?;
+        let job = self.job(scenario, excluded, path, ticket)?;
         self.marks.claim(ticket, room, steps);
         marks_have_shape(&self.marks);
         self.next += 1;
         Ok(job)
     }
 
-    /// The job of a set, by a ticket.
-    fn job(&self, path: Vec<usize>, ticket: u64) -> Result<Job, AllocError>
-        requires { IsSome ((state_of self.now).marks path.items) }
+    /// What another job of the book's scenario left, or else what a first one is made of.
+    fn spent_or_new(&self, spent: Option<Spent>) -> Result<Spent, AllocError>
+        requires { IfSome spent (IsSpentOf (scenario_of self.now)) }
+        ensures { IfOk result (IsSpentOf (scenario_of self.now)) }
+    {
+        match spent {
+            Some(spent) => Ok(spent),
+            None => Spent::new(self.alloc, &self.scenario),
+        }
+    }
+
+    /// The job of a set, by a ticket. What is excluded is written into a list that is no longer needed, whatever it holds.
+    fn job(
+        &self,
+        scenario: Arc<Scenario>,
+        excluded: Vec<Fault>,
+        path: Vec<usize>,
+        ticket: u64,
+    ) -> Result<Job, AllocError>
+        requires scenario { arc_value scenario ≡ scenario_of self.now }
+        requires stands { IsSome ((state_of self.now).marks path.items) }
         ensures { IfOk result (IsJobFor self.now path.items ticket) }
     {
-        let task = self.task(*path.allocator(), path.as_slice())?;
-        Ok(Job::new(
-            Arc::try_clone(&self.scenario)?,
-            task.set,
-            task.excluded,
-            path,
-            ticket,
-        ))
+        let task = self.task(excluded, path.as_slice())?;
+        Ok(Job::new(scenario, task.set, task.excluded, path, ticket))
     }
 }

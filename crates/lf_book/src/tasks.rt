@@ -8,7 +8,7 @@ ghost use Rattle.lf_search.specs.Tasks.{task_at};
 
 use crate::book::Book;
 use lf_faults::{Fault, FaultSet, with};
-use std::alloc::{AllocError, Global};
+use std::alloc::AllocError;
 
 /// A set, and what is excluded beneath it.
 #[derive(Drop)]
@@ -18,13 +18,15 @@ pub(crate) struct Task {
 }
 
 impl Book {
-    /// What the set at a path is worked with.
-    pub(crate) fn task(&self, alloc: Global, path: &[usize]) -> Result<Task, AllocError>
+    /// What the set at a path is worked with. What is excluded is written into a list that is no longer needed, whatever it holds.
+    pub(crate) fn task(&self, spent: Vec<Fault>, path: &[usize]) -> Result<Task, AllocError>
         requires { IsSome ((state_of self.now).marks path.now) }
         ensures { IfOk result (λ task. task_at (state_of self.now).marks path.now ≡ Some (record { faults = task.set; excluded = task.excluded.items })) }
     {
         let mut set = FaultSet::empty();
-        let mut excluded = Vec::with_capacity(alloc, sum(path))?;
+        let mut excluded = spent;
+        excluded.clear();
+        excluded.reserve(sum(path))?;
         'path: for depth in 0..path.len() {
             let (more, larger) = self.step(path, depth, &set);
             excluded.extend_from_slice(more)?;

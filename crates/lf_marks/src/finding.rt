@@ -27,12 +27,13 @@ pub struct Claimable {
 
 impl Marks {
     /// Finds the open set that the next claim takes, and makes all room that the claim needs. None where no set is open. It changes
-    /// nothing.
+    /// nothing. The path is written into a list that is no longer needed, whatever it holds.
     ///
     /// Its steps are counted: a step is a set that is looked at. For a path there are at most as many as the sets above it have kids, and
     /// for an error at most as many as the level. Where no set is open there are none.
     pub fn find_open<L: Ledger>(
         &self,
+        spent: Vec<usize>,
         steps: &mut Steps<L>,
     ) -> Result<Option<Claimable>, AllocError>
         ensures next { IfOk result (λ o. IfSome o (λ found. IsNext self.now found.path.items)) }
@@ -43,47 +44,59 @@ impl Marks {
         ensures none_steps { IfOk result (λ o. IfNone o (steps.new ≡ steps.old)) }
         ensures most_steps { steps.new ≤ steps.old + level_of self.now }
     {
-        let Some(path) = self.next_path(steps)? else {
+        let Some(path) = self.next_path(spent, steps)? else {
             return Ok(None);
         };
         let room = self.room()?;
         Ok(Some(Claimable { path, room }))
     }
 
-    /// The path of the set that the next claim takes.
-    fn next_path<L: Ledger>(&self, steps: &mut Steps<L>) -> Result<Option<Vec<usize>>, AllocError>
+    /// The path of the set that the next claim takes, in the memory of a list.
+    fn next_path<L: Ledger>(
+        &self,
+        spent: Vec<usize>,
+        steps: &mut Steps<L>,
+    ) -> Result<Option<Vec<usize>>, AllocError>
         ensures next { IfOk result (λ o. IfSome o (λ path. IsNext self.now path.items)) }
         ensures none { IfOk result (λ o. IfNone o (IsUnmarked (mark_at self.now) mark.Open)) }
         ensures none_steps { IfOk result (λ o. IfNone o (steps.new ≡ steps.old)) }
         ensures steps { steps.new ≤ steps.old + level_of self.now }
     {
         if !self.opened.is_empty() {
-            return Ok(Some(self.path_again(steps)?));
+            return Ok(Some(self.path_again(spent, steps)?));
         }
         if self.at < self.queue.len() {
-            return Ok(Some(self.path_next(steps)?));
+            return Ok(Some(self.path_next(spent, steps)?));
         }
         Ok(None)
     }
 
-    /// The path of the last set that was given back.
-    fn path_again<L: Ledger>(&self, steps: &mut Steps<L>) -> Result<Vec<usize>, AllocError>
+    /// The path of the last set that was given back, in the memory of a list.
+    fn path_again<L: Ledger>(
+        &self,
+        spent: Vec<usize>,
+        steps: &mut Steps<L>,
+    ) -> Result<Vec<usize>, AllocError>
         requires { 0 < length self.now.opened.items }
         ensures path { IfOk result (λ path. LeadsToLast self.now.sets.items self.now.opened.items path.items) }
         ensures steps { steps.new ≤ steps.old + level_of self.now }
     {
         let place = self.opened[self.opened.len() - 1];
-        self.path_counted(place, steps)
+        self.path_counted(place, spent, steps)
     }
 
-    /// The path of the first set that nobody has taken.
-    fn path_next<L: Ledger>(&self, steps: &mut Steps<L>) -> Result<Vec<usize>, AllocError>
+    /// The path of the first set that nobody has taken, in the memory of a list.
+    fn path_next<L: Ledger>(
+        &self,
+        spent: Vec<usize>,
+        steps: &mut Steps<L>,
+    ) -> Result<Vec<usize>, AllocError>
         requires { self.now.at < length self.now.queue.items }
         ensures path { IfOk result (λ path. IsNextKid self.now.sets.items self.now.queue.items self.now.at path.items) }
         ensures steps { steps.new ≤ steps.old + level_of self.now }
     {
         let parent = self.queue[self.at];
-        let mut path = self.path_counted(parent, steps)?;
+        let mut path = self.path_counted(parent, spent, steps)?;
         steps.tick();
         path.push(self.taken(parent) as usize)?;
         Ok(path)
@@ -117,20 +130,23 @@ impl Marks {
         ensures { IfOk result (λ path. led_from (look self.now.sets.items) 0 path.items ≡ Some place) }
     {
         let mut steps = Steps::<L>::new(blank);
-        self.path_counted(place, &mut steps)
+        self.path_counted(place, Vec::new(*self.sets.allocator()), &mut steps)
     }
 
-    /// The same, with its steps counted: it looks at the place, and at each above it but the root.
+    /// The same, in the memory of a list, with its steps counted: it looks at the place, and at each above it but the root.
     fn path_counted<L: Ledger>(
         &self,
         place: usize,
+        spent: Vec<usize>,
         steps: &mut Steps<L>,
     ) -> Result<Vec<usize>, AllocError>
         requires { place < length self.now.sets.items }
         ensures path { IfOk result (λ path. led_from (look self.now.sets.items) 0 path.items ≡ Some place) }
         ensures steps { steps.new ≤ steps.old + (look self.now.sets.items place).depth }
     {
-        let mut path = Vec::with_capacity(*self.sets.allocator(), self.level as usize)?;
+        let mut path = spent;
+        path.clear();
+        path.reserve(self.level as usize)?;
         let mut at = place;
         while at > 0 {
             steps.tick();

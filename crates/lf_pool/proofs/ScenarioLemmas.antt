@@ -3,6 +3,8 @@ use Rattle.std.proofs.Common.{◌≡◌, ℕ, ◌-◌, Some, None, inl, inr, sym
 use Rattle.std.proofs.lemmas.Option.{slice_get_cases}
 use Rattle.std.proofs.lemmas.List.Elements.{All-nil, All-cons, All-push, All-head, All-tail}
 use Rattle.std.specs.Arc.{arc_value}
+use Rattle.std.specs.Prelude.{Option, IfSome}
+use Rattle.std.specs.Option.{option_to_list}
 use Rattle.std.specs.List.{All, slice_get}
 use Rattle.std.specs.List.Sorted.{IsPermutation}
 use Rattle.std.proofs.lemmas.List.{take_at}
@@ -30,6 +32,14 @@ pub within : {X : Type 0} (P : X → Type 0) (whole old new done : List X) (x : 
 within P whole old new done x h e all =
     let old-all : All P old = front P old done (subst (All P) h all) in
     All-head P x [] (back P new (x ∷ []) (subst (All P) e old-all))
+
+-- where an item is taken off the end of a list, if there is one, what is so of all is so of it and of the rest
+pub off-end : {X : Type 0} (P : X → Type 0) (old new : List X) (last : Option X) → old ≡ new ++ option_to_list last → All P old
+    → All P new × IfSome last P
+off-end P old new None h all = (front P new [] (subst (All P) h all), tt)
+off-end P old new (Some x) h all =
+    let whole : All P (new ++ x ∷ []) = subst (All P) h all in
+    (front P new (x ∷ []) whole, All-head P x [] (back P new (x ∷ []) whole))
 
 -- the last job of jobs of a scenario is of that scenario,
 pub last-of : (s : Scenario) (old new : List Job) (job : Job) → old ≡ new ++ job ∷ [] → AreJobsOf s old → arc_value job.scenario ≡ s

@@ -28,6 +28,7 @@ use Rattle.lf_tree.proofs.Laws.{nodes_cross}
 use Rattle.lf_work.specs.contracts.finding.Finding as finding
 use Rattle.lf_work.specs.contracts.job.Job as job
 use Rattle.lf_work.specs.contracts.scratch.Scratch as scratch
+use Rattle.lf_work.specs.contracts.spent.Spent as spent
 
 scenario_send : IsSend scenario.the_row
 scenario_send = search (protocols_cross, crosses, formulas_cross, sendable) depth 60 fits 20000
@@ -44,17 +45,20 @@ book_send = search (scenario_send, scenario_sync, marks_send, crosses, sendable)
 job_send : IsSend (job.the_field).row
 job_send = search (scenario_send, scenario_sync, crosses, sendable) depth 60 fits 20000
 
+spent_send : IsSend (spent.the_field).row
+spent_send = search (scenario_send, scenario_sync, crosses, sendable) depth 60 fits 20000
+
 answer_send : IsSend (answer.the_field).row
 answer_send = search (crosses, nodes_cross, sendable) depth 60 fits 20000
 
 finding_send : IsSend (finding.the_field).row
-finding_send = search (job_send, answer_send, scenario_send, scenario_sync, crosses, sendable) depth 60 fits 20000
+finding_send = search (job_send, answer_send, crosses, sendable) depth 60 fits 20000
 
 hands_send : IsSend hands.the_row
-hands_send = search (job_send, finding_send, crosses, sendable) depth 60 fits 20000
+hands_send = search (job_send, finding_send, spent_send, crosses, sendable) depth 60 fits 20000
 
 scratch_send : IsSend (scratch.the_field).row
-scratch_send = search (scenario_send, scenario_sync, protocols_cross, crosses, sendable) depth 60 fits 20000
+scratch_send = search (spent_send, scenario_send, scenario_sync, protocols_cross, crosses, sendable) depth 60 fits 20000
 
 module _ (T : RattleType) (g : ledger.Ghosts T.Denot) where
   locked_send : IsSend (locked.the_row T g)
@@ -73,7 +77,7 @@ module _ (T : RattleType) (g : ledger.Ghosts T.Denot) where
           part.the_send T g,
           (
             scratch_send,
-            (search (hands_send, crosses, sendable), tt),
+            (search (hands_send, crosses, sendable), (search (spent_send, crosses, sendable), tt)),
           ),
         ),
       ))

@@ -1,18 +1,21 @@
 //! What lies under the lock.
 
 ghost use Rattle.std.specs.Prelude.{◌≡◌, OnOk, OnErr, IfErr, IsTrue};
+ghost use Rattle.std.specs.List.{All};
 ghost use Rattle.std.specs.Arc.{arc_value};
 ghost use Rattle.lf_book.specs.Books.{scenario_of, task_of_finding, IsFiled, IsRefusedFor};
+ghost use Rattle.lf_work.specs.Jobs.{IsSpentOf};
 ghost use Rattle.lf_pool.specs.Holds.{IsAnsweredCount, IsOfBook};
 
 use crate::facts::books_are_closed;
 use crate::handful::handful;
 use crate::share::Share;
 use lf_book::{Book, Deepened, Refusal, Taken};
-use lf_work::{Finding, Job};
+use lf_scenario::Scenario;
+use lf_work::{Finding, Job, Spent};
 use std::alloc::AllocError;
-use std::sync::ledger;
 use std::sync::ledger::Ledger;
+use std::sync::{Arc, ledger};
 
 /// A book, which is closed as every book is, and the total of the sets that were filed: as many as are answered.
 #[derive(Drop)]
@@ -39,7 +42,6 @@ pub(crate) enum Begun {
 
 impl<L: Ledger> Locked<L> {
     ghost use Rattle.std.specs.Prelude.{◌+◌, ◌≤◌, [], length, vec_capacity, Ok, IfOk, IfSome, MatchBool, MatchOption};
-    ghost use Rattle.std.specs.List.{All};
     ghost use Rattle.lf_book.specs.Books.{task_of_job, IsGivenBack, IsGivenFor, IsTaken};
     ghost use Rattle.lf_book.specs.declared.taking.Taken.TheVariants as taken;
     ghost use Rattle.lf_pool.specs.Holds.{AreEnded, AreFiled, AreGivenBack, AreJobsOf, AreOfOne, AreTaken, IsBegun, IsBusy, IsFindingClaimed, IsJobClaimed};
@@ -74,12 +76,18 @@ impl<L: Ledger> Locked<L> {
         ensures scenario { scenario_of self.new.book ≡ scenario_of self.old.book }
     {
         let Locked { book, total } = self;
-        let Share { filed, part, .. } = share;
+        let Share {
+            filed,
+            part,
+            spent,
+            ..
+        } = share;
         books_are_closed(book);
-        if file_in(book, finding, same).is_err() {
+        let Ok(left) = file_in(book, finding, same) else {
             return false;
-        }
+        };
         books_are_closed(book);
+        keep(spent, left);
         total.add(part, 1);
         total.audit(part);
         *filed += 1;
@@ -97,8 +105,14 @@ impl<L: Ledger> Locked<L> {
         book.give_back(job).is_ok()
     }
 
-    /// Takes a handful of sets where many are open, one after another, and none where few are. The list has room for them.
-    pub(crate) fn take_some(&mut self, jobs: &mut Vec<Job>)
+    /// Takes a handful of sets where many are open, one after another, and none where few are. The list has room for them. Each job is made of what
+    /// an earlier one left, as long as there is such.
+    pub(crate) fn take_some(
+        &mut self,
+        jobs: &mut Vec<Job>,
+        spent: &mut Vec<Spent>,
+        fresh: &mut Vec<Spent>,
+    )
         requires none { jobs.old.items ≡ [] }
         requires room { HANDFUL ≤ vec_capacity jobs.old }
         ensures taken { AreTaken jobs.new.items self.old.book self.new.book }
@@ -109,16 +123,18 @@ impl<L: Ledger> Locked<L> {
         ensures total { self.new.total ≡ self.old.total }
     {
         let count = handful(self.book.counts().ready);
+        renew(self.book.shared(), count, spent, fresh);
         'jobs: for _taken in 0..count {
-            let Some(job) = self.take_job() else {
+            let Some(job) = self.take_job(fresh.pop()) else {
                 break;
             };
             jobs.push_reserved(job);
         }
     }
 
-    /// Takes a set. None where there is none to take, and where memory has run out.
-    fn take_job(&mut self) -> Option<Job>
+    /// Takes a set. None where there is none to take, and where memory has run out. Its job is made of what another one left, if there is such.
+    fn take_job(&mut self, spent: Option<Spent>) -> Option<Job>
+        requires { IfSome spent (IsSpentOf (scenario_of self.old.book)) }
         ensures taken { MatchOption result (self.new.book ≡ self.old.book)
             (λ job. IsTaken self.old.book self.new.book (taken.Job job)) }
         ensures given { IfSome result (λ job. IsGivenFor (scenario_of self.old.book) job.path.items (task_of_job job)) }
@@ -127,7 +143,7 @@ impl<L: Ledger> Locked<L> {
     {
         let Locked { book, total: _ } = self;
         books_are_closed(book);
-        match book.take() {
+        match book.take_with(spent) {
             Ok(Taken::Job(job)) => Some(job),
             Ok(Taken::Busy | Taken::LevelDone | Taken::Finished | Taken::Spent) | Err(_) => None,
         }
@@ -196,8 +212,12 @@ impl<L: Ledger> Locked<L> {
     }
 }
 
-/// Files a finding, which may be known to be of a job that a book of the same scenario gave out.
-fn file_in(book: &mut Book, finding: Finding, same: bool) -> Result<(), (Refusal, Finding)>
+/// Files a finding, which may be known to be of a job that a book of the same scenario gave out. Then it answers what the job leaves.
+fn file_in(
+    book: &mut Book,
+    finding: Finding,
+    same: bool,
+) -> Result<Option<Spent>, (Refusal, Finding)>
     requires { IsTrue same → IsOfBook book.old finding }
     ensures filed { OnOk result (IsFiled finding book.old book.new) }
     ensures refused { IfErr result (λ back. IsRefusedFor book.old finding.job.ticket (arc_value finding.job.scenario) finding.job.path.items
@@ -206,8 +226,39 @@ fn file_in(book: &mut Book, finding: Finding, same: bool) -> Result<(), (Refusal
     ensures scenario { scenario_of book.new ≡ scenario_of book.old }
 {
     if same {
-        book.file_given(finding)
-    } else {
-        book.file(finding)
+        let left = book.file_given(finding)?;
+        return Ok(Some(left));
+    }
+    book.file(finding)?;
+    Ok(None)
+}
+
+/// Keeps what a job left, if the list has room for it.
+fn keep(spent: &mut Vec<Spent>, left: Option<Spent>) {
+    let Some(left) = left else {
+        return;
+    };
+    if spent.len() < spent.capacity() {
+        spent.push_reserved(left);
+    }
+}
+
+/// Takes what so many jobs left, or as much as there is, for jobs of a scenario. All of it is counted among what shares the scenario in one go: to
+/// count keeps others from reading the scenario for a moment.
+fn renew(scenario: &Arc<Scenario>, count: usize, spent: &mut Vec<Spent>, fresh: &mut Vec<Spent>)
+    ensures { All (IsSpentOf (arc_value scenario.now)) fresh.new.items }
+{
+    fresh.clear();
+    'spent: for _renewed in 0..count {
+        if fresh.len() == fresh.capacity() {
+            break;
+        }
+        let Some(left) = spent.pop() else {
+            break;
+        };
+        let Ok(left) = left.renewed(scenario) else {
+            break;
+        };
+        fresh.push_reserved(left);
     }
 }

@@ -2,8 +2,9 @@
 
 ghost use Rattle.std.specs.Prelude.{◌≡◌};
 
+use crate::handful::HANDFUL;
 use crate::hands::Hands;
-use lf_work::Scratch;
+use lf_work::{Scratch, Spent};
 use std::alloc::Global;
 use std::sync::ledger;
 use std::sync::ledger::Ledger;
@@ -17,6 +18,8 @@ pub struct Share<L: Ledger> {
     pub(crate) scratch: Scratch,
     /// None where memory for them had run out, and while its worker has them in hand: then it takes sets one by one.
     pub(crate) hands: Option<Hands>,
+    /// What jobs left whose findings it filed, of a handful at most.
+    pub(crate) spent: Vec<Spent>,
     ghost one_part: { part.parts ≡ 1 },
     ghost same: { part.amount ≡ filed },
 }
@@ -33,6 +36,7 @@ impl<L: Ledger> Share<L> {
             part,
             scratch: Scratch::new(alloc),
             hands: Hands::new(alloc).ok(),
+            spent: room(alloc),
         }
     }
 
@@ -41,5 +45,13 @@ impl<L: Ledger> Share<L> {
         ensures { result ≡ self.now.filed }
     {
         self.filed
+    }
+}
+
+/// A list with room for what the jobs of a handful leave, or without where memory has run out.
+fn room(alloc: Global) -> Vec<Spent> {
+    match Vec::with_capacity(alloc, HANDFUL) {
+        Ok(spent) => spent,
+        Err(_) => Vec::new(alloc),
     }
 }

@@ -14,7 +14,7 @@ use crate::locked::{Begun, Locked};
 use crate::share::Share;
 use crate::shared::SharedBook;
 use lf_book::Deepened;
-use lf_work::{Finding, Job, Scratch};
+use lf_work::{Finding, Job, Scratch, Spent};
 use std::alloc::AllocError;
 use std::rt::Clock;
 use std::sync::ledger::Ledger;
@@ -113,8 +113,12 @@ impl<L: Ledger> SharedBook<L> {
         ensures filed { IfOk result (λ filed. share.new.filed ≡ share.old.filed + filed) }
         ensures err { OnErr result (share.old.filed ≤ share.new.filed) }
     {
-        let Hands { jobs, findings } = hands;
-        self.take_handful(rt, jobs);
+        let Hands {
+            jobs,
+            findings,
+            fresh,
+        } = hands;
+        self.take_handful(rt, jobs, &mut share.spent, fresh);
         let Some(last) = jobs.last() else {
             return Ok(0);
         };
@@ -127,14 +131,20 @@ impl<L: Ledger> SharedBook<L> {
 
     /// Takes a handful of sets where many are open, and puts the first one last: so it is worked first and filed last. The book looks for a claim
     /// among all that stand, from those of the highest tickets on, so it is then quick to take each out.
-    fn take_handful<R: Wait>(&self, rt: &R, jobs: &mut Vec<Job>)
+    fn take_handful<R: Wait>(
+        &self,
+        rt: &R,
+        jobs: &mut Vec<Job>,
+        spent: &mut Vec<Spent>,
+        fresh: &mut Vec<Spent>,
+    )
         requires none { jobs.old.items ≡ [] }
         requires room { HANDFUL ≤ vec_capacity jobs.old }
         ensures same { (s : Scenario) × AreJobsOf s jobs.new.items }
         ensures few { length jobs.new.items ≤ HANDFUL }
         ensures room { vec_capacity jobs.new ≡ vec_capacity jobs.old }
     {
-        self.lock.lock(rt).take_some(jobs);
+        self.lock.lock(rt).take_some(jobs, spent, fresh);
         jobs.as_mut_slice().reverse();
     }
 
@@ -198,7 +208,10 @@ fn work_each<R: Clock, G: Gate>(
 {
     'jobs: while let Some(job) = jobs.pop() {
         match gate.run(rt, &job, scratch) {
-            Ok(finding) => findings.push_reserved(finding),
+            Ok(finding) => {
+                findings.push_reserved(finding);
+                scratch.keep(job.spend());
+            }
             Err(error) => {
                 jobs.push_reserved(job);
                 return Err(error);

@@ -3,6 +3,7 @@ use Rattle.std.specs.Prelude.{◌≡◌, IfSome}
 use Rattle.std.specs.Arc.{arc_value}
 use Rattle.lf_scenario.specs.declared.scenario.Scenario.{Scenario}
 use Rattle.lf_sim.specs.Settings.{world_of}
+use Rattle.lf_work.specs.Jobs.{IsSpentOf}
 use Rattle.lf_work.specs.declared.scratch.Played.{Played}
 use Rattle.lf_work.specs.declared.scratch.Scratch.{Scratch}
 
@@ -10,6 +11,7 @@ use Rattle.lf_work.specs.declared.scratch.Scratch.{Scratch}
 abbrev pub IsPlayedFor : Scenario → Played → Type 0
 IsPlayedFor s played = world_of (arc_value played.scenario).setting ≡ world_of s.setting
 
--- no run, or one of the scenario's world
-abbrev pub IsScratchFor : Scenario → Scratch → Type 0
-IsScratchFor s scratch = IfSome scratch.played (IsPlayedFor s)
+-- no run, or one of the scenario's world; and nothing that a job left, or what one of the scenario did
+pub record IsScratchFor (s : Scenario) (scratch : Scratch) : Type 0 where
+  pub played : IfSome scratch.played (IsPlayedFor s)
+  pub spent : IfSome scratch.spent (IsSpentOf s)

@@ -6,6 +6,7 @@ ghost use Rattle.lf_sim.specs.Settings.{world_of};
 ghost use Rattle.lf_search.specs.Found.{IsFound};
 
 use crate::job::Job;
+use crate::spent::Spent;
 use lf_faults::{Fault, FaultSet};
 use lf_marks::Answer;
 use lf_outcome::Reach;
@@ -28,6 +29,7 @@ impl Finding {
     ghost use Rattle.lf_marks.specs.Steps as mark;
     ghost use Rattle.lf_outcome.specs.Truth.{reaches};
     ghost use Rattle.lf_search.specs.Found.{IsBranch};
+    ghost use Rattle.lf_work.specs.Jobs.{IsSpentOf};
 
     /// The job that was worked.
     pub fn job(&self) -> &Job
@@ -97,12 +99,14 @@ impl Finding {
         }
     }
 
-    /// The answer, without its job.
-    pub fn into_answer(self) -> Answer
-        ensures value { result ≡ self.answer }
+    /// What its job leaves, and the answer.
+    pub fn into_parts(self) -> (Spent, Answer)
+        ensures spent { IsSpentOf (arc_value self.job.scenario) result.0 }
+        ensures value { result.1 ≡ self.answer }
         ensures found { IsFound (world_of (arc_value self.job.scenario).setting) (arc_value self.job.scenario).setting.spec
-            (arc_value self.job.scenario).formula self.job.set self.job.excluded.items (mark_for result) }
+            (arc_value self.job.scenario).formula self.job.set self.job.excluded.items (mark_for result.1) }
     {
-        self.answer
+        let Finding { job, answer } = self;
+        (job.spend(), answer)
     }
 }

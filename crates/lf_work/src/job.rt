@@ -3,6 +3,7 @@
 ghost use Rattle.std.specs.Prelude.{◌≡◌};
 ghost use Rattle.std.specs.Arc.{arc_value};
 
+use crate::spent::Spent;
 use lf_faults::{Fault, FaultSet};
 use lf_scenario::Scenario;
 use std::alloc::AllocError;
@@ -19,8 +20,8 @@ pub struct Job {
 }
 
 impl Job {
-    ghost use Rattle.std.specs.Prelude.{IfOk};
-    ghost use Rattle.lf_work.specs.Jobs.{IsSameJob};
+    ghost use Rattle.std.specs.Prelude.{IfOk, IfSome};
+    ghost use Rattle.lf_work.specs.Jobs.{IsSameJob, IsSpentOf};
 
     /// The job of a set of a scenario, which stands at a path of a search's tree and is claimed by a ticket there. No set beneath it
     /// is to hold what is excluded.
@@ -81,17 +82,42 @@ impl Job {
         self.ticket
     }
 
-    /// The same job once more.
-    pub(crate) fn try_clone(&self) -> Result<Job, AllocError>
+    /// What it leaves, once it is done.
+    pub fn spend(self) -> Spent
+        ensures { IsSpentOf (arc_value self.scenario) result }
+    {
+        let Job {
+            scenario,
+            excluded,
+            path,
+            ..
+        } = self;
+        Spent {
+            scenario,
+            excluded,
+            path,
+        }
+    }
+
+    /// The same job once more, made of what another one of its scenario left, if there is such.
+    pub(crate) fn again(&self, spent: Option<Spent>) -> Result<Job, AllocError>
+        requires { IfSome spent (IsSpentOf (arc_value self.now.scenario)) }
         ensures { IfOk result (IsSameJob self.now) }
     {
-        let alloc = *self.excluded.allocator();
-        let mut excluded = Vec::with_capacity(alloc, self.excluded.len())?;
+        let Spent {
+            scenario,
+            mut excluded,
+            mut path,
+        } = match spent {
+            Some(spent) => spent,
+            None => Spent::new(*self.excluded.allocator(), &self.scenario)?,
+        };
+        excluded.clear();
         excluded.extend_from_slice(self.excluded.as_slice())?;
-        let mut path = Vec::with_capacity(alloc, self.path.len())?;
+        path.clear();
         path.extend_from_slice(self.path.as_slice())?;
         Ok(Job {
-            scenario: Arc::try_clone(&self.scenario)?,
+            scenario,
             set: self.set,
             excluded,
             path,

@@ -7,9 +7,11 @@ mod finding;
 mod job;
 mod running;
 mod scratch;
+mod spent;
 mod working;
 
 pub use finding::Finding;
 pub use job::Job;
 pub use scratch::Scratch;
+pub use spent::Spent;
 pub use working::{work, work_on, work_reusing, work_suited, work_up};

@@ -15,21 +15,22 @@ use std::alloc::AllocError;
 use std::sync::Arc;
 
 impl Scratch {
-    /// Makes it one of the job's scenario: it loses the run of another world. It takes no memory.
+    /// Makes it one of the job's scenario: it loses the run of another world, and what a job left. It takes no memory.
     pub fn suit(&mut self, job: &Job)
         ensures { IsScratchFor (arc_value job.now.scenario) self.new }
     {
-        if !suits(job, self) {
+        if !suits(job, &self.played) {
             self.played = None;
         }
+        self.spent = None;
     }
 }
 
-/// Whether a scratch has no run of another world than the job's.
-fn suits(job: &Job, scratch: &Scratch) -> bool
-    ensures { IsTrue result → IsScratchFor (arc_value job.now.scenario) scratch.now }
+/// Whether a run, if there is one, is of no other world than the job's.
+fn suits(job: &Job, played: &Option<Played>) -> bool
+    ensures { IsTrue result → IfSome played.now (IsPlayedFor (arc_value job.now.scenario)) }
 {
-    match &scratch.played {
+    match played {
         Some(played) => are_one_world(played.scenario.setting(), job.scenario().setting()),
         None => true,
     }

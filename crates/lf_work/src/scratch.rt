@@ -3,6 +3,7 @@
 ghost use Rattle.std.specs.Arc.{arc_value};
 ghost use Rattle.lf_sim.specs.Settings.{IsRun, world_of};
 
+use crate::spent::Spent;
 use lf_faults::Fault;
 use lf_protocols::Protocol;
 use lf_scenario::Scenario;
@@ -18,17 +19,21 @@ pub(crate) struct Played {
     ghost plays: { IsRun (world_of (arc_value scenario).setting) run },
 }
 
-/// What working a job leaves, and the next takes: the run of its set, of which the next run is made, and memory.
+/// What working a job leaves, and the next takes: the run of its set, of which the next run is made, memory, and what the job itself leaves.
 #[derive(Drop)]
 pub struct Scratch {
     /// The run of the last set.
     pub(crate) played: Option<Played>,
     /// Memory for required edges.
     pub(crate) edges: Vec<Fault>,
+    /// What a job left, of which the next finding's is made.
+    pub(crate) spent: Option<Spent>,
 }
 
 impl Scratch {
+    ghost use Rattle.std.specs.Prelude.{◌≡◌, IfSome, None, Some};
     ghost use Rattle.lf_scenario.specs.declared.scenario.Scenario.{Scenario};
+    ghost use Rattle.lf_work.specs.Jobs.{IsSpentOf};
     ghost use Rattle.lf_work.specs.Scratches.{IsScratchFor};
 
     /// Nothing: the first job that is worked takes memory. It serves for any scenario.
@@ -38,6 +43,26 @@ impl Scratch {
         Scratch {
             played: None,
             edges: Vec::new(alloc),
+            spent: None,
         }
+    }
+
+    /// Keeps what a job of its scenario left, in place of what it kept before. It takes no memory.
+    pub fn keep(&mut self, spent: Spent)
+        requires { IsScratchFor (arc_value spent.scenario) self.old }
+        ensures spent { self.new.spent ≡ Some spent }
+        ensures scratch { IsScratchFor (arc_value spent.scenario) self.new }
+    {
+        self.spent = Some(spent);
+    }
+
+    /// Gives what it kept away, if anything. It takes no memory.
+    pub fn take_spent(&mut self) -> Option<Spent>
+        ensures value { result ≡ self.old.spent }
+        ensures none { self.new.spent ≡ None }
+        ensures spent { (s : Scenario) → IsScratchFor s self.old → IfSome result (IsSpentOf s) }
+        ensures scratch { (s : Scenario) → IsScratchFor s self.old → IsScratchFor s self.new }
+    {
+        self.spent.take()
     }
 }

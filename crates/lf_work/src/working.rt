@@ -47,7 +47,7 @@ pub fn work_suited(job: &Job, scratch: &mut Scratch) -> Result<Finding, AllocErr
     ensures scratch { IsScratchFor (arc_value job.now.scenario) scratch.new }
 {
     let answer = worked(job, scratch)?;
-    let job = job.try_clone()?;
+    let job = job.again(scratch.spent.take())?;
     Ok(Finding { job, answer })
 }
 

@@ -53,14 +53,19 @@ fn is_done(marks: &Marks) -> bool
 }
 
 /// Takes an open set, where no other is claimed, and tells its path.
-fn take(marks: &mut Marks, ticket: u64) -> Option<Vec<usize>>
+fn take(alloc: Global, marks: &mut Marks, ticket: u64) -> Option<Vec<usize>>
     ensures { OnSome result (IsMarked (mark_at marks.new) (mark.Claimed ticket)) }
 {
-    take_by::<Brand>(marks, ticket, Blank::new(1))
+    take_by::<Brand>(alloc, marks, ticket, Blank::new(1))
 }
 
 /// The same, with steps of its own.
-fn take_by<L: Ledger>(marks: &mut Marks, ticket: u64, blank: Blank) -> Option<Vec<usize>>
+fn take_by<L: Ledger>(
+    alloc: Global,
+    marks: &mut Marks,
+    ticket: u64,
+    blank: Blank,
+) -> Option<Vec<usize>>
     requires name { blank.name ≡ L.name }
     requires parts { blank.parts ≡ L.parts }
     requires some { 0 < blank.parts }
@@ -70,7 +75,7 @@ fn take_by<L: Ledger>(marks: &mut Marks, ticket: u64, blank: Blank) -> Option<Ve
         return None;
     }
     let mut steps = Steps::<L>::new(blank);
-    let Ok(Some(Claimable { path, room })) = marks.find_open(&mut steps) else {
+    let Ok(Some(Claimable { path, room })) = marks.find_open(Vec::new(alloc), &mut steps) else {
         return None;
     };
     marks.claim(ticket, room, &mut steps);
@@ -78,8 +83,8 @@ fn take_by<L: Ledger>(marks: &mut Marks, ticket: u64, blank: Blank) -> Option<Ve
 }
 
 /// Takes a set and answers it, where no other is claimed, and tells its path.
-fn work(marks: &mut Marks, ticket: u64, answer: Answer) -> Option<Vec<usize>> {
-    let path = take(marks, ticket)?;
+fn work(alloc: Global, marks: &mut Marks, ticket: u64, answer: Answer) -> Option<Vec<usize>> {
+    let path = take(alloc, marks, ticket)?;
     marks.answer(ticket, answer);
     Some(path)
 }
@@ -108,9 +113,9 @@ fn is_grown(node: &Node) -> bool {
 }
 
 /// Whether the root of a new tree is taken and answered, and the tree shows it.
-fn answers_root(marks: &mut Marks, answer: Answer) -> bool {
+fn answers_root(alloc: Global, marks: &mut Marks, answer: Answer) -> bool {
     let is_open = are(marks.counts(), 1, 0, 0, 0);
-    let Some(root) = take(marks, 1) else {
+    let Some(root) = take(alloc, marks, 1) else {
         return false;
     };
     let is_taken = root.is_empty() && marks.is_claimed_at(1, &[]) && marks.has_claim(1);
@@ -125,7 +130,7 @@ fn answers_root(marks: &mut Marks, answer: Answer) -> bool {
 /// The same, of a tree of its own.
 fn root_is_answered(alloc: Global) -> bool {
     match (Marks::new(alloc), two_kids(alloc)) {
-        (Ok(mut marks), Some(answer)) => answers_root(&mut marks, answer),
+        (Ok(mut marks), Some(answer)) => answers_root(alloc, &mut marks, answer),
         _ => false,
     }
 }
@@ -136,8 +141,8 @@ fn answers_the_root(rt: HostRuntime) {
 }
 
 /// Whether the set that is taken third is the second kid, which then misses.
-fn second_misses(marks: &mut Marks) -> bool {
-    match work(marks, 3, Answer::Misses) {
+fn second_misses(alloc: Global, marks: &mut Marks) -> bool {
+    match work(alloc, marks, 3, Answer::Misses) {
         Some(second) => is_kid(second.as_slice(), 1),
         None => false,
     }
@@ -152,12 +157,12 @@ fn is_missing(marks: &Marks) -> bool {
 }
 
 /// Whether the root and its kids are answered, and the tree of nodes shows it.
-fn grows(marks: Marks, root: Answer, first: Answer) -> bool {
+fn grows(alloc: Global, marks: Marks, root: Answer, first: Answer) -> bool {
     let mut marks = marks;
-    let are_answered = work(&mut marks, 1, root).is_some()
+    let are_answered = work(alloc, &mut marks, 1, root).is_some()
         && lower(&mut marks)
-        && work(&mut marks, 2, first).is_some()
-        && second_misses(&mut marks)
+        && work(alloc, &mut marks, 2, first).is_some()
+        && second_misses(alloc, &mut marks)
         && is_missing(&marks);
     are_answered && is_done(&marks) && is_grown(&marks.into_nodes())
 }
@@ -165,7 +170,7 @@ fn grows(marks: Marks, root: Answer, first: Answer) -> bool {
 /// The same, of a tree of its own.
 fn two_levels_are_answered(alloc: Global) -> bool {
     match (Marks::new(alloc), two_kids(alloc), two_kids(alloc)) {
-        (Ok(marks), Some(root), Some(first)) => grows(marks, root, first),
+        (Ok(marks), Some(root), Some(first)) => grows(alloc, marks, root, first),
         _ => false,
     }
 }

@@ -24,8 +24,8 @@ jobs-preserved g c =
       same = (
         so.same.0,
         front (IsJobOf so.same.0) c.pop.new.self.items (job ∷ []) (subst (AreJobsOf so.same.0) popped.items so.same.1),
-        subst (λ s. IsScratchFor s c.run.new.scratch)
-            (last-of so.same.0 c.jobs.jobs.items c.pop.new.self.items job popped.items so.same.1) c.run.ensures.scratch,
+        subst (λ s. IsScratchFor s c.keep.new.self)
+            (c.spend.ensures ∙ last-of so.same.0 c.jobs.jobs.items c.pop.new.self.items job popped.items so.same.1) c.keep.ensures.scratch,
       );
       rooms = (popped.capacity ∙ so.rooms.0, put.capacity ∙ so.rooms.1);
       room = omega (arith, so.room, popped.len, put.len, put.capacity);

@@ -47,8 +47,8 @@ returns-clause-taken g c =
 pub unreachable-requires : goal.unreachable-requires
 unreachable-requires g c = c.requires.ready (rw c.in_default.is at c.in_ok-found.ensures.none)
 
-pub job-requires : goal.job-requires
-job-requires g c = ap is_some (rw c.in-Some.is at c.in_ok-found.ensures.ready)
+pub job-requires-clause-stands : goal.job-requires-clause-stands
+job-requires-clause-stands g c = ap is_some (rw c.in-Some.is at c.in_ok-found.ensures.ready)
 
 pub claim-requires-clause-next : goal.claim-requires-clause-next
 claim-requires-clause-next g c = (c.in-Some.field-0.path.items, rw c.in-Some.is at c.in_ok-found.ensures.next)

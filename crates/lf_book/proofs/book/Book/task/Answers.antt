@@ -4,7 +4,7 @@ use Rattle.lf_book.proofs.TaskLemmas.{whole, other-excluded}
 use Rattle.lf_book.proofs.book.Book.task.Goals as goal
 
 pub path-init : goal.path-init
-path-init c = rw (c.empty-set.ensures, c.in_ok-excluded.ensures.items) refl
+path-init c = rw (c.empty-set.ensures, c.reserve.ensures.items, c.clear.ensures.items) refl
 
 pub step-larger-requires-clause-leads : goal.step-larger-requires-clause-leads
 step-larger-requires-clause-leads c = (c.path.excluded.items, c.path.invariant)

@@ -1,4 +1,5 @@
-use Rattle.std.proofs.Common.{sym, ◌∙◌, subst, ◌+◌, arith}
+use Rattle.std.proofs.Common.{sym, ap, ◌∙◌, subst, ◌+◌, arith}
+use Rattle.std.specs.Prelude.{is_err}
 use Rattle.lf_pool.specs.Holds.{IsAnsweredCount}
 use Rattle.lf_pool.proofs.HoldLemmas.{refused-counted, file-counted}
 use Rattle.lf_pool.proofs.locked.Locked.file.Goals as goal
@@ -7,7 +8,7 @@ pub invariant_of-self : goal.invariant_of-self
 invariant_of-self g c =
     let m = c.args.self.now in
     record {
-      counted = refused-counted m.book c.file_in.new.book c.file_in.result m.total.total (sym c.is_err.ensures.value ∙ c.if-is_err.true)
+      counted = refused-counted m.book c.file_in.new.book c.file_in.result m.total.total (ap is_err c.in_default.is)
           c.file_in.ensures.unchanged m.counted;
     }
 
@@ -16,7 +17,7 @@ invariant_of-self-2 g c =
     let m = c.args.self.now in
     record {
       counted = subst (λ n. IsAnsweredCount c.file_in.new.book n) (sym (c.audit.ensures.total ∙ c.add.ensures.total))
-          (file-counted m.book c.file_in.new.book c.args.finding c.file_in.result m.total.total (sym c.is_err.ensures.value ∙ c.if-is_err.false)
+          (file-counted m.book c.file_in.new.book c.args.finding c.file_in.result m.total.total (ap is_err c.in-Ok.is)
           c.file_in.ensures.filed c.books_are_closed.ensures.closed m.counted);
     }
 
@@ -24,6 +25,6 @@ pub overflow_add-filed : goal.overflow_add-filed
 overflow_add-filed g c =
     let m = c.args.self.now in
     let more = file-counted m.book c.file_in.new.book c.args.finding c.file_in.result m.total.total
-    (sym c.is_err.ensures.value ∙ c.if-is_err.false) c.file_in.ensures.filed c.books_are_closed.ensures.closed m.counted in
+    (ap is_err c.in-Ok.is) c.file_in.ensures.filed c.books_are_closed.ensures.closed m.counted in
     let fits = c.books_are_closed-2.ensures.few (m.total.total + 1) more in
     omega (arith, fits, c.audit.ensures.bound, c.add.ensures.amount, c.add.ensures.total, c.args.share.now.same)

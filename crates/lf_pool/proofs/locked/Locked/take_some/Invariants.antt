@@ -1,5 +1,7 @@
 use Rattle.std.specs.Prelude.{◌≡◌, length, vec_capacity}
+use Rattle.std.specs.List.{All}
 use Rattle.lf_book.specs.Books.{scenario_of}
+use Rattle.lf_work.specs.Jobs.{IsSpentOf}
 use Rattle.lf_pool.specs.Holds.{AreJobsOf, AreTaken}
 use Rattle.lf_pool.proofs.locked.Locked.take_some.Given as goal
 
@@ -7,6 +9,7 @@ abbrev pub invariant-jobs : goal.invariant-jobs
 invariant-jobs g l = record {
   taken : AreTaken l.jobs.items l.initial.self.book l.self.book;
   same : AreJobsOf (scenario_of l.initial.self.book) l.jobs.items;
+  fresh : All (IsSpentOf (scenario_of l.initial.self.book)) l.fresh.items;
   few : length l.jobs.items ≡ l._taken;
   room : vec_capacity l.jobs ≡ vec_capacity l.initial.jobs;
   scenario : scenario_of l.self.book ≡ scenario_of l.initial.self.book;

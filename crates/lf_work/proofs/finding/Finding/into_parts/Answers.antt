@@ -2,7 +2,7 @@ use Rattle.std.specs.Arc.{arc_value}
 use Rattle.lf_marks.specs.Answers.{mark_for}
 use Rattle.lf_sim.specs.Settings.{world_of}
 use Rattle.lf_work.proofs.MereLemmas.{found-again}
-use Rattle.lf_work.proofs.finding.Finding.into_answer.Goals as goal
+use Rattle.lf_work.proofs.finding.Finding.into_parts.Goals as goal
 
 pub returns-clause-found : goal.returns-clause-found
 returns-clause-found c =

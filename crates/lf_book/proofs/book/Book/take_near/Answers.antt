@@ -2,7 +2,7 @@ use Rattle.std.proofs.Common.{refl, arith}
 use Rattle.lf_marks.specs.Marks.{mark_at}
 use Rattle.lf_book.proofs.CountLemmas.{some-ready, some-claimed}
 use Rattle.lf_book.proofs.StateLemmas.{all-done, none-open}
-use Rattle.lf_book.proofs.book.Book.take_counted.Goals as goal
+use Rattle.lf_book.proofs.book.Book.take_near.Goals as goal
 
 pub returns-then-counts-eq0-2-clause-taken : goal.returns-then-counts-eq0-2-clause-taken
 returns-then-counts-eq0-2-clause-taken g c =
