@@ -1,7 +1,12 @@
 -- Lists of claims.
-use Rattle.std.specs.Prelude.{◌≡◌, ℕ, ◌<◌, List, length, slice_index_or}
+use Rattle.std.specs.Prelude.{◌≡◌, ℕ, ◌<◌, List, length, drop, slice_index_or}
 use Rattle.std.specs.List.{AllPairs}
 use Rattle.lf_marks.specs.declared.claim.Claim.{Claim}
+use Rattle.lf_marks.specs.declared.claim.Claims.{Claims}
+
+-- the claims that stand
+abbrev pub standing : Claims → List Claim
+standing claims = drop claims.gone claims.list.items
 
 -- the tickets rise, so that no ticket claims two sets
 abbrev pub AreAscending : List Claim → Type 0

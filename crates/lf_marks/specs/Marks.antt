@@ -4,6 +4,7 @@ use Rattle.std.specs.List.{slice_get}
 use Rattle.lf_marks.specs.Steps.{Marking, kid_of}
 use Rattle.lf_marks.specs.Arena.{look, marks_of}
 use Rattle.lf_marks.specs.Walks.{led_from}
+use Rattle.lf_marks.specs.Claims.{standing}
 use Rattle.lf_marks.specs.declared.marks.Marks.{Marks}
 use Rattle.lf_marks.specs.declared.set.Set.{Set}
 
@@ -39,6 +40,6 @@ pub record IsNext (m : Marks) (p : List ℕ) : Type 0 where
 -- there are places for one claim more, wherever it ends
 pub record HasPlaces (m : Marks) : Type 0 where
   pub sets : length m.sets.items < vec_capacity m.sets
-  pub claims : length m.claims.items < vec_capacity m.claims
-  pub coming : length m.coming.items + length m.claims.items < vec_capacity m.coming
-  pub opened : length m.opened.items + length m.claims.items < vec_capacity m.opened
+  pub claims : length m.claims.list.items < vec_capacity m.claims.list
+  pub coming : length m.coming.items + length (standing m.claims) < vec_capacity m.coming
+  pub opened : length m.opened.items + length (standing m.claims) < vec_capacity m.opened

@@ -3,6 +3,7 @@ use Rattle.std.specs.Prelude.{◌≡◌, ℕ, ◌+◌, List, length, Option, Non
 use Rattle.std.specs.Global.{Global}
 use Rattle.std.specs.List.{slice_get}
 use Rattle.lf_tree.specs.declared.tree.Node.{Node}
+use Rattle.lf_marks.specs.Claims.{standing}
 use Rattle.lf_marks.specs.declared.marks.Marks.{Marks}
 use Rattle.lf_marks.specs.declared.room.Room.{Room}
 use Rattle.lf_marks.specs.declared.set.Set.{Set}
@@ -29,7 +30,7 @@ FitsNext sets queue at larger = (x : ℕ) → slice_get queue at ≡ Some x → 
 -- with the larger lists there is room for one claim more, wherever it ends
 pub record HasRoom (m : Marks) (room : Room) : Type 0 where
   pub sets : Fits m.sets 1 room.sets
-  pub claims : Fits m.claims 1 room.claims
-  pub coming : Fits m.coming (length m.claims.items + 1) room.coming
-  pub opened : Fits m.opened (length m.claims.items + 1) room.opened
+  pub claims : Fits m.claims.list 1 room.claims
+  pub coming : Fits m.coming (length (standing m.claims) + 1) room.coming
+  pub opened : Fits m.opened (length (standing m.claims) + 1) room.opened
   pub kids : length m.opened.items ≡ 0 → FitsNext m.sets.items m.queue.items m.at room.kids

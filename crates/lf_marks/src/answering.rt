@@ -3,7 +3,7 @@
 ghost use Rattle.std.specs.Prelude.{◌≡◌, ℕ, ◌+◌, ◌&&◌, ◌==◌, ◌<◌, ◌≤◌, List, length, Some, nat_lt, vec_capacity};
 ghost use Rattle.lf_marks.specs.Answers.{mark_for};
 ghost use Rattle.lf_marks.specs.Arena.{first_in, mark_in, taken_in};
-ghost use Rattle.lf_marks.specs.Claims.{IsOfTicket};
+ghost use Rattle.lf_marks.specs.Claims.{IsOfTicket, standing};
 ghost use Rattle.lf_marks.specs.Marks.{mark_at, level_of};
 ghost use Rattle.lf_marks.specs.Steps.{Answered, GaveBack, Reclaimed, IsMarked, kids_beneath};
 ghost use Rattle.lf_marks.specs.Steps as mark;
@@ -23,7 +23,7 @@ impl Marks {
             → Answered p ticket (mark_for answer) (mark_at self.old) (mark_at self.new) }
         ensures level { level_of self.new ≡ level_of self.old }
     {
-        let Some(index) = claim_of(self.claims.as_slice(), ticket) else {
+        let Some(index) = claim_of(self.claims.standing(), ticket) else {
             unreachable!()
         };
         let place = self.claims.remove(index).place;
@@ -40,7 +40,7 @@ impl Marks {
         ensures gave_back { (p : List ℕ) → mark_at self.old p ≡ Some (mark.Claimed ticket) → GaveBack p ticket (mark_at self.old) (mark_at self.new) }
         ensures level { level_of self.new ≡ level_of self.old }
     {
-        let Some(index) = claim_of(self.claims.as_slice(), ticket) else {
+        let Some(index) = claim_of(self.claims.standing(), ticket) else {
             unreachable!()
         };
         self.free(index);
@@ -48,10 +48,10 @@ impl Marks {
 
     /// Opens the set of a claim again.
     fn free(&mut self, index: usize)
-        requires { index < length self.old.claims.items }
-        ensures gave_back { (p : List ℕ) (t : ℕ) → IsOfTicket self.old.claims.items t index → mark_at self.old p ≡ Some (mark.Claimed t)
+        requires { index < length (standing self.old.claims) }
+        ensures gave_back { (p : List ℕ) (t : ℕ) → IsOfTicket (standing self.old.claims) t index → mark_at self.old p ≡ Some (mark.Claimed t)
             → GaveBack p t (mark_at self.old) (mark_at self.new) }
-        ensures count { length self.new.claims.items + 1 ≡ length self.old.claims.items }
+        ensures count { length (standing self.new.claims) + 1 ≡ length (standing self.old.claims) }
         ensures level { level_of self.new ≡ level_of self.old }
     {
         let place = self.claims.remove(index).place;
@@ -64,8 +64,8 @@ impl Marks {
         ensures reclaimed { Reclaimed (mark_at self.old) (mark_at self.new) }
         ensures level { level_of self.new ≡ level_of self.old }
     {
-        'claims: while !self.claims.is_empty() {
-            let last = self.claims.len() - 1;
+        'claims: while self.claims.count() > 0 {
+            let last = self.claims.count() - 1;
             self.free(last);
         }
     }

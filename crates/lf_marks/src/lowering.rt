@@ -5,6 +5,7 @@ ghost use Rattle.lf_marks.specs.Marks.{mark_at, level_of, waiting_of};
 ghost use Rattle.lf_marks.specs.Steps.{IsUnmarked, WentDown, only_root};
 ghost use Rattle.lf_marks.specs.Steps as mark;
 
+use crate::claim::Claims;
 use crate::marks::Marks;
 use crate::set::{Set, State};
 use std::alloc::{AllocError, Global};
@@ -33,7 +34,7 @@ impl Marks {
             at: 0,
             coming: Vec::new(alloc),
             opened,
-            claims: Vec::new(alloc),
+            claims: Claims::new(alloc),
             untaken: 0,
             waiting: 0,
             answered: 0,

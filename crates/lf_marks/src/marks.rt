@@ -2,8 +2,9 @@
 
 ghost use Rattle.std.specs.Prelude.{◌+◌, ◌≤◌, length, drop, vec_capacity};
 ghost use Rattle.lf_marks.specs.Arena.{IsState};
+ghost use Rattle.lf_marks.specs.Claims.{standing};
 
-use crate::claim::Claim;
+use crate::claim::Claims;
 use crate::set::Set;
 
 /// The sets of faults that a search has marked, from the empty set on, level by level.
@@ -27,14 +28,14 @@ pub struct Marks {
     /// The places of the sets that were given back.
     pub(crate) opened: Vec<usize>,
     /// The sets that are worked, in the order of their tickets.
-    pub(crate) claims: Vec<Claim>,
+    pub(crate) claims: Claims,
     /// How many sets of the level nobody has taken.
     pub(crate) untaken: u64,
     /// How many sets wait, one beneath the level.
     pub(crate) waiting: u64,
     /// How many sets are answered.
     pub(crate) answered: u64,
-    ghost state: { IsState level start sets.items (drop at queue.items) coming.items opened.items claims.items untaken waiting answered },
-    ghost coming_room: { length coming.items + length claims.items ≤ vec_capacity coming },
-    ghost opened_room: { length opened.items + length claims.items ≤ vec_capacity opened },
+    ghost state: { IsState level start sets.items (drop at queue.items) coming.items opened.items (standing claims) untaken waiting answered },
+    ghost coming_room: { length coming.items + length (standing claims) ≤ vec_capacity coming },
+    ghost opened_room: { length opened.items + length (standing claims) ≤ vec_capacity opened },
 }

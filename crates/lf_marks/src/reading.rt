@@ -45,7 +45,7 @@ impl Marks {
     {
         Counts {
             ready: self.untaken + self.opened.len() as u64,
-            claimed: self.claims.len() as u64,
+            claimed: self.claims.count() as u64,
             answered: self.answered,
             waiting: self.waiting,
         }
@@ -55,7 +55,7 @@ impl Marks {
     pub fn has_claim(&self, ticket: u64) -> bool
         ensures { IsTrue result ↔ IsMarked (mark_at self.now) (mark.Claimed ticket) }
     {
-        claim_of(self.claims.as_slice(), ticket).is_some()
+        claim_of(self.claims.standing(), ticket).is_some()
     }
 
     /// Whether the ticket claims the set at the path.

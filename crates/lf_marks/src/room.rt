@@ -32,10 +32,10 @@ impl Marks {
     pub(crate) fn room(&self) -> Result<Room, AllocError>
         ensures { IfOk result (HasRoom self.now) }
     {
-        let claims = self.claims.len() + 1;
+        let claims = self.claims.count() + 1;
         Ok(Room {
             sets: larger(&self.sets, 1)?,
-            claims: larger(&self.claims, 1)?,
+            claims: larger(&self.claims.list, 1)?,
             coming: larger(&self.coming, claims)?,
             opened: larger(&self.opened, claims)?,
             kids: self.kid_room()?,

@@ -2,6 +2,7 @@
 
 ghost use Rattle.std.specs.Prelude.{◌≡◌, ℕ, ◌+◌, ◌<◌, if◌then◌else◌, List, length, Some};
 ghost use Rattle.std.specs.List.{All};
+ghost use Rattle.lf_marks.specs.Claims.{standing};
 ghost use Rattle.lf_marks.specs.Marks.{mark_at, level_of, HasPlaces, IsNext, IsNextKid, LeadsToLast};
 ghost use Rattle.lf_marks.specs.Room.{FitsNext, HasRoom};
 ghost use Rattle.lf_marks.specs.Steps.{Took};
@@ -35,7 +36,7 @@ impl Marks {
             kids,
         } = room;
         enlarge(&mut self.sets, sets);
-        enlarge(&mut self.claims, claims);
+        self.claims.enlarge(claims);
         enlarge(&mut self.coming, coming);
         enlarge(&mut self.opened, opened);
         steps.tick();
@@ -50,7 +51,7 @@ impl Marks {
     fn claim_again(&mut self, ticket: u64)
         requires some { 0 < length self.old.opened.items }
         requires room { HasPlaces self.old }
-        requires above { All (λ c. c.ticket < ticket) self.old.claims.items }
+        requires above { All (λ c. c.ticket < ticket) (standing self.old.claims) }
         ensures took { (p : List ℕ) → LeadsToLast self.old.sets.items self.old.opened.items p
             → Took p ticket (mark_at self.old) (mark_at self.new) }
         ensures level { level_of self.new ≡ level_of self.old }
@@ -58,7 +59,7 @@ impl Marks {
         let place = self.opened[self.opened.len() - 1];
         let _ = self.opened.pop();
         put_state(&mut self.sets, place, State::Claimed(ticket));
-        self.claims.push_reserved(Claim { ticket, place });
+        self.claims.add(Claim { ticket, place });
     }
 
     /// Claims the first set that nobody has taken, with the room for it beneath its branch.
@@ -67,7 +68,7 @@ impl Marks {
         requires none { length self.old.opened.items ≡ 0 }
         requires room { HasPlaces self.old }
         requires kids { FitsNext self.old.sets.items self.old.queue.items self.old.at larger }
-        requires above { All (λ c. c.ticket < ticket) self.old.claims.items }
+        requires above { All (λ c. c.ticket < ticket) (standing self.old.claims) }
         ensures took { (p : List ℕ) → IsNextKid self.old.sets.items self.old.queue.items self.old.at p
             → Took p ticket (mark_at self.old) (mark_at self.new) }
         ensures level { level_of self.new ≡ level_of self.old }
@@ -83,7 +84,7 @@ impl Marks {
             depth: self.level,
             state: State::Claimed(ticket),
         });
-        self.claims.push_reserved(Claim { ticket, place });
+        self.claims.add(Claim { ticket, place });
         self.untaken -= 1;
         self.at = following(self.at, kid + 1 < kids);
     }

@@ -1,14 +1,11 @@
 -- Jobs and findings of one scenario.
-use Rattle.std.proofs.Common.{◌≡◌, ℕ, ◌-◌, Some, None, inl, inr, sym, ◌∙◌, subst, length, List, [], ◌∷◌, ◌++◌, arith, take, drop}
+use Rattle.std.proofs.Common.{◌≡◌, ℕ, ◌-◌, Some, None, inl, inr, sym, ◌∙◌, subst, length, List, [], ◌∷◌, ◌++◌, arith}
 use Rattle.std.proofs.lemmas.Option.{slice_get_cases}
 use Rattle.std.proofs.lemmas.List.Elements.{All-nil, All-cons, All-push, All-head, All-tail}
 use Rattle.std.specs.Arc.{arc_value}
 use Rattle.std.specs.Prelude.{Option, IfSome}
 use Rattle.std.specs.Option.{option_to_list}
 use Rattle.std.specs.List.{All, slice_get}
-use Rattle.std.specs.List.Sorted.{IsPermutation}
-use Rattle.std.proofs.lemmas.List.{take_at}
-use Rattle.std.proofs.lemmas.List.Sorted.{All-permutation}
 use Rattle.lf_scenario.specs.declared.scenario.Scenario.{Scenario}
 use Rattle.lf_work.specs.declared.finding.Finding.{Finding}
 use Rattle.lf_work.specs.declared.job.Job.{Job}
@@ -82,9 +79,3 @@ last-got s jobs job all got = elim ((slice_get_cases jobs (length jobs - 1)).1) 
 pub found-of-some : (s : Scenario) (jobs left done : List Job) (findings : List Finding) → AreJobsOf s jobs → jobs ≡ left ++ done
     → AreOfJobs done findings → All (IsFoundFor s) findings
 found-of-some s jobs left done findings all is of = found-of s done findings (back (IsJobOf s) left done (subst (AreJobsOf s) is all)) of
-
--- and jobs that are turned around are of it
-pub turned-jobs : (s : Scenario) (jobs turned : List Job) (n : ℕ) → IsPermutation jobs turned → length jobs ≡ n → length turned ≡ length jobs
-    → AreJobsOf s jobs → AreJobsOf s (take n (turned ++ drop (length turned) jobs))
-turned-jobs s jobs turned n same long as-long all =
-    subst (AreJobsOf s) (sym (take_at turned (drop (length turned) jobs) n (omega (arith, long, as-long)))) (All-permutation (IsJobOf s) jobs turned same all)

@@ -77,7 +77,7 @@ module _ (T : RattleType) (g : ledger.Ghosts T.Denot) where
           part.the_send T g,
           (
             scratch_send,
-            (search (hands_send, crosses, sendable), (search (spent_send, crosses, sendable), tt)),
+            (search (hands_send, crosses, sendable), (search (spent_send, crosses, sendable), (search (crosses, sendable), tt))),
           ),
         ),
       ))

@@ -20,6 +20,9 @@ pub struct Share<L: Ledger> {
     pub(crate) hands: Option<Hands>,
     /// What jobs left whose findings it filed, of a handful at most.
     pub(crate) spent: Vec<Spent>,
+    /// Room that nobody uses, 128 bytes: so what one worker writes doesn't lie in a line of memory with what the next one does, which would have to
+    /// wait for it.
+    apart: [u64; 16],
     ghost one_part: { part.parts ≡ 1 },
     ghost same: { part.amount ≡ filed },
 }
@@ -37,6 +40,7 @@ impl<L: Ledger> Share<L> {
             scratch: Scratch::new(alloc),
             hands: Hands::new(alloc).ok(),
             spent: room(alloc),
+            apart: [0; 16],
         }
     }
 

@@ -129,8 +129,8 @@ impl<L: Ledger> SharedBook<L> {
         Ok(filed)
     }
 
-    /// Takes a handful of sets where many are open, and puts the first one last: so it is worked first and filed last. The book looks for a claim
-    /// among all that stand, from those of the highest tickets on, so it is then quick to take each out.
+    /// Takes a handful of sets where many are open. The last of them is worked first and filed last: claims that end in the order in which they
+    /// were made are ended soonest.
     fn take_handful<R: Wait>(
         &self,
         rt: &R,
@@ -145,7 +145,6 @@ impl<L: Ledger> SharedBook<L> {
         ensures room { vec_capacity jobs.new ≡ vec_capacity jobs.old }
     {
         self.lock.lock(rt).take_some(jobs, spent, fresh);
-        jobs.as_mut_slice().reverse();
     }
 
     /// Files what was found, gives the other jobs back, and wakes all that wait. It answers how much was filed.

@@ -8,6 +8,7 @@ use Rattle.lf_marks.specs.Room.{FitsNext}
 use Rattle.lf_marks.specs.Steps.{Took}
 use Rattle.lf_marks.specs.declared.claim.Claim.{Claim}
 use Rattle.lf_marks.specs.declared.set.Set.{Set}
+use Rattle.lf_marks.specs.Claims.{standing}
 use Rattle.lf_marks.proofs.RoomLemmas.{fits-none}
 use Rattle.lf_marks.proofs.StateLemmas.{claims-below}
 use Rattle.lf_marks.proofs.marks.Marks.claim.Goals as goal
@@ -15,26 +16,23 @@ use Rattle.lf_marks.proofs.marks.Marks.claim.Goals as goal
 pub enlarge-requires : goal.enlarge-requires
 enlarge-requires g c = fits-none c.args.self.now.sets 1 c.args.room.sets c.requires.room.sets
 
-pub enlarge-requires-2 : goal.enlarge-requires-2
-enlarge-requires-2 g c = fits-none c.args.self.now.claims 1 c.args.room.claims c.requires.room.claims
-
 pub enlarge-requires-3 : goal.enlarge-requires-3
 enlarge-requires-3 g c =
     let m = c.args.self.now in
-    fits-none m.coming (length m.claims.items + 1) c.args.room.coming c.requires.room.coming
+    fits-none m.coming (length (standing m.claims) + 1) c.args.room.coming c.requires.room.coming
 
 pub enlarge-requires-4 : goal.enlarge-requires-4
 enlarge-requires-4 g c =
     let m = c.args.self.now in
-    fits-none m.opened (length m.claims.items + 1) c.args.room.opened c.requires.room.opened
+    fits-none m.opened (length (standing m.claims) + 1) c.args.room.opened c.requires.room.opened
 
 pub invariant_of-self : goal.invariant_of-self
 invariant_of-self g c =
     let m = c.args.self.now in
-    let claims : length c.enlarge-2.new.list.items ≡ length m.claims.items = ap (λ (xs : List Claim). length xs) c.enlarge-2.ensures.items in
-    let coming = c.enlarge-3.ensures.places (length m.claims.items + 1) c.requires.room.coming in
-    let opened = c.enlarge-4.ensures.places (length m.claims.items + 1) c.requires.room.opened in record {
-      state = rw (c.enlarge.ensures.items, c.enlarge-2.ensures.items, c.enlarge-3.ensures.items, c.enlarge-4.ensures.items) m.state;
+    let claims : length (standing c.enlarge-2.new.self) ≡ length (standing m.claims) = ap (λ (xs : List Claim). length xs) c.enlarge-2.ensures.same in
+    let coming = c.enlarge-3.ensures.places (length (standing m.claims) + 1) c.requires.room.coming in
+    let opened = c.enlarge-4.ensures.places (length (standing m.claims) + 1) c.requires.room.opened in record {
+      state = rw (c.enlarge.ensures.items, c.enlarge-2.ensures.same, c.enlarge-3.ensures.items, c.enlarge-4.ensures.items) m.state;
       coming_room = omega (arith, coming, claims);
       opened_room = omega (arith, opened, claims);
     }
@@ -55,11 +53,11 @@ claim_next-requires-clause-none g c =
 pub claim_next-requires-clause-room : goal.claim_next-requires-clause-room
 claim_next-requires-clause-room g c =
     let m = c.args.self.now in
-    let claims : length c.enlarge-2.new.list.items ≡ length m.claims.items = ap (λ (xs : List Claim). length xs) c.enlarge-2.ensures.items in
-    let coming = c.enlarge-3.ensures.places (length m.claims.items + 1) c.requires.room.coming in
-    let opened = c.enlarge-4.ensures.places (length m.claims.items + 1) c.requires.room.opened in record {
+    let claims : length (standing c.enlarge-2.new.self) ≡ length (standing m.claims) = ap (λ (xs : List Claim). length xs) c.enlarge-2.ensures.same in
+    let coming = c.enlarge-3.ensures.places (length (standing m.claims) + 1) c.requires.room.coming in
+    let opened = c.enlarge-4.ensures.places (length (standing m.claims) + 1) c.requires.room.opened in record {
       sets = omega (arith, c.enlarge.ensures.places 1 c.requires.room.sets);
-      claims = omega (arith, c.enlarge-2.ensures.places 1 c.requires.room.claims);
+      claims = c.enlarge-2.ensures.places;
       coming = omega (arith, coming, claims);
       opened = omega (arith, opened, claims);
     }
@@ -80,11 +78,11 @@ claim_again-requires-clause-some g c =
 pub claim_again-requires-clause-room : goal.claim_again-requires-clause-room
 claim_again-requires-clause-room g c =
     let m = c.args.self.now in
-    let claims : length c.enlarge-2.new.list.items ≡ length m.claims.items = ap (λ (xs : List Claim). length xs) c.enlarge-2.ensures.items in
-    let coming = c.enlarge-3.ensures.places (length m.claims.items + 1) c.requires.room.coming in
-    let opened = c.enlarge-4.ensures.places (length m.claims.items + 1) c.requires.room.opened in record {
+    let claims : length (standing c.enlarge-2.new.self) ≡ length (standing m.claims) = ap (λ (xs : List Claim). length xs) c.enlarge-2.ensures.same in
+    let coming = c.enlarge-3.ensures.places (length (standing m.claims) + 1) c.requires.room.coming in
+    let opened = c.enlarge-4.ensures.places (length (standing m.claims) + 1) c.requires.room.opened in record {
       sets = omega (arith, c.enlarge.ensures.places 1 c.requires.room.sets);
-      claims = omega (arith, c.enlarge-2.ensures.places 1 c.requires.room.claims);
+      claims = c.enlarge-2.ensures.places;
       coming = omega (arith, coming, claims);
       opened = omega (arith, opened, claims);
     }
@@ -98,15 +96,15 @@ returns-then-is_empty-clause-steps g c = c.tick.ensures
 pub claim_next-requires-clause-above : goal.claim_next-requires-clause-above
 claim_next-requires-clause-above g c =
     let m = c.args.self.now in
-    subst (λ (cs : List Claim). All (λ (d : Claim). d.ticket < c.args.ticket) cs) (sym {A = List Claim} c.enlarge-2.ensures.items)
-    (claims-below m.level m.start m.sets.items (drop m.at m.queue.items) m.coming.items m.opened.items m.claims.items m.untaken m.waiting
+    subst (λ (cs : List Claim). All (λ (d : Claim). d.ticket < c.args.ticket) cs) (sym {A = List Claim} c.enlarge-2.ensures.same)
+    (claims-below m.level m.start m.sets.items (drop m.at m.queue.items) m.coming.items m.opened.items (standing m.claims) m.untaken m.waiting
     m.answered m.state c.args.ticket c.requires.above)
 
 pub claim_again-requires-clause-above : goal.claim_again-requires-clause-above
 claim_again-requires-clause-above g c =
     let m = c.args.self.now in
-    subst (λ (cs : List Claim). All (λ (d : Claim). d.ticket < c.args.ticket) cs) (sym {A = List Claim} c.enlarge-2.ensures.items)
-    (claims-below m.level m.start m.sets.items (drop m.at m.queue.items) m.coming.items m.opened.items m.claims.items m.untaken m.waiting
+    subst (λ (cs : List Claim). All (λ (d : Claim). d.ticket < c.args.ticket) cs) (sym {A = List Claim} c.enlarge-2.ensures.same)
+    (claims-below m.level m.start m.sets.items (drop m.at m.queue.items) m.coming.items m.opened.items (standing m.claims) m.untaken m.waiting
     m.answered m.state c.args.ticket c.requires.above)
 
 pub returns-then-is_empty-clause-took : goal.returns-then-is_empty-clause-took

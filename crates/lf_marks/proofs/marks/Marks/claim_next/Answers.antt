@@ -6,6 +6,7 @@ use Rattle.lf_marks.specs.Steps.{kid_of, Took}
 use Rattle.lf_marks.specs.Walks.{IsWidened, IsGrownBy, led_from}
 use Rattle.lf_marks.specs.declared.claim.Claim.{Claim}
 use Rattle.lf_marks.specs.declared.set.Set.{Set}
+use Rattle.lf_marks.specs.Claims.{standing}
 use Rattle.lf_marks.proofs.WalkLemmas.{lt-is, lt-not}
 use Rattle.lf_marks.proofs.SetLemmas.{grown-by}
 use Rattle.lf_marks.proofs.StateLemmas.{next-within, next-level, next-some, next-last, next-took, queue-head, state-next}
@@ -15,7 +16,7 @@ pub taken-kid-requires : goal.taken-kid-requires
 taken-kid-requires c =
     let m = c.args.self.now in
     let head = queue-head m.queue.items m.at c.index-parent.result.now c.requires.some c.index-parent.ensures in
-    next-within m.level m.start m.sets.items (drop m.at m.queue.items) m.coming.items m.opened.items m.claims.items m.untaken m.waiting
+    next-within m.level m.start m.sets.items (drop m.at m.queue.items) m.coming.items m.opened.items (standing m.claims) m.untaken m.waiting
     m.answered m.state c.index-parent.result.now (drop (m.at + 1) m.queue.items) head
 
 pub add_kid-requires-clause-room : goal.add_kid-requires-clause-room
@@ -30,7 +31,7 @@ overflow_sub-self c =
     let head = queue-head m.queue.items m.at c.index-parent.result.now c.requires.some c.index-parent.ensures in
     omega (
       arith,
-      next-some m.level m.start m.sets.items (drop m.at m.queue.items) m.coming.items m.opened.items m.claims.items m.untaken m.waiting
+      next-some m.level m.start m.sets.items (drop m.at m.queue.items) m.coming.items m.opened.items (standing m.claims) m.untaken m.waiting
           m.answered m.state c.index-parent.result.now (drop (m.at + 1) m.queue.items) head,
       c.requires.none,
     )
@@ -42,12 +43,12 @@ invariant_of-self-2 c =
     let n : length m.sets.items ≡ c.len-place.result = omega (arith, c.len-place.ensures, m.sets.ok) in
     let widened = subst (λ (k : ℕ). IsWidened (look m.sets.items) (look c.add_kid.new.sets.items) c.index-parent.result.now k)
     (sym n) c.add_kid.ensures.widened in
-    let level = next-level m.level m.start m.sets.items (drop m.at m.queue.items) m.coming.items m.opened.items m.claims.items m.untaken m.waiting
+    let level = next-level m.level m.start m.sets.items (drop m.at m.queue.items) m.coming.items m.opened.items (standing m.claims) m.untaken m.waiting
     m.answered m.state c.index-parent.result.now (drop (m.at + 1) m.queue.items) head in
     let by = grown-by m.sets.items c.add_kid.new.sets.items c.index-parent.result.now c.args.ticket c.taken-kid.result m.level widened c.add_kid.ensures.length
-    (next-within m.level m.start m.sets.items (drop m.at m.queue.items) m.coming.items m.opened.items m.claims.items m.untaken m.waiting
+    (next-within m.level m.start m.sets.items (drop m.at m.queue.items) m.coming.items m.opened.items (standing m.claims) m.untaken m.waiting
     m.answered m.state c.index-parent.result.now (drop (m.at + 1) m.queue.items) head) c.taken-kid.ensures (sym level)
-    (next-last m.level m.start m.sets.items (drop m.at m.queue.items) m.coming.items m.opened.items m.claims.items m.untaken m.waiting
+    (next-last m.level m.start m.sets.items (drop m.at m.queue.items) m.coming.items m.opened.items (standing m.claims) m.untaken m.waiting
     m.answered m.state c.index-parent.result.now (drop (m.at + 1) m.queue.items) head) in
     let gr = subst (λ (z : List Set). IsGrownBy (look m.sets.items) (look z) (length m.sets.items) c.index-parent.result.now c.args.ticket)
     (sym c.push_reserved.ensures.items) by in
@@ -55,21 +56,21 @@ invariant_of-self-2 c =
     omega (arith, c.push_reserved.ensures.len, c.push_reserved.new.self.ok, c.add_kid.new.sets.ok, c.add_kid.ensures.length) in
     let taken = c.taken-kid.ensures in
     let kids = c.kids-kids.ensures in
-    let some = next-some m.level m.start m.sets.items (drop m.at m.queue.items) m.coming.items m.opened.items m.claims.items m.untaken m.waiting
+    let some = next-some m.level m.start m.sets.items (drop m.at m.queue.items) m.coming.items m.opened.items (standing m.claims) m.untaken m.waiting
     m.answered m.state c.index-parent.result.now (drop (m.at + 1) m.queue.items) head in
-    let s = state-next m.level m.start m.sets.items (drop m.at m.queue.items) m.coming.items m.opened.items m.claims.items m.untaken m.waiting
+    let s = state-next m.level m.start m.sets.items (drop m.at m.queue.items) m.coming.items m.opened.items (standing m.claims) m.untaken m.waiting
     m.answered m.state c.push_reserved.new.self.items c.index-parent.result.now c.args.ticket (drop (m.at + 1) m.queue.items)
     (drop c.following-self.result m.queue.items) head long gr (m.untaken - 1) (omega (arith, some, c.requires.none)) c.requires.above
     (λ more. ap (λ k. drop k m.queue.items) (c.following-self.ensures ∙ cond-true (nat_lt (c.taken-kid.result + 1) c.kids-kids.result) m.at (m.at + 1)
     (lt-is _ _ (omega (arith, more, taken, kids)))) ∙ head)
     (λ last. ap (λ k. drop k m.queue.items) (c.following-self.ensures ∙ cond-false (nat_lt (c.taken-kid.result + 1) c.kids-kids.result) m.at (m.at + 1)
     (lt-not _ _ (omega (arith, last, taken, kids))))) in
-    let claims : m.claims.items ++ (record { ticket = c.args.ticket; place = length m.sets.items }) ∷ [] ≡ c.push_reserved-2.new.self.items =
-    ap (λ (k : ℕ). claims_with m.claims.items c.args.ticket k) n ∙ sym c.push_reserved-2.ensures.items in record {
+    let claims : (standing m.claims) ++ (record { ticket = c.args.ticket; place = length m.sets.items }) ∷ [] ≡ standing c.add.new.self =
+    ap (λ (k : ℕ). claims_with (standing m.claims) c.args.ticket k) n ∙ sym c.add.ensures.items in record {
       state = subst (λ (cs : List Claim). IsState m.level m.start c.push_reserved.new.self.items (drop c.following-self.result m.queue.items)
           m.coming.items m.opened.items cs (m.untaken - 1) m.waiting m.answered) claims s;
-      coming_room = omega (arith, c.requires.room.coming, c.push_reserved-2.ensures.len, m.claims.ok, c.push_reserved-2.new.self.ok);
-      opened_room = omega (arith, c.requires.room.opened, c.push_reserved-2.ensures.len, m.claims.ok, c.push_reserved-2.new.self.ok);
+      coming_room = omega (arith, c.requires.room.coming, c.add.ensures.count);
+      opened_room = omega (arith, c.requires.room.opened, c.add.ensures.count);
     }
   where
     claims_with : List Claim → ℕ → ℕ → List Claim
@@ -82,12 +83,12 @@ returns-clause-took c p it =
     let n : length m.sets.items ≡ c.len-place.result = omega (arith, c.len-place.ensures, m.sets.ok) in
     let widened = subst (λ (k : ℕ). IsWidened (look m.sets.items) (look c.add_kid.new.sets.items) c.index-parent.result.now k)
     (sym n) c.add_kid.ensures.widened in
-    let level = next-level m.level m.start m.sets.items (drop m.at m.queue.items) m.coming.items m.opened.items m.claims.items m.untaken m.waiting
+    let level = next-level m.level m.start m.sets.items (drop m.at m.queue.items) m.coming.items m.opened.items (standing m.claims) m.untaken m.waiting
     m.answered m.state c.index-parent.result.now (drop (m.at + 1) m.queue.items) head in
     let by = grown-by m.sets.items c.add_kid.new.sets.items c.index-parent.result.now c.args.ticket c.taken-kid.result m.level widened c.add_kid.ensures.length
-    (next-within m.level m.start m.sets.items (drop m.at m.queue.items) m.coming.items m.opened.items m.claims.items m.untaken m.waiting
+    (next-within m.level m.start m.sets.items (drop m.at m.queue.items) m.coming.items m.opened.items (standing m.claims) m.untaken m.waiting
     m.answered m.state c.index-parent.result.now (drop (m.at + 1) m.queue.items) head) c.taken-kid.ensures (sym level)
-    (next-last m.level m.start m.sets.items (drop m.at m.queue.items) m.coming.items m.opened.items m.claims.items m.untaken m.waiting
+    (next-last m.level m.start m.sets.items (drop m.at m.queue.items) m.coming.items m.opened.items (standing m.claims) m.untaken m.waiting
     m.answered m.state c.index-parent.result.now (drop (m.at + 1) m.queue.items) head) in
     let gr = subst (λ (z : List Set). IsGrownBy (look m.sets.items) (look z) (length m.sets.items) c.index-parent.result.now c.args.ticket)
     (sym c.push_reserved.ensures.items) by in
@@ -100,6 +101,6 @@ returns-clause-took c p it =
     let path : p ≡ kid_of it.front (look m.sets.items c.index-parent.result.now).taken =
     it.whole ∙ ap (λ (x : ℕ). kid_of it.front (look m.sets.items x).taken) same in
     subst (λ (q : List ℕ). Took q c.args.ticket (marks_of m.sets.items m.start) (marks_of c.push_reserved.new.self.items m.start)) (sym path)
-    (next-took m.level m.start m.sets.items (drop m.at m.queue.items) m.coming.items m.opened.items m.claims.items m.untaken m.waiting
+    (next-took m.level m.start m.sets.items (drop m.at m.queue.items) m.coming.items m.opened.items (standing m.claims) m.untaken m.waiting
     m.answered m.state c.push_reserved.new.self.items c.index-parent.result.now c.args.ticket (drop (m.at + 1) m.queue.items)
     (drop c.following-self.result m.queue.items) head long gr it.front led)

@@ -6,6 +6,7 @@ use Rattle.lf_marks.specs.Arena.{look}
 use Rattle.lf_marks.specs.Room.{FitsKidOf}
 use Rattle.lf_marks.specs.Walks.{width}
 use Rattle.lf_marks.specs.declared.set.Set.{Set}
+use Rattle.lf_marks.specs.Claims.{standing}
 use Rattle.lf_marks.proofs.RoomLemmas.{fits-next}
 use Rattle.lf_marks.proofs.StateLemmas.{next-more, queue-head}
 use Rattle.lf_marks.proofs.marks.Marks.kid_room.Goals as goal
@@ -16,7 +17,7 @@ kid_room-requires c =
     let few : m.at < length m.queue.items = omega (arith, c.if-self-len.false, c.len.ensures, m.queue.ok) in
     let head = queue-head m.queue.items m.at c.index.result.now few c.index.ensures in
     subst (λ (sets : List Set). (look sets c.index.result.now).taken < width (look sets c.index.result.now)) (sym c.as_slice.ensures.value)
-    (next-more m.level m.start m.sets.items (drop m.at m.queue.items) m.coming.items m.opened.items m.claims.items
+    (next-more m.level m.start m.sets.items (drop m.at m.queue.items) m.coming.items m.opened.items (standing m.claims)
     m.untaken m.waiting m.answered m.state c.index.result.now (drop (m.at + 1) m.queue.items) head)
 
 pub returns : goal.returns

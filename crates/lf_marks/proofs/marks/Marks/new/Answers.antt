@@ -9,9 +9,9 @@ invariant_of-result c =
     let root : Set = record { parent = 0; kid = 0; depth = 0; state = state.Open } in
     let sets = c.in_ok-push.ensures.items ∙ ap (λ (xs : List Set). xs ++ root ∷ []) c.in_ok-sets.ensures.items in
     let opened = c.in_ok-push-2.ensures.items ∙ ap (λ xs. xs ++ 0 ∷ []) c.in_ok-opened.ensures.items in record {
-      state = rw (c.new.ensures.items, c.new-2.ensures.items, c.new-3.ensures.items) (state-new c.push.new.self.items c.push-2.new.self.items sets opened);
-      coming_room = rw (c.new-2.ensures.items, c.new-3.ensures.items) (omega arith);
-      opened_room = rw (opened, c.new-3.ensures.items) (omega (arith, c.in_ok-opened.ensures.exact, c.push-2.ensures.capacity));
+      state = rw (c.new.ensures.items, c.new-2.ensures.items, c.new-3.ensures) (state-new c.push.new.self.items c.push-2.new.self.items sets opened);
+      coming_room = rw (c.new-2.ensures.items, c.new-3.ensures) (omega arith);
+      opened_room = rw (opened, c.new-3.ensures) (omega (arith, c.in_ok-opened.ensures.exact, c.push-2.ensures.capacity));
     }
 
 pub returns-clause-root : goal.returns-clause-root
