@@ -156,15 +156,19 @@ fn is_missing(marks: &Marks) -> bool {
     }
 }
 
+/// Whether the root and its kids are taken and answered, and the second kid alone is told to miss.
+fn are_answered(alloc: Global, marks: &mut Marks, root: Answer, first: Answer) -> bool {
+    work(alloc, marks, 1, root).is_some()
+        && lower(marks)
+        && work(alloc, marks, 2, first).is_some()
+        && second_misses(alloc, marks)
+        && is_missing(marks)
+}
+
 /// Whether the root and its kids are answered, and the tree of nodes shows it.
 fn grows(alloc: Global, marks: Marks, root: Answer, first: Answer) -> bool {
     let mut marks = marks;
-    let are_answered = work(alloc, &mut marks, 1, root).is_some()
-        && lower(&mut marks)
-        && work(alloc, &mut marks, 2, first).is_some()
-        && second_misses(alloc, &mut marks)
-        && is_missing(&marks);
-    are_answered && is_done(&marks) && is_grown(&marks.into_nodes())
+    are_answered(alloc, &mut marks, root, first) && is_done(&marks) && is_grown(&marks.into_nodes())
 }
 
 /// The same, of a tree of its own.
