@@ -4,6 +4,7 @@ use crate::searches::{refusal_number, works_level};
 use crate::texts::{agrees, begun, scenario};
 use lf_book::{Book, Deepened, Job, Spent, Taken};
 use std::alloc::Global;
+use std::sync::Arc;
 
 /// The lines of a scenario of a protocol with many sets.
 const LINES: &str = "protocol = \"redundant\";tries = 6;outcome = \"delivered\"";
@@ -34,10 +35,14 @@ fn left_by_another(alloc: Global) -> Option<Spent> {
 
 /// Takes a set, with a job that is made of what another one left, whatever that was of.
 fn take_renewed(book: &mut Book, left: Spent) -> Option<Taken> {
-    match left.renewed(book.shared()) {
-        Ok(left) => book.take_with(Some(left)).ok(),
-        Err(_) => None,
-    }
+    let scenario = Arc::try_clone(book.shared()).ok()?;
+    let Spent { excluded, path, .. } = left;
+    let renewed = Spent {
+        scenario,
+        excluded,
+        path,
+    };
+    book.take_with(Some(renewed)).ok()
 }
 
 /// What a job leaves that is made of what another one left. None where a book whose jobs are made anew takes another one, or one of the two

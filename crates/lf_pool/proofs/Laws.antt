@@ -10,14 +10,14 @@ use Rattle.lf_pool.proofs.Sent as sent
 pub refused_by_one : (s : Scenario) (workers : ℕ) (e : PoolError) → IsRefused s workers e → number_of e ≡ 1 → AreWorkers workers → ⊥
 refused_by_one s workers error.Workers refused one = refused
 refused_by_one s workers error.Memory refused one = let never : 2 ≡ 1 = one in absurd cc
-refused_by_one s workers (error.OtherScenario book) refused one = let never : 3 ≡ 1 = one in absurd cc
+refused_by_one s workers (error.OtherScenario book) refused one = absurd refused
 refused_by_one s workers (error.Spent book) refused one = let never : 4 ≡ 1 = one in absurd cc
 
 -- and one of another number that it is in range
 pub refused_by_other : (s : Scenario) (workers : ℕ) (e : PoolError) → IsRefused s workers e → (number_of e ≡ 1 → ⊥) → AreWorkers workers
 refused_by_other s workers error.Workers refused other = absurd (other refl)
 refused_by_other s workers error.Memory refused other = refused
-refused_by_other s workers (error.OtherScenario book) refused other = refused.0
+refused_by_other s workers (error.OtherScenario book) refused other = absurd refused
 refused_by_other s workers (error.Spent book) refused other = refused.0
 
 -- a book that workers share may be lent to other threads, and a share may go to one: a set for `search`

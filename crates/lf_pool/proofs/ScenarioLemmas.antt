@@ -1,18 +1,22 @@
 -- Jobs and findings of one scenario.
-use Rattle.std.proofs.Common.{◌≡◌, ℕ, ◌-◌, Some, None, inl, inr, sym, ◌∙◌, subst, length, List, [], ◌∷◌, ◌++◌, arith}
+use Rattle.std.proofs.Common.{◌≡◌, ℕ, ◌-◌, Some, None, Bool, inl, inr, sym, ap, ◌∙◌, subst, length, List, [], ◌∷◌, ◌++◌}
 use Rattle.std.proofs.lemmas.Option.{slice_get_cases}
 use Rattle.std.proofs.lemmas.List.Elements.{All-nil, All-cons, All-push, All-head, All-tail}
 use Rattle.std.specs.Arc.{arc_value}
-use Rattle.std.specs.Prelude.{Option, IfSome}
+use Rattle.std.specs.Prelude.{Option, IfSome, IsTrue}
 use Rattle.std.specs.Option.{option_to_list}
 use Rattle.std.specs.List.{All, slice_get}
 use Rattle.lf_scenario.specs.declared.scenario.Scenario.{Scenario}
 use Rattle.lf_work.specs.declared.finding.Finding.{Finding}
 use Rattle.lf_work.specs.declared.job.Job.{Job}
-use Rattle.lf_book.specs.Books.{IsGivenFor}
+use Rattle.lf_scenario.specs.Sameness.{AreSame}
+use Rattle.lf_book.specs.Books.{scenario_of, task_of_finding, IsGivenFor}
+use Rattle.lf_book.specs.declared.book.Book.{Book}
 use Rattle.lf_faults.specs.declared.fault.Parts.{Parts}
-use Rattle.lf_work.specs.Jobs.{IsOfJob}
-use Rattle.lf_pool.specs.Holds.{AreJobsOf, AreOfJobs, IsFoundFor, IsJobOf}
+use Rattle.lf_work.specs.Jobs.{IsOfJob, IsSpentOf}
+use Rattle.lf_work.specs.declared.spent.Spent.{Spent}
+use Rattle.lf_pool.specs.Holds.{AreFindingsIn, AreJobsIn, AreJobsOf, AreOfJobs, IsFindingIn, IsFoundFor, IsJobOf, IsLeftIn, IsOfBook}
+use Rattle.lf_pool.proofs.SolvedLemmas.{same-itself}
 
 -- of a list what is so of all is so of its first part,
 pub front : {X : Type 0} (P : X → Type 0) (xs ys : List X) → All P (xs ++ ys) → All P xs
@@ -79,3 +83,33 @@ last-got s jobs job all got = elim ((slice_get_cases jobs (length jobs - 1)).1) 
 pub found-of-some : (s : Scenario) (jobs left done : List Job) (findings : List Finding) → AreJobsOf s jobs → jobs ≡ left ++ done
     → AreOfJobs done findings → All (IsFoundFor s) findings
 found-of-some s jobs left done findings all is of = found-of s done findings (back (IsJobOf s) left done (subst (AreJobsOf s) is all)) of
+
+-- what is found of jobs of the scenario that is searched is of it
+pub found-in : (o : Option Scenario) (jobs left done : List Job) (findings : List Finding) → AreJobsIn o jobs → jobs ≡ left ++ done
+    → AreOfJobs done findings → AreFindingsIn o findings
+found-in o jobs left done findings all is of = (all.0, all.1, found-of-some all.0 jobs left done findings all.2 is of)
+
+-- and of a book that searches it
+pub some-one : (s r : Scenario) → Some s ≡ Some r → s ≡ r
+some-one s r e = cc
+
+pub finding-of : (o : Option Scenario) (book : Book) (finding : Finding) → o ≡ Some (scenario_of book) → IsFindingIn o finding → IsOfBook book finding
+finding-of o book finding searches h =
+    let r = arc_value finding.job.scenario in
+    let own : r ≡ scenario_of book = h.2.0 ∙ some-one h.0 (scenario_of book) (sym h.1 ∙ searches) in (
+      subst (λ (s : Scenario). AreSame s r) own (same-itself r),
+      subst (λ (s : Scenario). IsGivenFor s finding.job.path.items (task_of_finding finding)) (sym h.2.0) h.2.1,
+    )
+
+-- what its job leaves is too,
+pub left-in : (o : Option Scenario) (finding : Finding) (given : Bool) (left : Option Spent) → (IsTrue given → IsFindingIn o finding)
+    → IfSome left (λ spent. IsTrue given × IsSpentOf (arc_value finding.job.scenario) spent) → IfSome left (IsLeftIn o)
+left-in o finding given None of h = h
+left-in o finding given (Some spent) of h =
+    let found = of h.0 in
+    found.1 ∙ ap Some (sym (h.1 ∙ found.2.0))
+
+-- and is what a job of the book is made of
+pub left-spent : (o : Option Scenario) (s : Scenario) (left : Option Spent) → o ≡ Some s → IfSome left (IsLeftIn o) → IfSome left (IsSpentOf s)
+left-spent o s None searches h = h
+left-spent o s (Some spent) searches h = some-one (arc_value spent.scenario) s (sym h ∙ searches)

@@ -14,6 +14,7 @@ use Rattle.std.proofs.sync.ledger.Share.TheSendSync as part
 use Rattle.std.proofs.sync.Mutex.TheSendSync as mutex
 use Rattle.std.proofs.sync.Condvar.TheSendSync as condvar
 use Rattle.std.specs.declared.sync.ledger.Ledger as ledger
+use Rattle.lf_pool.specs.declared.searched.Searched as searched
 use Rattle.lf_book.specs.contracts.book.Book as book
 use Rattle.lf_marks.specs.contracts.grown.Answer as answer
 use Rattle.lf_marks.specs.contracts.marks.Marks as marks
@@ -55,26 +56,26 @@ finding_send : IsSend (finding.the_field).row
 finding_send = search (job_send, answer_send, crosses, sendable) depth 60 fits 20000
 
 hands_send : IsSend hands.the_row
-hands_send = search (job_send, finding_send, spent_send, crosses, sendable) depth 60 fits 20000
+hands_send = search (job_send, finding_send, crosses, sendable) depth 60 fits 20000
 
 scratch_send : IsSend (scratch.the_field).row
 scratch_send = search (spent_send, scenario_send, scenario_sync, protocols_cross, crosses, sendable) depth 60 fits 20000
 
-module _ (T : RattleType) (g : ledger.Ghosts T.Denot) where
-  locked_send : IsSend (locked.the_row T g)
-  locked_send = recorded_send (locked.the_field T g).row _ _ (locked.the_type T g).to_one
-      (struct_send (shape (locked.the_type T g)) (book_send, (total.the_send T g, tt)))
+module _ (T : RattleType) (s : searched.Ghosts T.Denot) (l : ledger.Ghosts T.Denot) where
+  locked_send : IsSend (locked.the_row T s l)
+  locked_send = recorded_send (locked.the_field T s l).row _ _ (locked.the_type T s l).to_one
+      (struct_send (shape (locked.the_type T s l)) (book_send, (total.the_send T l, tt)))
 
-  pub shared_sync : IsSync (shared.the_row T g)
-  shared_sync = recorded_sync (shared.the_field T g).row _ _ (shared.the_type T g).to_one
-      (struct_sync (shape (shared.the_type T g)) (mutex.the_sync (locked.the_row T g) locked_send, (condvar.the_field_sync, tt)))
+  pub shared_sync : IsSync (shared.the_row T s l)
+  shared_sync = recorded_sync (shared.the_field T s l).row _ _ (shared.the_type T s l).to_one
+      (struct_sync (shape (shared.the_type T s l)) (mutex.the_sync (locked.the_row T s l) locked_send, (condvar.the_field_sync, tt)))
 
-  pub share_send : IsSend (share.the_row T g)
-  share_send = recorded_send (share.the_field T g).row _ _ (share.the_type T g).to_one
-      (struct_send (shape (share.the_type T g)) (
+  pub share_send : IsSend (share.the_row T s l)
+  share_send = recorded_send (share.the_field T s l).row _ _ (share.the_type T s l).to_one
+      (struct_send (shape (share.the_type T s l)) (
         search (crosses, sendable),
         (
-          part.the_send T g,
+          part.the_send T l,
           (
             scratch_send,
             (search (hands_send, crosses, sendable), (search (spent_send, crosses, sendable), (search (crosses, sendable), tt))),

@@ -84,11 +84,6 @@ all-same s r same (Ok (all.All sets tree runs)) h = all_same s r same sets.items
 all-same s r same (Ok (all.Full book)) h = (h.0, full_same s r same h.0 book h.1)
 all-same s r same (Err e) h = h
 
-pub ended-same : (s r : Scenario) → AreSame s r → (x : Result Ended PoolError) → IfOk x (IsEnded r) → IfOk x (IsEnded s)
-ended-same s r same (Ok (ended.Finished book)) h = (same_on s r (scenario_of book) same h.0, h.1)
-ended-same s r same (Ok (ended.Full book)) h = (h.0, full_same s r same h.0 book h.1)
-ended-same s r same (Err e) h = h
-
 -- why a worker alone found nothing
 pub left-refused : (s r : Scenario) (workers : ℕ) → AreSame s r → AreWorkers workers → (e : PoolError) → IsLeft r e → IsRefused s workers e
 left-refused s r workers same some error.Workers h = absurd h

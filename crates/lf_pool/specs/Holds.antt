@@ -1,7 +1,7 @@
 -- What the holds of the lock do to the book that lies under it. A turn is a first hold and, after a job, a second one: it is filed in that,
 -- or given back. Where many sets are open, a worker takes a handful of them in one hold, and files them in another. Nothing else changes
 -- the book.
-use Rattle.std.specs.Prelude.{◌≡◌, ◌⊎◌, ℕ, ◌+◌, List, [], ◌∷◌, ◌++◌}
+use Rattle.std.specs.Prelude.{◌≡◌, ◌⊎◌, ℕ, ◌+◌, List, [], ◌∷◌, ◌++◌, Option, Some}
 use Rattle.lf_marks.specs.Counting.{IsCount, OfKind}
 use Rattle.lf_marks.specs.Steps as mark
 use Rattle.std.specs.Arc.{arc_value}
@@ -15,6 +15,7 @@ use Rattle.lf_search.specs.Events.{FindsBusy}
 use Rattle.lf_work.specs.Jobs.{IsOfJob}
 use Rattle.lf_work.specs.declared.finding.Finding.{Finding}
 use Rattle.lf_work.specs.declared.job.Job.{Job}
+use Rattle.lf_work.specs.declared.spent.Spent.{Spent}
 use Rattle.lf_pool.specs.declared.locked.Begun.{Begun}
 use Rattle.lf_pool.specs.declared.locked.Begun.TheVariants as begun
 
@@ -81,9 +82,19 @@ AreJobsOf s = All (IsJobOf s)
 abbrev pub IsFoundFor : Scenario → Finding → Type 0
 IsFoundFor s finding = (arc_value finding.job.scenario ≡ s) × IsGivenFor s finding.job.path.items (task_of_finding finding)
 
--- and findings are so for one scenario
-abbrev pub AreOfOne : List Finding → Type 0
-AreOfOne findings = (s : Scenario) × All (IsFoundFor s) findings
+-- jobs are of the scenario that is searched, and so are findings
+abbrev pub AreJobsIn : Option Scenario → List Job → Type 0
+AreJobsIn searched jobs = (s : Scenario) × (searched ≡ Some s) × AreJobsOf s jobs
+
+abbrev pub IsFindingIn : Option Scenario → Finding → Type 0
+IsFindingIn searched finding = (s : Scenario) × (searched ≡ Some s) × IsFoundFor s finding
+
+abbrev pub AreFindingsIn : Option Scenario → List Finding → Type 0
+AreFindingsIn searched findings = (s : Scenario) × (searched ≡ Some s) × All (IsFoundFor s) findings
+
+-- what a job of that scenario left
+abbrev pub IsLeftIn : Option Scenario → Spent → Type 0
+IsLeftIn searched spent = searched ≡ Some (arc_value spent.scenario)
 
 -- a finding is of the scenario that the book searches, and of a job that such a book gave out
 abbrev pub IsOfBook : Book → Finding → Type 0

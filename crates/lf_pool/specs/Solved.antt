@@ -78,11 +78,11 @@ IsLeft s error.Memory = Unit {0}
 IsLeft s (error.OtherScenario book) = ⊥
 IsLeft s (error.Spent book) = IsSpentBook s book
 
--- why there is no answer: the number of workers is out of range, and else memory, a book of another scenario, or no ticket
+-- why there is no answer: the number of workers is out of range, and else memory, or no ticket; a book of another scenario never
 abbrev pub IsRefused : Scenario → ℕ → PoolError → Type 0
 IsRefused s workers error.Workers = ¬ AreWorkers workers
 IsRefused s workers error.Memory = AreWorkers workers
-IsRefused s workers (error.OtherScenario book) = AreWorkers workers × (¬ AreSame s (scenario_of book))
+IsRefused s workers (error.OtherScenario book) = ⊥
 IsRefused s workers (error.Spent book) = AreWorkers workers × IsSpentBook s book
 
 -- why no book is shared

@@ -18,7 +18,7 @@ pub enum PoolError {
     /// Memory has run out.
     #[error("out of memory")]
     Memory,
-    /// The book that came back is of another scenario.
+    /// The book that came back is of another scenario. No search gives this error: the lock's type keeps the scenario.
     #[error("the book that the workers left is of another scenario")]
     OtherScenario(Book),
     /// All tickets were given, and a set is open.

@@ -4,7 +4,7 @@ ghost use Rattle.std.specs.Prelude.{◌≡◌, ◌≤◌, [], vec_capacity};
 ghost use Rattle.lf_pool.specs.declared.handful.TheConstants.{HANDFUL};
 
 use crate::handful::HANDFUL;
-use lf_work::{Finding, Job, Spent};
+use lf_work::{Finding, Job};
 use std::alloc::{AllocError, Global};
 
 /// A worker's lists for a handful of sets: the jobs that it took, and what it found of them. They are made once, each with room for a
@@ -13,8 +13,6 @@ use std::alloc::{AllocError, Global};
 pub(crate) struct Hands {
     pub(crate) jobs: Vec<Job>,
     pub(crate) findings: Vec<Finding>,
-    /// What the jobs of the next handful are made of. What stays here from one to the next isn't used.
-    pub(crate) fresh: Vec<Spent>,
     ghost empty: { (jobs.items ≡ []) × (findings.items ≡ []) },
     ghost room: { (HANDFUL ≤ vec_capacity jobs) × (HANDFUL ≤ vec_capacity findings) },
 }
@@ -24,11 +22,6 @@ impl Hands {
     pub(crate) fn new(alloc: Global) -> Result<Hands, AllocError> {
         let jobs = Vec::with_capacity(alloc, HANDFUL)?;
         let findings = Vec::with_capacity(alloc, HANDFUL)?;
-        let fresh = Vec::with_capacity(alloc, HANDFUL)?;
-        Ok(Hands {
-            jobs,
-            findings,
-            fresh,
-        })
+        Ok(Hands { jobs, findings })
     }
 }

@@ -1,28 +1,28 @@
 //! What lies under the lock.
 
-ghost use Rattle.std.specs.Prelude.{◌≡◌, OnOk, OnErr, IfErr, IsTrue};
-ghost use Rattle.std.specs.List.{All};
+ghost use Rattle.std.specs.Prelude.{◌≡◌, Some, IfOk, IfSome, OnOk, OnErr, IfErr, IsTrue};
 ghost use Rattle.std.specs.Arc.{arc_value};
 ghost use Rattle.lf_book.specs.Books.{scenario_of, task_of_finding, IsFiled, IsRefusedFor};
 ghost use Rattle.lf_work.specs.Jobs.{IsSpentOf};
 ghost use Rattle.lf_pool.specs.Holds.{IsAnsweredCount, IsOfBook};
+ghost use Rattle.lf_pool.specs.Searches.{searched-prop};
 
 use crate::facts::books_are_closed;
 use crate::handful::handful;
+use crate::searched::Searched;
 use crate::share::Share;
 use lf_book::{Book, Deepened, Refusal, Taken};
-use lf_scenario::Scenario;
 use lf_work::{Finding, Job, Spent};
 use std::alloc::AllocError;
-use std::sync::ledger::Ledger;
-use std::sync::{Arc, ledger};
+use std::sync::ledger;
 
-/// A book, which is closed as every book is, and the total of the sets that were filed: as many as are answered.
+/// A book of the scenario that is searched, which is closed as every book is, and the total of the sets that were filed: as many as are answered.
 #[derive(Drop)]
-pub(crate) struct Locked<L: Ledger> {
+pub(crate) struct Locked<L: Searched> {
     pub(crate) book: Book,
     pub(crate) total: ledger::Book<L>,
     ghost counted: { IsAnsweredCount book total.total },
+    ghost searches: { L.scenario ≡ Some (scenario_of book) } by { searched-prop L.scenario (Some (scenario_of book)) },
 }
 
 /// What the first hold of a turn gives.
@@ -40,11 +40,12 @@ pub(crate) enum Begun {
     Spent,
 }
 
-impl<L: Ledger> Locked<L> {
-    ghost use Rattle.std.specs.Prelude.{◌+◌, ◌≤◌, [], length, vec_capacity, Ok, IfOk, IfSome, MatchBool, MatchOption};
+impl<L: Searched> Locked<L> {
+    ghost use Rattle.std.specs.Prelude.{◌+◌, ◌≤◌, [], length, vec_capacity, Ok, MatchBool, MatchOption};
+    ghost use Rattle.std.specs.List.{All};
     ghost use Rattle.lf_book.specs.Books.{task_of_job, IsGivenBack, IsGivenFor, IsTaken};
     ghost use Rattle.lf_book.specs.declared.taking.Taken.TheVariants as taken;
-    ghost use Rattle.lf_pool.specs.Holds.{AreEnded, AreFiled, AreGivenBack, AreJobsOf, AreOfOne, AreTaken, IsBegun, IsBusy, IsFindingClaimed, IsJobClaimed};
+    ghost use Rattle.lf_pool.specs.Holds.{AreEnded, AreFiled, AreFindingsIn, AreGivenBack, AreJobsIn, AreTaken, IsBegun, IsBusy, IsFindingClaimed, IsFindingIn, IsJobClaimed, IsLeftIn};
     ghost use Rattle.lf_pool.specs.declared.locked.Begun.TheVariants as begun;
     ghost use Rattle.lf_pool.specs.declared.handful.TheConstants.{HANDFUL};
 
@@ -66,28 +67,23 @@ impl<L: Ledger> Locked<L> {
         }
     }
 
-    /// Files a finding, which may be known to be of a job that a book of the same scenario gave out, and raises the total and the worker's share by
-    /// one. Nothing changes where it is of no claim of the book.
-    pub(crate) fn file(&mut self, share: &mut Share<L>, finding: Finding, same: bool) -> bool
-        requires { IsTrue same → IsOfBook self.old.book finding }
+    /// Files a finding, which may be known to be of a job that a book of the search gave out, and raises the total and the worker's share by one.
+    /// Nothing changes where it is of no claim of the book.
+    pub(crate) fn file(&mut self, share: &mut Share<L>, finding: Finding, given: bool) -> bool
+        requires { IsTrue given → IsFindingIn L.scenario finding }
         ensures filed { MatchBool result
             (IsFiled finding self.old.book self.new.book × (share.new.filed ≡ share.old.filed + 1))
             ((¬ IsFindingClaimed self.old.book finding) × (self.new.book ≡ self.old.book) × (share.new.filed ≡ share.old.filed)) }
         ensures scenario { scenario_of self.new.book ≡ scenario_of self.old.book }
     {
         let Locked { book, total } = self;
-        let Share {
-            filed,
-            part,
-            spent,
-            ..
-        } = share;
         books_are_closed(book);
-        let Ok(left) = file_in(book, finding, same) else {
+        let Ok(left) = file_in(book, finding, given) else {
             return false;
         };
         books_are_closed(book);
-        keep(spent, left);
+        share.keep(left);
+        let Share { filed, part, .. } = share;
         total.add(part, 1);
         total.audit(part);
         *filed += 1;
@@ -107,25 +103,20 @@ impl<L: Ledger> Locked<L> {
 
     /// Takes a handful of sets where many are open, one after another, and none where few are. The list has room for them. Each job is made of what
     /// an earlier one left, as long as there is such.
-    pub(crate) fn take_some(
-        &mut self,
-        jobs: &mut Vec<Job>,
-        spent: &mut Vec<Spent>,
-        fresh: &mut Vec<Spent>,
-    )
+    pub(crate) fn take_some(&mut self, jobs: &mut Vec<Job>, spent: &mut Vec<Spent>)
         requires none { jobs.old.items ≡ [] }
+        requires left { All (IsLeftIn L.scenario) spent.old.items }
         requires room { HANDFUL ≤ vec_capacity jobs.old }
         ensures taken { AreTaken jobs.new.items self.old.book self.new.book }
-        ensures same { AreJobsOf (scenario_of self.old.book) jobs.new.items }
+        ensures same { AreJobsIn L.scenario jobs.new.items }
+        ensures left { All (IsLeftIn L.scenario) spent.new.items }
         ensures few { length jobs.new.items ≤ HANDFUL }
         ensures room { vec_capacity jobs.new ≡ vec_capacity jobs.old }
         ensures scenario { scenario_of self.new.book ≡ scenario_of self.old.book }
         ensures total { self.new.total ≡ self.old.total }
     {
-        let count = handful(self.book.counts().ready);
-        renew(self.book.shared(), count, spent, fresh);
-        'jobs: for _taken in 0..count {
-            let Some(job) = self.take_job(fresh.pop()) else {
+        'jobs: for _taken in 0..handful(self.book.counts().ready) {
+            let Some(job) = self.take_job(spent.pop()) else {
                 break;
             };
             jobs.push_reserved(job);
@@ -134,7 +125,7 @@ impl<L: Ledger> Locked<L> {
 
     /// Takes a set. None where there is none to take, and where memory has run out. Its job is made of what another one left, if there is such.
     fn take_job(&mut self, spent: Option<Spent>) -> Option<Job>
-        requires { IfSome spent (IsSpentOf (scenario_of self.old.book)) }
+        requires { IfSome spent (IsLeftIn L.scenario) }
         ensures taken { MatchOption result (self.new.book ≡ self.old.book)
             (λ job. IsTaken self.old.book self.new.book (taken.Job job)) }
         ensures given { IfSome result (λ job. IsGivenFor (scenario_of self.old.book) job.path.items (task_of_job job)) }
@@ -157,7 +148,7 @@ impl<L: Ledger> Locked<L> {
         jobs: &mut Vec<Job>,
         findings: &mut Vec<Finding>,
     ) -> u64
-        requires { AreOfOne findings.old.items }
+        requires { AreFindingsIn L.scenario findings.old.items }
         ensures ended { AreEnded findings.old.items jobs.old.items result self.old.book self.new.book }
         ensures none { (jobs.new.items ≡ []) × (findings.new.items ≡ []) }
         ensures room { (vec_capacity jobs.new ≡ vec_capacity jobs.old) × (vec_capacity findings.new ≡ vec_capacity findings.old) }
@@ -169,10 +160,10 @@ impl<L: Ledger> Locked<L> {
         filed
     }
 
-    /// Files findings of one scenario, the last one first, and tells how many the book didn't refuse. By so many the total and the worker's share are
-    /// raised. The scenario is compared with the book's once, and if it is the same, no set and no exclusions are: they are those of the claim.
+    /// Files findings of the search, the last one first, and tells how many the book didn't refuse. By so many the total and the worker's share are
+    /// raised. No set and no exclusions are compared: they are those of the claim.
     fn file_all(&mut self, share: &mut Share<L>, findings: &mut Vec<Finding>) -> u64
-        requires { AreOfOne findings.old.items }
+        requires { AreFindingsIn L.scenario findings.old.items }
         ensures filed { AreFiled findings.old.items result self.old.book self.new.book }
         ensures none { findings.new.items ≡ [] }
         ensures room { vec_capacity findings.new ≡ vec_capacity findings.old }
@@ -180,22 +171,10 @@ impl<L: Ledger> Locked<L> {
         ensures scenario { scenario_of self.new.book ≡ scenario_of self.old.book }
     {
         let before = share.filed;
-        let same = self.searches(findings);
         'findings: while let Some(finding) = findings.pop() {
-            let _filed = self.file(share, finding, same);
+            let _filed = self.file(share, finding, true);
         }
         share.filed - before
-    }
-
-    /// Whether findings of jobs of one scenario are known to be of the book's.
-    fn searches(&self, findings: &[Finding]) -> bool
-        requires { AreOfOne findings.now }
-        ensures { IsTrue result → All (IsOfBook self.now.book) findings.now }
-    {
-        match findings.first() {
-            Some(finding) => self.book.scenario().same(finding.scenario()),
-            None => false,
-        }
     }
 
     /// Gives jobs back, the last one first: their sets are open again.
@@ -216,49 +195,20 @@ impl<L: Ledger> Locked<L> {
 fn file_in(
     book: &mut Book,
     finding: Finding,
-    same: bool,
+    given: bool,
 ) -> Result<Option<Spent>, (Refusal, Finding)>
-    requires { IsTrue same → IsOfBook book.old finding }
+    requires { IsTrue given → IsOfBook book.old finding }
     ensures filed { OnOk result (IsFiled finding book.old book.new) }
     ensures refused { IfErr result (λ back. IsRefusedFor book.old finding.job.ticket (arc_value finding.job.scenario) finding.job.path.items
         (task_of_finding finding) back.0) }
+    ensures left { IfOk result (λ left. IfSome left (λ spent. IsTrue given × IsSpentOf (arc_value finding.job.scenario) spent)) }
     ensures unchanged { OnErr result (book.new ≡ book.old) }
     ensures scenario { scenario_of book.new ≡ scenario_of book.old }
 {
-    if same {
+    if given {
         let left = book.file_given(finding)?;
         return Ok(Some(left));
     }
     book.file(finding)?;
     Ok(None)
-}
-
-/// Keeps what a job left, if the list has room for it.
-fn keep(spent: &mut Vec<Spent>, left: Option<Spent>) {
-    let Some(left) = left else {
-        return;
-    };
-    if spent.len() < spent.capacity() {
-        spent.push_reserved(left);
-    }
-}
-
-/// Takes what so many jobs left, or as much as there is, for jobs of a scenario. All of it is counted among what shares the scenario in one go: to
-/// count keeps others from reading the scenario for a moment.
-fn renew(scenario: &Arc<Scenario>, count: usize, spent: &mut Vec<Spent>, fresh: &mut Vec<Spent>)
-    ensures { All (IsSpentOf (arc_value scenario.now)) fresh.new.items }
-{
-    fresh.clear();
-    'spent: for _renewed in 0..count {
-        if fresh.len() == fresh.capacity() {
-            break;
-        }
-        let Some(left) = spent.pop() else {
-            break;
-        };
-        let Ok(left) = left.renewed(scenario) else {
-            break;
-        };
-        fresh.push_reserved(left);
-    }
 }

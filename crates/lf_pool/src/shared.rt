@@ -1,30 +1,34 @@
 //! The book that workers share.
 
-ghost use Rattle.std.specs.Prelude.{◌≡◌, ◌+◌, ◌<◌, IfOk, IfErr, OnOk, vec_len};
+ghost use Rattle.std.specs.Prelude.{◌≡◌, ◌+◌, ◌<◌, Some, IfOk, IfErr, OnOk, vec_len};
+ghost use Rattle.std.specs.Arc.{arc_value};
 ghost use Rattle.std.specs.List.{All, sum_by};
+ghost use Rattle.lf_book.specs.Books.{scenario_of};
 ghost use Rattle.lf_pool.specs.Holds.{IsAnsweredCount};
 ghost use Rattle.lf_pool.specs.Solved.{AreWorkers, IsNotBegun};
 
 use crate::error::PoolError;
 use crate::facts::books_are_closed;
 use crate::locked::Locked;
+use crate::searched::Searched;
 use crate::share::Share;
 use crate::solving::are_workers;
 use lf_book::Book;
 use lf_scenario::Scenario;
 use std::alloc::{AllocError, Global};
-use std::sync::ledger::{Blank, Ledger};
+use std::sync::ledger::Blank;
 use std::sync::{Arc, Condvar, Mutex, ledger};
 
-/// A book that several workers share. Whenever the lock is got its book is closed, and as many of its sets are answered as were filed.
+/// A book that several workers share. Whenever the lock is got its book is closed and of the scenario that is searched, and as many of its sets are
+/// answered as were filed.
 #[derive(Drop)]
-pub struct SharedBook<L: Ledger> {
+pub struct SharedBook<L: Searched> {
     pub(crate) lock: Mutex<Locked<L>>,
     /// Told whenever there may be more to do than before.
     pub(crate) changed: Condvar,
 }
 
-impl<L: Ledger> SharedBook<L> {
+impl<L: Searched> SharedBook<L> {
     /// A book of the scenario at its start, and a share of nothing for each worker and for whoever gathers them. The errors are `Workers` and
     /// `Memory`.
     pub fn begin(
@@ -36,6 +40,7 @@ impl<L: Ledger> SharedBook<L> {
         requires name { blank.name ≡ L.name }
         requires parts { blank.parts ≡ L.parts }
         requires enough { blank.parts ≡ workers + 1 }
+        requires scenario { L.scenario ≡ Some (arc_value scenario) }
         ensures shares { IfOk result (λ begun. vec_len begun.1 ≡ workers + 1) }
         ensures none { IfOk result (λ begun. All (λ share. share.filed ≡ 0) begun.1.items) }
         ensures workers { OnOk result (AreWorkers workers) }
@@ -58,10 +63,11 @@ impl<L: Ledger> SharedBook<L> {
         Ok((shared, shares))
     }
 
-    /// The book, and the sum of all shares: so many of its sets are answered. It takes no memory.
+    /// The book, which is of the scenario that is searched, and the sum of all shares: so many of its sets are answered. It takes no memory.
     pub fn gather(self, shares: Vec<Share<L>>) -> (Book, u64)
         requires all { vec_len shares ≡ L.parts }
         requires some { 0 < L.parts }
+        ensures scenario { L.scenario ≡ Some (scenario_of result.0) }
         ensures counted { IsAnsweredCount result.0 result.1 }
         ensures sum { result.1 ≡ sum_by (λ share. share.filed) shares.items }
     {
@@ -70,7 +76,7 @@ impl<L: Ledger> SharedBook<L> {
     }
 }
 
-impl<L: Ledger> Locked<L> {
+impl<L: Searched> Locked<L> {
     /// The book, and the sum of all shares.
     fn gather(self, shares: Vec<Share<L>>) -> (Book, u64)
         requires all { vec_len shares ≡ L.parts }
@@ -102,7 +108,7 @@ impl<L: Ledger> Locked<L> {
 }
 
 /// One share for each worker, and one more.
-fn cut<L: Ledger>(
+fn cut<L: Searched>(
     alloc: Global,
     whole: ledger::Share<L>,
     workers: u32,

@@ -1,6 +1,6 @@
 //! Solving a scenario by several workers.
 
-ghost use Rattle.std.specs.Prelude.{◌≡◌, ◌↔◌, ◌+◌, ◌≤◌, IsTrue, IfOk, IfErr, OnOk};
+ghost use Rattle.std.specs.Prelude.{◌≡◌, ◌↔◌, ◌+◌, ◌≤◌, Some, IsTrue, IfOk, IfErr, OnOk};
 ghost use Rattle.std.specs.Arc.{arc_value};
 ghost use denote.Param.Send.{IsSend, IsSync};
 ghost use Rattle.lf_pool.specs.Solved.{AreSolved, AreWorkers, IsEnded, IsRefused, IsSolved, number_of};
@@ -9,6 +9,7 @@ use crate::answers::{all_of, answer_of};
 use crate::error::PoolError;
 use crate::finish::{Ended, finish};
 use crate::gate::Gate;
+use crate::searched::Searched;
 use crate::share::Share;
 use crate::shared::SharedBook;
 use crate::turning::Turn;
@@ -19,7 +20,7 @@ use lf_tree::Tree;
 use std::alloc::Global;
 use std::marker::Brand;
 use std::rt::Clock;
-use std::sync::ledger::{Blank, Ledger};
+use std::sync::ledger::Blank;
 use std::sync::{Arc, Wait};
 use std::thread;
 use std::thread::Threads;
@@ -106,7 +107,7 @@ pub fn solve_all<R: Threads + Wait + Clock + Sync, G: Gate>(
 }
 
 /// The search, with a ledger of its own.
-fn search_in<L: Ledger + Send + Sync, R: Threads + Wait + Clock + Sync, G: Gate>(
+fn search_in<L: Searched + Send + Sync, R: Threads + Wait + Clock + Sync, G: Gate>(
     rt: &R,
     alloc: Global,
     blank: Blank,
@@ -117,6 +118,7 @@ fn search_in<L: Ledger + Send + Sync, R: Threads + Wait + Clock + Sync, G: Gate>
     requires name { blank.name ≡ L.name }
     requires parts { blank.parts ≡ L.parts }
     requires enough { blank.parts ≡ workers + 1 }
+    requires scenario { L.scenario ≡ Some (arc_value scenario) }
     ensures ended { IfOk result (IsEnded (arc_value scenario)) }
     ensures workers { OnOk result (AreWorkers workers) }
     ensures refused { IfErr result (IsRefused (arc_value scenario) workers) }
@@ -124,22 +126,16 @@ fn search_in<L: Ledger + Send + Sync, R: Threads + Wait + Clock + Sync, G: Gate>
     if !are_workers(workers) {
         return Err(PoolError::Workers);
     }
-    let Ok(searched) = Arc::try_clone(&scenario) else {
-        return Err(PoolError::Memory);
-    };
-    let (shared, mut shares) = SharedBook::<L>::begin(alloc, blank, searched, workers)?;
+    let (shared, mut shares) = SharedBook::<L>::begin(alloc, blank, scenario, workers)?;
     let lent = shares.as_mut_slice();
     let (own, _last) = lent.split_at_mut(workers as usize);
     work_all(rt, &shared, own, gate);
     let (book, _filed) = shared.gather(shares);
-    if !scenario.same(book.scenario()) {
-        return Err(PoolError::OtherScenario(book));
-    }
     finish(alloc, book)
 }
 
 /// Lets each share's worker work until there is no more to do.
-fn work_all<L: Ledger + Send + Sync, R: Threads + Wait + Clock + Sync, G: Gate>(
+fn work_all<L: Searched + Send + Sync, R: Threads + Wait + Clock + Sync, G: Gate>(
     rt: &R,
     shared: &SharedBook<L>,
     shares: &mut [Share<L>],
@@ -159,7 +155,7 @@ fn work_all<L: Ledger + Send + Sync, R: Threads + Wait + Clock + Sync, G: Gate>(
 }
 
 /// A worker's turns, several at once where many sets are open, until there is no more to do or no memory for it.
-fn work<L: Ledger, R: Wait + Clock, G: Gate>(
+fn work<L: Searched, R: Wait + Clock, G: Gate>(
     rt: &R,
     shared: &SharedBook<L>,
     share: &mut Share<L>,

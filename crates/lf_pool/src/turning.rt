@@ -1,9 +1,10 @@
 //! The turns of a worker.
 
 ghost use Rattle.std.specs.Prelude.{◌≡◌, ◌≢◌, ◌+◌, ◌≤◌, ◌++◌, List, [], Ok, IfOk, OnOk, OnErr, length, vec_capacity};
+ghost use Rattle.std.specs.List.{All};
 ghost use Rattle.lf_scenario.specs.declared.scenario.Scenario.{Scenario};
 ghost use Rattle.lf_work.specs.Scratches.{IsScratchFor};
-ghost use Rattle.lf_pool.specs.Holds.{AreJobsOf, AreOfJobs, AreOfOne, IsBusy};
+ghost use Rattle.lf_pool.specs.Holds.{AreFindingsIn, AreJobsIn, AreJobsOf, AreOfJobs, IsBusy, IsLeftIn};
 ghost use Rattle.std.specs.Sync.Mutex.{mutex_guard_value};
 ghost use Rattle.lf_pool.specs.declared.handful.TheConstants.{HANDFUL};
 ghost use Rattle.lf_pool.specs.declared.turning.Turn.TheVariants as turn;
@@ -11,13 +12,13 @@ ghost use Rattle.lf_pool.specs.declared.turning.Turn.TheVariants as turn;
 use crate::gate::Gate;
 use crate::hands::Hands;
 use crate::locked::{Begun, Locked};
+use crate::searched::Searched;
 use crate::share::Share;
 use crate::shared::SharedBook;
 use lf_book::Deepened;
 use lf_work::{Finding, Job, Scratch, Spent};
 use std::alloc::AllocError;
 use std::rt::Clock;
-use std::sync::ledger::Ledger;
 use std::sync::{MutexGuard, Wait};
 
 /// What a turn did.
@@ -42,7 +43,7 @@ pub enum Turn {
     Spent,
 }
 
-impl<L: Ledger> SharedBook<L> {
+impl<L: Searched> SharedBook<L> {
     /// One turn of a worker: it takes a set, works it by the gate outside the lock, and files what it found. Where the level is done it
     /// deepens the book, and where all open sets are worked by others it waits once for a change. The error is that memory has run
     /// out: the set was given back. The share is raised by one where a finding was filed, and is else as it was.
@@ -113,12 +114,8 @@ impl<L: Ledger> SharedBook<L> {
         ensures filed { IfOk result (λ filed. share.new.filed ≡ share.old.filed + filed) }
         ensures err { OnErr result (share.old.filed ≤ share.new.filed) }
     {
-        let Hands {
-            jobs,
-            findings,
-            fresh,
-        } = hands;
-        self.take_handful(rt, jobs, &mut share.spent, fresh);
+        let Hands { jobs, findings } = hands;
+        self.take_handful(rt, jobs, &mut share.spent);
         let Some(last) = jobs.last() else {
             return Ok(0);
         };
@@ -131,20 +128,16 @@ impl<L: Ledger> SharedBook<L> {
 
     /// Takes a handful of sets where many are open. The last of them is worked first and filed last: claims that end in the order in which they
     /// were made are ended soonest.
-    fn take_handful<R: Wait>(
-        &self,
-        rt: &R,
-        jobs: &mut Vec<Job>,
-        spent: &mut Vec<Spent>,
-        fresh: &mut Vec<Spent>,
-    )
+    fn take_handful<R: Wait>(&self, rt: &R, jobs: &mut Vec<Job>, spent: &mut Vec<Spent>)
         requires none { jobs.old.items ≡ [] }
+        requires left { All (IsLeftIn L.scenario) spent.old.items }
         requires room { HANDFUL ≤ vec_capacity jobs.old }
-        ensures same { (s : Scenario) × AreJobsOf s jobs.new.items }
+        ensures same { AreJobsIn L.scenario jobs.new.items }
+        ensures left { All (IsLeftIn L.scenario) spent.new.items }
         ensures few { length jobs.new.items ≤ HANDFUL }
         ensures room { vec_capacity jobs.new ≡ vec_capacity jobs.old }
     {
-        self.lock.lock(rt).take_some(jobs, spent, fresh);
+        self.lock.lock(rt).take_some(jobs, spent);
     }
 
     /// Files what was found, gives the other jobs back, and wakes all that wait. It answers how much was filed.
@@ -155,7 +148,7 @@ impl<L: Ledger> SharedBook<L> {
         jobs: &mut Vec<Job>,
         findings: &mut Vec<Finding>,
     ) -> u64
-        requires { AreOfOne findings.old.items }
+        requires { AreFindingsIn L.scenario findings.old.items }
         ensures none { (jobs.new.items ≡ []) × (findings.new.items ≡ []) }
         ensures room { (vec_capacity jobs.new ≡ vec_capacity jobs.old) × (vec_capacity findings.new ≡ vec_capacity findings.old) }
         ensures share { share.new.filed ≡ share.old.filed + result }

@@ -31,16 +31,4 @@ impl Spent {
             path: Vec::new(alloc),
         })
     }
-
-    /// The same memory, for jobs of the scenario. The error is that it can't be shared once more.
-    pub fn renewed(self, scenario: &Arc<Scenario>) -> Result<Spent, AllocError>
-        ensures { IfOk result (λ spent. arc_value spent.scenario ≡ arc_value scenario.now) }
-    {
-        let shared = Arc::try_clone(scenario)?;
-        Ok(Spent {
-            scenario: shared,
-            excluded: self.excluded,
-            path: self.path,
-        })
-    }
 }

@@ -10,14 +10,15 @@ use denote.Struct.Field.{shr_ref_field, mut_slice_field}
 use denote.Struct.Tuple as tuple
 use Rattle.std.specs.declared.sync.ledger.Ledger as ledger
 use Rattle.lf_pool.proofs.Laws.{workers_cross}
+use Rattle.lf_pool.specs.declared.searched.Searched as searched
 use Rattle.lf_pool.specs.contracts.share.Share as share
 use Rattle.lf_pool.specs.contracts.shared.SharedBook as shared
 
-module _ (T : RattleType) (g : ledger.Ghosts T.Denot) where
-  pub shared_sync : IsSync (shared.the_row T g)
+module _ (T : RattleType) (s : searched.Ghosts T.Denot) (l : ledger.Ghosts T.Denot) where
+  pub shared_sync : IsSync (shared.the_row T s l)
   shared_sync = search workers_cross
 
-  pub share_send : IsSend (share.the_row T g)
+  pub share_send : IsSend (share.the_row T s l)
   share_send = search workers_cross
 
 -- two borrows, a slice of its own, and a third borrow

@@ -1,18 +1,19 @@
 //! The turns of one worker, by hand.
 
-ghost use Rattle.std.specs.Prelude.{◌≡◌, ◌+◌};
+ghost use Rattle.std.specs.Prelude.{◌≡◌, ◌+◌, Some};
+ghost use Rattle.std.specs.Arc.{arc_value};
 
 use crate::texts::{agrees, asked, is_text};
-use lf_pool::{Gate, NoGate, Share, SharedBook, Turn};
+use lf_pool::{Gate, NoGate, Searched, Share, SharedBook, Turn};
 use lf_scenario::Scenario;
 use std::alloc::{AllocError, Global};
 use std::marker::Brand;
 use std::rt::Clock;
-use std::sync::ledger::{Blank, Ledger};
+use std::sync::ledger::Blank;
 use std::sync::{Arc, Wait};
 
 /// Adds what ten turns of a worker did, or those until the search had ended or was full, and how many sets it filed, by its share.
-fn push_turns<L: Ledger, R: Wait + Clock>(
+fn push_turns<L: Searched, R: Wait + Clock>(
     text: &mut String,
     rt: &R,
     shared: &SharedBook<L>,
@@ -29,7 +30,7 @@ fn push_turns<L: Ledger, R: Wait + Clock>(
 }
 
 /// The turns of the only worker, and how many sets were filed, by all shares.
-fn turns<L: Ledger, R: Wait + Clock>(
+fn turns<L: Searched, R: Wait + Clock>(
     rt: &R,
     alloc: Global,
     blank: Blank,
@@ -38,6 +39,7 @@ fn turns<L: Ledger, R: Wait + Clock>(
     requires name { blank.name ≡ L.name }
     requires parts { blank.parts ≡ L.parts }
     requires enough { blank.parts ≡ 2 }
+    requires scenario { L.scenario ≡ Some (arc_value scenario) }
 {
     let Ok((shared, mut shares)) = SharedBook::<L>::begin(alloc, blank, scenario, 1) else {
         return None;

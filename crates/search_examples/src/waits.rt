@@ -1,9 +1,10 @@
 //! A worker that waits for another.
 
-ghost use Rattle.std.specs.Prelude.{◌≡◌, ◌+◌, IfOk};
+ghost use Rattle.std.specs.Prelude.{◌≡◌, ◌+◌, Some, IfOk};
+ghost use Rattle.std.specs.Arc.{arc_value};
 
 use crate::texts::{agrees, asked};
-use lf_pool::{Gate, NoGate, Share, SharedBook, Turn};
+use lf_pool::{Gate, NoGate, Searched, Share, SharedBook, Turn};
 use lf_scenario::Scenario;
 use lf_work::{Finding, Job, Scratch, work_suited};
 use std::alloc::{AllocError, Global};
@@ -12,7 +13,7 @@ use std::process::Abort;
 use std::rt::Clock;
 use std::sync::atomic::AtomicBool;
 use std::sync::atomic::Ordering::SeqCst;
-use std::sync::ledger::{Blank, Ledger};
+use std::sync::ledger::Blank;
 use std::sync::{Arc, Wait};
 use std::thread;
 use std::thread::Threads;
@@ -62,7 +63,7 @@ impl Gate for Holding {
 }
 
 /// A turn of the first worker, which holds its set. The test fails where the second one's turns don't end then: nobody woke it.
-fn hold<L: Ledger, R: Wait + Clock + Abort>(
+fn hold<L: Searched, R: Wait + Clock + Abort>(
     rt: &R,
     shared: &SharedBook<L>,
     shares: &mut [Share<L>],
@@ -90,7 +91,7 @@ enum Waiting {
 }
 
 /// The turns of the second worker while the first one holds its set, and until the search has ended: a hundred at most.
-fn ask<L: Ledger, R: Wait + Clock>(
+fn ask<L: Searched, R: Wait + Clock>(
     rt: &R,
     shared: &SharedBook<L>,
     shares: &mut [Share<L>],
@@ -109,7 +110,7 @@ fn ask<L: Ledger, R: Wait + Clock>(
 }
 
 /// The same, once the first worker holds its set.
-fn ask_beside<L: Ledger, R: Wait + Clock>(
+fn ask_beside<L: Searched, R: Wait + Clock>(
     rt: &R,
     shared: &SharedBook<L>,
     shares: &mut [Share<L>],
@@ -123,7 +124,7 @@ fn ask_beside<L: Ledger, R: Wait + Clock>(
 }
 
 /// What comes of two workers' turns, of which the first holds its set, and whether all three sets of the scenario are filed then.
-fn turns<L: Ledger + Send + Sync, R: Threads + Wait + Clock + Abort + Sync>(
+fn turns<L: Searched + Send + Sync, R: Threads + Wait + Clock + Abort + Sync>(
     rt: &R,
     alloc: Global,
     blank: Blank,
@@ -133,6 +134,7 @@ fn turns<L: Ledger + Send + Sync, R: Threads + Wait + Clock + Abort + Sync>(
     requires name { blank.name ≡ L.name }
     requires parts { blank.parts ≡ L.parts }
     requires enough { blank.parts ≡ 3 }
+    requires scenario { L.scenario ≡ Some (arc_value scenario) }
 {
     let Ok((shared, mut shares)) = SharedBook::<L>::begin(alloc, blank, scenario, 2) else {
         return None;

@@ -14,4 +14,4 @@ join-waiting-requires-send-F g c κs within =
     let L = param 0 g.row.L in
     param_send 1 _
     (arg_send _ exit.no _
-    (lent_send _ _ _ _ _ _ _ _ _ _ _ _ _ c.type_bounds.sync-R (shared_sync L g.L.Ledger) (share_send L g.L.Ledger) holding_sync))
+    (lent_send _ _ _ _ _ _ _ _ _ _ _ _ _ c.type_bounds.sync-R (shared_sync L g.L.Searched g.L.Ledger) (share_send L g.L.Searched g.L.Ledger) holding_sync))

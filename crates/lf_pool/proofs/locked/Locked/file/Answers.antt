@@ -1,7 +1,8 @@
-use Rattle.std.proofs.Common.{sym, ap, ◌∙◌, subst, ◌+◌, arith}
+use Rattle.std.proofs.Common.{Some, sym, ap, ◌∙◌, subst, ◌+◌, arith}
 use Rattle.std.specs.Prelude.{is_err}
 use Rattle.lf_pool.specs.Holds.{IsAnsweredCount}
 use Rattle.lf_pool.proofs.HoldLemmas.{refused-counted, file-counted}
+use Rattle.lf_pool.proofs.ScenarioLemmas.{finding-of, left-in}
 use Rattle.lf_pool.proofs.locked.Locked.file.Goals as goal
 
 pub invariant_of-self : goal.invariant_of-self
@@ -10,6 +11,7 @@ invariant_of-self g c =
     record {
       counted = refused-counted m.book c.file_in.new.book c.file_in.result m.total.total (ap is_err c.in_default.is)
           c.file_in.ensures.unchanged m.counted;
+      searches = m.searches ∙ ap Some (sym c.file_in.ensures.scenario);
     }
 
 pub invariant_of-self-2 : goal.invariant_of-self-2
@@ -19,7 +21,15 @@ invariant_of-self-2 g c =
       counted = subst (λ n. IsAnsweredCount c.file_in.new.book n) (sym (c.audit.ensures.total ∙ c.add.ensures.total))
           (file-counted m.book c.file_in.new.book c.args.finding c.file_in.result m.total.total (ap is_err c.in-Ok.is)
           c.file_in.ensures.filed c.books_are_closed.ensures.closed m.counted);
+      searches = m.searches ∙ ap Some (sym c.file_in.ensures.scenario);
     }
+
+pub file_in-requires : goal.file_in-requires
+file_in-requires g c = λ given.
+    finding-of g.L.Searched.scenario c.args.self.now.book c.args.finding c.args.self.now.searches (c.requires given)
+
+pub keep-requires : goal.keep-requires
+keep-requires g c = left-in g.L.Searched.scenario c.args.finding c.args.given c.in-Ok.left c.requires c.in-Ok.ensures.left
 
 pub overflow_add-filed : goal.overflow_add-filed
 overflow_add-filed g c =

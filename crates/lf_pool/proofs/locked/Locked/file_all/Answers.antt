@@ -1,7 +1,5 @@
-use Rattle.std.proofs.Common.{sym, ◌∷◌, ◌∙◌, subst}
-use Rattle.std.specs.Arc.{arc_value}
-use Rattle.lf_scenario.specs.Sameness.{AreSame}
-use Rattle.lf_pool.specs.Holds.{AreOfOne, IsOfBook}
+use Rattle.std.proofs.Common.{◌∷◌, ◌∙◌}
+use Rattle.lf_pool.specs.Holds.{IsFoundFor}
 use Rattle.lf_pool.proofs.HoldLemmas.{filed-more, one-off}
 use Rattle.lf_pool.proofs.ScenarioLemmas.{within}
 use Rattle.lf_pool.proofs.locked.Locked.file_all.Goals as goal
@@ -23,12 +21,10 @@ findings-preserved g c =
     }
 
 pub file-filed-requires : goal.file-filed-requires
-file-filed-requires g c = λ same.
-    let so = c.findings.invariant in
-    let f = c.in-Some.finding in
-    let own = within (IsOfBook c.args.self.now.book) c.args.findings.now.items c.findings.findings.items c.pop.new.self.items so.done f so.rest
-    c.in-Some.ensures.items (rw (c.deref.ensures.value) at c.searches-same.ensures same) in
-    (subst (λ s. AreSame s (arc_value f.job.scenario)) (sym so.scenario) own.0, own.1)
-
-pub searches-same-requires : goal.searches-same-requires
-searches-same-requires g c = subst AreOfOne (sym c.deref.ensures.value) c.requires
+file-filed-requires g c = λ given.
+    let all = c.requires in (
+      all.0,
+      all.1,
+      within (IsFoundFor all.0) c.args.findings.now.items c.findings.findings.items c.pop.new.self.items c.findings.invariant.done c.in-Some.finding
+          c.findings.invariant.rest c.in-Some.ensures.items all.2,
+    )

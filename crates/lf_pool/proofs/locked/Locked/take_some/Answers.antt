@@ -3,9 +3,7 @@ use Rattle.std.proofs.lemmas.List.Elements.{All-push}
 use Rattle.lf_scenario.specs.declared.scenario.Scenario.{Scenario}
 use Rattle.lf_book.specs.Books.{scenario_of, task_of_job, IsGivenFor}
 use Rattle.lf_work.specs.declared.job.Job.{Job}
-use Rattle.lf_pool.specs.Holds.{AreJobsOf, AreTaken, IsJobOf}
-use Rattle.lf_work.specs.Jobs.{IsSpentOf}
-use Rattle.std.specs.Prelude.{IfSome}
+use Rattle.lf_pool.specs.Holds.{AreJobsOf, AreTaken, IsJobOf, IsLeftIn}
 use Rattle.lf_pool.proofs.HoldLemmas.{taken-more}
 use Rattle.lf_pool.proofs.ScenarioLemmas.{off-end}
 use Rattle.lf_pool.proofs.locked.Locked.take_some.Goals as goal
@@ -23,7 +21,7 @@ jobs-preserved g c =
             took.taken.0 ∙ so.scenario,
             subst (λ (s : Scenario). IsGivenFor s c.in-Some.job.path.items (task_of_job c.in-Some.job)) so.scenario took.given,
           ));
-      fresh = (off-end (IsSpentOf (scenario_of c.args.self.now.book)) c.jobs.fresh.items c.pop.new.self.items c.pop.result c.pop.ensures.items so.fresh).0;
+      left = (off-end (IsLeftIn g.L.Searched.scenario) c.jobs.spent.items c.pop.new.self.items c.pop.result c.pop.ensures.items so.left).0;
       few = omega (arith, so.few, put.len);
       room = put.capacity ∙ so.room;
       scenario = took.scenario ∙ so.scenario;
@@ -32,6 +30,8 @@ jobs-preserved g c =
 
 pub take_job-requires : goal.take_job-requires
 take_job-requires g c =
-    let so = c.jobs.invariant in
-    subst (λ s. IfSome c.pop.result (IsSpentOf s)) (sym so.scenario)
-    (off-end (IsSpentOf (scenario_of c.args.self.now.book)) c.jobs.fresh.items c.pop.new.self.items c.pop.result c.pop.ensures.items so.fresh).1
+    (off-end (IsLeftIn g.L.Searched.scenario) c.jobs.spent.items c.pop.new.self.items c.pop.result c.pop.ensures.items c.jobs.invariant.left).1
+
+pub returns-in_default-clause-left : goal.returns-in_default-clause-left
+returns-in_default-clause-left g c =
+    (off-end (IsLeftIn g.L.Searched.scenario) c.jobs.spent.items c.pop.new.self.items c.pop.result c.pop.ensures.items c.jobs.invariant.left).0

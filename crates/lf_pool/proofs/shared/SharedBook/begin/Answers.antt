@@ -1,4 +1,4 @@
-use Rattle.std.proofs.Common.{sym, subst}
+use Rattle.std.proofs.Common.{Some, sym, ap, subst, ◌∙◌}
 use Rattle.lf_book.specs.Books.{state_of}
 use Rattle.lf_pool.specs.Holds.{IsAnsweredCount}
 use Rattle.lf_pool.proofs.CountLemmas.{start-counted}
@@ -10,4 +10,5 @@ invariant_of-new g c =
     record {
       counted = subst (λ n. IsAnsweredCount book n) (sym c.open-total.ensures.total)
           (start-counted (state_of book).marks c.in-Ok-begin.ensures.start.marks);
+      searches = c.requires.scenario ∙ ap Some (sym c.in-Ok-begin.ensures.scenario);
     }
