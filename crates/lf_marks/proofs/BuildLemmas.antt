@@ -11,7 +11,7 @@ use Rattle.lf_tree.specs.declared.tree.Node.TheVariants.{rolls-Misses, rolls-Rea
 use Rattle.lf_tree.specs.declared.tree.Node.TheVariants as node
 use Rattle.lf_tree.specs.declared.tree.Node.TheOpen.{Node-F}
 use Rattle.lf_marks.specs.Arena.{look, spot_of, mark_in, taken_in, marks_of}
-use Rattle.lf_marks.specs.Building.{IsHung, kid_at, kids_in, kids_of, node_in, node_for}
+use Rattle.lf_marks.specs.Building.{AreBare, IsHung, kid_at, kids_in, kids_of, node_in, node_for}
 use Rattle.lf_marks.specs.Nodes.{IsTreeOf, kid_in, node_along, said, said_in, shown}
 use Rattle.lf_marks.specs.Steps.{Mark, IsUnmarked}
 use Rattle.lf_marks.specs.Steps as mark
@@ -111,21 +111,24 @@ module _ (level start n : ℕ) (look : ℕ → Spot) (arena : IsArena level star
   tree-of x (Some s) few is trees =
       tree-in x s.state few (ap (λ (z : Spot). z.mark) is) (ap (λ (z : Spot). z.taken) is) trees
 
--- the sets before some place are as they were, but for the nodes of their kids, which are made for those that stood at that place or past it
+-- the sets before some place are as they were, but for the nodes of their kids, which are made for those that stood at that place or past it, and no
+-- others
 pub record IsBuilt (level start : ℕ) (old now : List Set) : Type 0 where
   pub some : 0 < length now
   pub few : length now ≤ length old
   pub same : (y : ℕ) → y < length now → look now y ≡ look old y
   pub kids : (y i : ℕ) → y < length now → i < (look old y).taken → length now ≤ (look old y).first + i
       → IsTreeAt level start (look old) ((look old y).first + i) (kid_at now y i)
+  pub bare : (y i : ℕ) → y < length now → i < (look old y).taken → (look old y).first + i < length now → kid_at now y i ≡ Some node.Reaches
 
 module _ (level start : ℕ) (old : List Set) (arena : IsArena level start (length old) (look old)) where
-  pub built-none : IsBuilt level start old old
-  built-none = record {
+  pub built-none : AreBare old → IsBuilt level start old old
+  built-none bare = record {
     some = arena.some;
     few = omega arith;
     same = λ y few. refl;
     kids = λ y i few taken far. let never : ⊥ = omega (arith, far, (arena.down y i taken).within) in absurd never;
+    bare = λ y i few taken before. bare y i taken;
   }
 
   -- the last place is beneath another
@@ -142,6 +145,16 @@ module _ (level start : ℕ) (old : List Set) (arena : IsArena level start (leng
         place = omega (arith, up.place, ap (λ (s : Spot). s.kid) e, ap (λ (s : Spot). s.first) q);
         depth = omega (arith, up.depth, ap (λ (s : Spot). s.depth) e, ap (λ (s : Spot). s.depth) q);
       }
+
+  -- and its node isn't made
+  pub built-bare : (now : List Set) → IsBuilt level start old now → 1 < length now
+      → kid_at now (look now (length now - 1)).parent (look now (length now - 1)).kid ≡ Some node.Reaches
+  built-bare now b some =
+      let x = length now - 1 in
+      let e = b.same x (omega arith) in
+      let up = arena.up x (omega (arith, some)) (omega (arith, some, b.few)) in
+      ap (λ (s : Spot). kid_at now s.parent s.kid) e
+      ∙ b.bare (look old x).parent (look old x).kid (omega (arith, up.before)) up.kid (omega (arith, up.place, some))
 
   module _ (done : IsUnmarked (marks_of old start) mark.Open) (free : (t : ℕ) → IsUnmarked (marks_of old start) (mark.Claimed t)) where
     answered_all : (x : ℕ) → x < length old → is_answer (look old x).mark ≡ true
@@ -183,6 +196,14 @@ module _ (level start : ℕ) (old : List Set) (arena : IsArena level start (leng
                 ∙ ap (λ j. (look old (look old x).parent).first + j) (kid ∙ ap (λ (s : Spot). s.kid) e) ∙ up.place))))
                 (b.kids y i (omega (arith, few, h.count)) taken (omega (arith, far, apart, h.count)))
           ];
+          bare = λ y i few taken before.
+              h.others y i few (λ is kid. let never : ⊥ = omega (
+                arith,
+                before,
+                ap (λ z. (look old z).first + i) (is ∙ ap (λ (s : Spot). s.parent) e)
+                    ∙ ap (λ j. (look old (look old x).parent).first + j) (kid ∙ ap (λ (s : Spot). s.kid) e) ∙ up.place,
+              ) in never)
+              ∙ b.bare y i (omega (arith, few, h.count)) taken (omega (arith, before, h.count));
         }
 
     -- at the end the root's node is the tree of the marks

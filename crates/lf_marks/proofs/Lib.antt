@@ -1,5 +1,6 @@
 mod AnswerLemmas
 mod ArmLemmas
+mod BareLemmas
 mod BuildLemmas
 mod ChangeLemmas
 mod ClaimLemmas

@@ -1,8 +1,10 @@
 -- The nodes of the sets, made from the last place to the first.
 use Rattle.std.specs.Prelude.{◌≡◌, ◌≢◌, ℕ, ◌+◌, ◌<◌, Bool, nat_lt, if◌then◌else◌, List, [], length, Option, None, Some}
+use Rattle.std.specs.Coded.{Coded, Coded-set, coded_option, Π_prop}
 use Rattle.std.specs.List.{slice_get}
 use Rattle.lf_tree.specs.declared.tree.Node.{Node}
 use Rattle.lf_tree.specs.declared.tree.Node.TheVariants as node
+use Rattle.lf_tree.specs.contracts.tree.Node as the_node
 use Rattle.lf_marks.specs.Arena.{look}
 use Rattle.lf_marks.specs.declared.set.Branch as declared
 use Rattle.lf_marks.specs.declared.set.Set.{Set}
@@ -24,6 +26,16 @@ kids_of (Some s) = kids_in s.state
 -- the node of the i-th kid of the set at a place
 abbrev pub kid_at : List Set → ℕ → ℕ → Option Node
 kid_at sets x i = slice_get (kids_of (slice_get sets x)) i
+
+-- until the nodes are made, that of each kid says that its set reaches the outcome
+abbrev pub AreBare : List Set → Type 0
+AreBare sets = (x i : ℕ) → i < (look sets x).taken → kid_at sets x i ≡ Some node.Reaches
+
+kid_code : Coded (Option Node)
+kid_code = coded_option the_node.the_row.coded
+
+pub bare-prop : (sets : List Set) → IsProp (AreBare sets)
+bare-prop sets = Π_prop (λ x. Π_prop (λ i. Π_prop (λ taken. Coded-set kid_code _ _)))
 
 -- the node of a branch: on the level it is a leaf
 abbrev pub branch_node : Bool → declared.Branch → Node

@@ -2,6 +2,7 @@
 
 ghost use Rattle.std.specs.Prelude.{◌≡◌, ◌≢◌, ℕ, ◌+◌, ◌-◌, ◌<◌, length, nat_lt, take, Some};
 ghost use Rattle.std.specs.List.{slice_get};
+ghost use Rattle.lf_tree.specs.declared.tree.Node.TheVariants as node;
 ghost use Rattle.lf_marks.specs.Arena.{look};
 ghost use Rattle.lf_marks.specs.Building.{IsHung, branch_node, kid_at, node_in, node_for};
 ghost use Rattle.lf_marks.specs.Marks.{mark_at, level_of};
@@ -33,14 +34,19 @@ impl Marks {
     }
 }
 
-/// Takes the last set out and puts its node into the branch above it.
+/// Takes the last set out and puts its node into the branch above it. Most sets reach the outcome and have no kids: their nodes stand there already.
 fn hang_last(sets: &mut Vec<Set>, start: usize)
     requires some { 0 < length sets.old.items }
     requires beneath { IsBeneath (look sets.old.items) (length sets.old.items - 1) }
+    requires bare { kid_at sets.old.items (look sets.old.items (length sets.old.items - 1)).parent (look sets.old.items (length sets.old.items - 1)).kid
+        ≡ Some node.Reaches }
     ensures { IsHung start sets.old.items sets.new.items }
 {
     let (parent, kid, node) = take_last(sets, start);
-    put_kid(sets, parent, kid as usize, node);
+    match node {
+        Node::Reaches => {}
+        other => put_kid(sets, parent, kid as usize, other),
+    }
 }
 
 /// Takes the last set out, and tells the place of the branch above it, which of that branch's kids it is, and its node.

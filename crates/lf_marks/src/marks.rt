@@ -2,6 +2,7 @@
 
 ghost use Rattle.std.specs.Prelude.{◌+◌, ◌≤◌, length, drop, vec_capacity};
 ghost use Rattle.lf_marks.specs.Arena.{IsState};
+ghost use Rattle.lf_marks.specs.Building.{AreBare, bare-prop};
 ghost use Rattle.lf_marks.specs.Claims.{standing};
 
 use crate::claim::Claims;
@@ -36,6 +37,7 @@ pub struct Marks {
     /// How many sets are answered.
     pub(crate) answered: u64,
     ghost state: { IsState level start sets.items (drop at queue.items) coming.items opened.items (standing claims) untaken waiting answered },
+    ghost bare: { AreBare sets.items } by { bare-prop sets.items },
     ghost coming_room: { length coming.items + length (standing claims) ≤ vec_capacity coming },
     ghost opened_room: { length opened.items + length (standing claims) ≤ vec_capacity opened },
 }

@@ -46,7 +46,7 @@ pub(crate) struct Branch {
     pub(crate) edges: Edges,
     /// The place of the first kid, once one was taken.
     pub(crate) first: usize,
-    /// A node for each kid that was taken. Until the tree is made each is `Node::Misses`.
+    /// A node for each kid that was taken. Until the tree is made each is `Node::Reaches`, as most are in the end.
     pub(crate) kids: Vec<Node>,
     ghost few: { length edges ≤ 65535 },
     ghost within: { length kids.items ≤ length edges },
@@ -74,7 +74,7 @@ impl Branch {
         ensures { AddsKid self.old self.new place }
     {
         enlarge(&mut self.kids, larger);
-        self.kids.push_reserved(Node::Misses);
+        self.kids.push_reserved(Node::Reaches);
         if self.kids.len() == 1 {
             self.first = place;
         }

@@ -2,6 +2,7 @@
 
 ghost use Rattle.std.specs.Prelude.{◌≡◌, ◌<◌, IfOk, length, slice_get, vec_capacity};
 ghost use Rattle.lf_marks.specs.Arena.{look, mark_in, first_in, taken_in};
+ghost use Rattle.lf_marks.specs.Building.{AreBare};
 ghost use Rattle.lf_marks.specs.Room.{FitsKidOf};
 ghost use Rattle.lf_marks.specs.Walks.{IsRemarked, IsWidened, width};
 
@@ -14,7 +15,9 @@ pub(crate) fn put_state(sets: &mut Vec<Set>, place: usize, state: State)
     requires within { place < length sets.old.items }
     requires first { (look sets.old.items place).first ≡ first_in state }
     requires taken { (look sets.old.items place).taken ≡ taken_in state }
+    requires none { taken_in state ≡ 0 }
     ensures remarked { IsRemarked (look sets.old.items) (look sets.new.items) place (mark_in state) }
+    ensures bare { AreBare sets.old.items → AreBare sets.new.items }
     ensures length { length sets.new.items ≡ length sets.old.items }
 {
     let set = &mut sets[place];
@@ -37,6 +40,7 @@ pub(crate) fn add_kid(sets: &mut Vec<Set>, parent: usize, place: usize, larger: 
     requires more { (look sets.old.items parent).taken < width (look sets.old.items parent) }
     requires room { FitsKidOf (slice_get sets.old.items parent) larger }
     ensures widened { IsWidened (look sets.old.items) (look sets.new.items) parent place }
+    ensures bare { AreBare sets.old.items → AreBare sets.new.items }
     ensures length { length sets.new.items ≡ length sets.old.items }
     ensures capacity { vec_capacity sets.new ≡ vec_capacity sets.old }
 {

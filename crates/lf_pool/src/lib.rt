@@ -7,6 +7,7 @@
 mod answers;
 mod error;
 mod facts;
+mod fetching;
 mod finish;
 mod gate;
 mod handful;

@@ -7,6 +7,7 @@ ghost use Rattle.lf_pool.specs.Solved.{AreSolved, AreWorkers, IsEnded, IsRefused
 
 use crate::answers::{all_of, answer_of};
 use crate::error::PoolError;
+use crate::fetching::fetch_memory;
 use crate::finish::{Ended, finish};
 use crate::gate::Gate;
 use crate::searched::Searched;
@@ -161,6 +162,7 @@ fn work<L: Searched, R: Wait + Clock, G: Gate>(
     share: &mut Share<L>,
     gate: &G,
 ) {
+    fetch_memory(*share.spent.allocator());
     for _ in rt.forever() {
         let Ok(filed) = shared.work_some(rt, share, gate) else {
             break;

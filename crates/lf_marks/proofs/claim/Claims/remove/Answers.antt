@@ -1,4 +1,4 @@
-use Rattle.std.proofs.Common.{◌≡◌, ℕ, ◌+◌, ◌-◌, ◌<◌, ◌≤◌, refl, sym, ap, ◌∙◌, arith, List, ◌++◌, length, take, drop}
+use Rattle.std.proofs.Common.{◌≡◌, ℕ, ◌+◌, ◌-◌, ◌≤◌, sym, ap, ◌∙◌, arith, List, length, take, drop}
 use Rattle.std.proofs.lemmas.List.{take-append-drop, drop_at, length-take}
 use Rattle.std.proofs.lemmas.List.Edits.{remove-append_right}
 use Rattle.std.specs.List.{remove}

@@ -68,6 +68,7 @@ invariant_of-self c =
     c.put_state.ensures.length (mark_for c.args.answer) (is-answer c.args.answer) re c.put_if.new.places.items noted
     (omega (arith, is, c.kids_of-kids.ensures.few)) in record {
       state = rw (c.from.ensures, is) s;
+      bare = c.put_state.ensures.bare m.bare;
       coming_room = omega (
         arith,
         m.coming_room,

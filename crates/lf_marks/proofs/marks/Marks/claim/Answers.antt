@@ -2,6 +2,7 @@ use Rattle.std.proofs.Common.{◌≡◌, ℕ, ◌+◌, ◌<◌, ap, sym, subst, 
 use Rattle.std.proofs.lemmas.Bool.{eqb-true, eqb-false}
 use Rattle.std.specs.List.{All}
 use Rattle.lf_marks.specs.Arena.{marks_of}
+use Rattle.lf_marks.specs.Building.{AreBare}
 use Rattle.std.proofs.lemmas.Option.{slice_get_within}
 use Rattle.lf_marks.specs.Marks.{IsNextKid, LeadsToLast, mark_at}
 use Rattle.lf_marks.specs.Room.{FitsNext}
@@ -33,6 +34,7 @@ invariant_of-self g c =
     let coming = c.enlarge-3.ensures.places (length (standing m.claims) + 1) c.requires.room.coming in
     let opened = c.enlarge-4.ensures.places (length (standing m.claims) + 1) c.requires.room.opened in record {
       state = rw (c.enlarge.ensures.items, c.enlarge-2.ensures.same, c.enlarge-3.ensures.items, c.enlarge-4.ensures.items) m.state;
+      bare = subst AreBare (sym c.enlarge.ensures.items) m.bare;
       coming_room = omega (arith, coming, claims);
       opened_room = omega (arith, opened, claims);
     }

@@ -41,6 +41,7 @@ invariant_of-self c =
     m.answered m.state c.put_state.new.sets.items c.index-place.result.now c.args.ticket c.pop.new.self.items c.put_state.ensures.length
     c.put_state.ensures.remarked fewer short c.requires.above in record {
       state = rw c.add.ensures.items s;
+      bare = c.put_state.ensures.bare m.bare;
       coming_room = omega (arith, c.requires.room.coming, c.add.ensures.count);
       opened_room = omega (arith, m.opened_room, short, c.pop.ensures.capacity, c.add.ensures.count);
     }

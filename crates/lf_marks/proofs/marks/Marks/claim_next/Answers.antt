@@ -2,11 +2,14 @@ use Rattle.std.proofs.Common.{◌≡◌, ◌∙◌, ℕ, ◌+◌, ◌-◌, refl,
 use Rattle.std.proofs.lemmas.Bool.{cond-true, cond-false}
 use Rattle.std.proofs.lemmas.Option.{same_Some, slice_get_read}
 use Rattle.lf_marks.specs.Arena.{look, marks_of, IsState}
+use Rattle.lf_marks.specs.Building.{AreBare}
 use Rattle.lf_marks.specs.Steps.{kid_of, Took}
 use Rattle.lf_marks.specs.Walks.{IsWidened, IsGrownBy, led_from}
 use Rattle.lf_marks.specs.declared.claim.Claim.{Claim}
 use Rattle.lf_marks.specs.declared.set.Set.{Set}
+use Rattle.lf_marks.specs.declared.set.State.TheVariants as state
 use Rattle.lf_marks.specs.Claims.{standing}
+use Rattle.lf_marks.proofs.BareLemmas.{bare-pushed}
 use Rattle.lf_marks.proofs.WalkLemmas.{lt-is, lt-not}
 use Rattle.lf_marks.proofs.SetLemmas.{grown-by}
 use Rattle.lf_marks.proofs.StateLemmas.{next-within, next-level, next-some, next-last, next-took, queue-head, state-next}
@@ -69,6 +72,13 @@ invariant_of-self-2 c =
     ap (λ (k : ℕ). claims_with (standing m.claims) c.args.ticket k) n ∙ sym c.add.ensures.items in record {
       state = subst (λ (cs : List Claim). IsState m.level m.start c.push_reserved.new.self.items (drop c.following-self.result m.queue.items)
           m.coming.items m.opened.items cs (m.untaken - 1) m.waiting m.answered) claims s;
+      bare = subst AreBare (sym c.push_reserved.ensures.items)
+          (bare-pushed c.add_kid.new.sets.items (record {
+            parent = c.index-parent.result.now;
+            kid = c.taken-kid.result;
+            depth = m.level;
+            state = state.Claimed c.args.ticket;
+          }) refl (c.add_kid.ensures.bare m.bare));
       coming_room = omega (arith, c.requires.room.coming, c.add.ensures.count);
       opened_room = omega (arith, c.requires.room.opened, c.add.ensures.count);
     }

@@ -45,6 +45,7 @@ invariant_of-self c =
     m.answered m.state t c.remove-place.result.place (standing c.remove-place.new.self) less c.put_state.new.sets.items
     c.put_state.ensures.length c.put_state.ensures.remarked in record {
       state = rw c.push_reserved.ensures.items s;
+      bare = c.put_state.ensures.bare m.bare;
       coming_room = omega (arith, m.coming_room, less.count);
       opened_room = omega (
         arith,

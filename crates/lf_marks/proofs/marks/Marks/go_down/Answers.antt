@@ -16,6 +16,7 @@ invariant_of-self c =
       state = state-moved (m.level + 1) (length m.sets.items) c.len-self.result m.sets.items m.coming.items c.swap.new.x.items [] c.clear.new.self.items
           m.opened.items (standing m.claims) m.waiting 0 m.answered (omega (arith, c.len-self.ensures, m.sets.ok))
           (ap (λ v. v.items) c.swap.ensures.x_after) c.clear.ensures.items s;
+      bare = m.bare;
       coming_room = omega (arith, none, c.clear.ensures.len, c.clear.new.self.ok);
       opened_room = m.opened_room;
     }

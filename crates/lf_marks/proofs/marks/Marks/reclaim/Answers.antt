@@ -1,4 +1,4 @@
-use Rattle.std.proofs.Common.{◌≡◌, ◌∙◌, ◌-◌, ◌<◌, sym, arith, length, drop, get_or}
+use Rattle.std.proofs.Common.{◌≡◌, ◌∙◌, ◌-◌, ◌<◌, arith, length, drop, get_or}
 use Rattle.lf_marks.specs.Marks.{mark_at}
 use Rattle.lf_marks.specs.Claims.{standing}
 use Rattle.lf_marks.proofs.ClaimLemmas.{unclaimed, claim-here, free-stays, freed-same}
