@@ -1,4 +1,4 @@
-//! Scenarios whose answers are known.
+//! Scenarios whose answers are known, answered without an exchange of names.
 
 use crate::texts::answers;
 

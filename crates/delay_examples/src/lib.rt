@@ -1,4 +1,4 @@
-//! Worked examples of answers over every delay.
+//! Worked examples of answers over every delay, found with an exchange of alike nodes' names and without one.
 //!
 //! The answers of the tables were found by a run of each allowed set under each assignment of delays.
 //!
@@ -6,6 +6,8 @@
 //! `|`.
 #![tactic(auto)]
 
+#[cfg(test)]
+mod alike;
 #[cfg(test)]
 mod known;
 #[cfg(test)]

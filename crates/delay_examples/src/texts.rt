@@ -3,7 +3,6 @@
 use lf_faults::{FaultSet, fault_text};
 use lf_latency::Arrivals;
 use lf_scenario::{Scenario, read};
-use lf_windows::answer_every_delay;
 use std::alloc::{AllocError, Global};
 use std::process::Abort;
 
@@ -49,29 +48,58 @@ fn told(alloc: Global, set: Option<FaultSet>, budget: u32) -> Result<String, All
 
 /// What is found for a scenario: its set, and when the notes come.
 fn found(alloc: Global, scenario: &Scenario) -> Option<Option<(FaultSet, Arrivals)>> {
-    answer_every_delay(alloc, scenario).ok()
+    lf_windows::answer_every_delay(alloc, scenario).ok()
 }
 
-/// Whether a scenario is answered so.
-fn is_answered(alloc: Global, scenario: &Scenario, wanted: &str) -> bool {
-    let Some(answer) = found(alloc, scenario) else {
+/// What is found for it where alike nodes exchange their names.
+fn found_alike(alloc: Global, scenario: &Scenario) -> Option<Option<(FaultSet, Arrivals)>> {
+    lf_exchanging::answer_every_delay(alloc, scenario).ok()
+}
+
+/// Whether an answer to a scenario is told so.
+fn is_told(
+    alloc: Global,
+    answer: Option<Option<(FaultSet, Arrivals)>>,
+    budget: u32,
+    wanted: &str,
+) -> bool {
+    let Some(found) = answer else {
         return false;
     };
-    let set = match answer {
+    let set = match found {
         Some(pair) => Some(pair.0),
         None => None,
     };
-    match told(alloc, set, scenario.setting().spec.budget()) {
+    match told(alloc, set, budget) {
         Ok(text) => text.as_str() == wanted,
         Err(_) => false,
     }
 }
 
+/// The scenario of a row, and what the row says of its answer. None where the scenario is refused.
+fn asked(alloc: Global, row: &str) -> Option<(Scenario, &str)> {
+    let (lines, wanted) = row.split_once('|').unwrap_or((row, ""));
+    Some((scenario(alloc, lines)?, wanted))
+}
+
 /// Whether the scenario of a row is answered as the row says.
 fn row_agrees(alloc: Global, row: &str) -> bool {
-    let (lines, wanted) = row.split_once('|').unwrap_or((row, ""));
-    match scenario(alloc, lines) {
-        Some(scenario) => is_answered(alloc, &scenario, wanted),
+    match asked(alloc, row) {
+        Some((scenario, wanted)) => {
+            let budget = scenario.setting().spec.budget();
+            is_told(alloc, found(alloc, &scenario), budget, wanted)
+        }
+        None => false,
+    }
+}
+
+/// The same, where alike nodes exchange their names.
+fn row_agrees_alike(alloc: Global, row: &str) -> bool {
+    match asked(alloc, row) {
+        Some((scenario, wanted)) => {
+            let budget = scenario.setting().spec.budget();
+            is_told(alloc, found_alike(alloc, &scenario), budget, wanted)
+        }
         None => false,
     }
 }
@@ -80,6 +108,13 @@ fn row_agrees(alloc: Global, row: &str) -> bool {
 pub(crate) fn answers(rt: &impl Abort, alloc: Global, table: &str) {
     for row in table.lines() {
         agrees(rt, row_agrees(alloc, row), row);
+    }
+}
+
+/// The same, where alike nodes exchange their names.
+pub(crate) fn answers_alike(rt: &impl Abort, alloc: Global, table: &str) {
+    for row in table.lines() {
+        agrees(rt, row_agrees_alike(alloc, row), row);
     }
 }
 

@@ -1,2 +1,4 @@
+pub mod Doors
+pub mod DoorsLemmas
 pub mod Mazes
 pub mod MazesLemmas

@@ -1,2 +1,4 @@
+pub mod Beacons
+pub mod BeaconsLemmas
 pub mod Samples
 pub mod SamplesLemmas
