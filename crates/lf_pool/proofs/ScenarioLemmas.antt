@@ -1,7 +1,7 @@
 -- Jobs and findings of one scenario.
 use Rattle.std.proofs.Common.{◌≡◌, ℕ, ◌-◌, Some, None, Bool, inl, inr, sym, ap, ◌∙◌, subst, length, List, [], ◌∷◌, ◌++◌}
 use Rattle.std.proofs.lemmas.Option.{slice_get_cases}
-use Rattle.std.proofs.lemmas.List.Elements.{All-nil, All-cons, All-push, All-head, All-tail}
+use Rattle.std.proofs.lemmas.List.Elements.{All-nil, All-cons, All-head, All-tail}
 use Rattle.std.specs.Arc.{arc_value}
 use Rattle.std.specs.Prelude.{Option, IfSome, IsTrue}
 use Rattle.std.specs.Option.{option_to_list}
@@ -15,7 +15,7 @@ use Rattle.lf_book.specs.declared.book.Book.{Book}
 use Rattle.lf_faults.specs.declared.fault.Parts.{Parts}
 use Rattle.lf_work.specs.Jobs.{IsOfJob, IsSpentOf}
 use Rattle.lf_work.specs.declared.spent.Spent.{Spent}
-use Rattle.lf_pool.specs.Holds.{AreFindingsIn, AreJobsIn, AreJobsOf, AreOfJobs, IsFindingIn, IsFoundFor, IsJobOf, IsLeftIn, IsOfBook}
+use Rattle.lf_pool.specs.Holds.{AreFindingsIn, AreJobsIn, AreJobsOf, IsFindingIn, IsFoundFor, IsJobOf, IsLeftIn, IsOfBook}
 use Rattle.lf_pool.proofs.SolvedLemmas.{same-itself}
 
 -- of a list what is so of all is so of its first part,
@@ -52,20 +52,11 @@ same-given : (s : Scenario) (p q : List ℕ) (fs gs es ds : List Parts) → q �
     → IsGivenFor s p (record { faults = fs; excluded = es }) → IsGivenFor s q (record { faults = gs; excluded = ds })
 same-given s p q fs gs es ds paths sets excluded h = rw (paths, sets, excluded) h
 
-found-for : (s : Scenario) (job : Job) (finding : Finding) → IsOfJob job finding → IsJobOf s job → IsFoundFor s finding
+pub found-for : (s : Scenario) (job : Job) (finding : Finding) → IsOfJob job finding → IsJobOf s job → IsFoundFor s finding
 found-for s job finding of h = (
   of.scenario ∙ h.0,
   same-given s job.path.items finding.job.path.items job.set finding.job.set job.excluded.items finding.job.excluded.items of.path of.set of.excluded h.1,
 )
-
--- and what is found of jobs of a scenario is of that scenario
-pub found-of : (s : Scenario) (jobs : List Job) (findings : List Finding) → AreJobsOf s jobs → AreOfJobs jobs findings
-    → All (IsFoundFor s) findings
-found-of s [] findings h of = subst (All (IsFoundFor s)) (sym of) (All-nil (IsFoundFor s))
-found-of s (job ∷ jobs) findings h of =
-    let others = found-of s jobs of.0 (All-tail (IsJobOf s) job jobs h) of.4 in
-    let own = found-for s job of.1 of.3 (All-head (IsJobOf s) job jobs h) in
-    subst (All (IsFoundFor s)) (sym of.2) (All-push (IsFoundFor s) of.0 of.1 others own)
 
 -- the job that stands last of jobs of a scenario is of it
 pub last-got : (s : Scenario) (jobs : List Job) (job : Job) → AreJobsOf s jobs → slice_get jobs (length jobs - 1) ≡ Some job
@@ -79,15 +70,12 @@ last-got s jobs job all got = elim ((slice_get_cases jobs (length jobs - 1)).1) 
   | inr none ↦ let never : None ≡ Some job = sym none.1 ∙ got in absurd cc
 ]
 
--- of jobs of a scenario what is found of those at the end is of it
-pub found-of-some : (s : Scenario) (jobs left done : List Job) (findings : List Finding) → AreJobsOf s jobs → jobs ≡ left ++ done
-    → AreOfJobs done findings → All (IsFoundFor s) findings
-found-of-some s jobs left done findings all is of = found-of s done findings (back (IsJobOf s) left done (subst (AreJobsOf s) is all)) of
+-- where nothing is left of what was found, that is of it too, and so is what wasn't taken
+pub none-found : (o : Option Scenario) (old new : List Finding) → AreFindingsIn o old → new ≡ [] → AreFindingsIn o new
+none-found o old new h none = (h.0, h.1, subst (All (IsFoundFor h.0)) (sym none) (All-nil (IsFoundFor h.0)))
 
--- what is found of jobs of the scenario that is searched is of it
-pub found-in : (o : Option Scenario) (jobs left done : List Job) (findings : List Finding) → AreJobsIn o jobs → jobs ≡ left ++ done
-    → AreOfJobs done findings → AreFindingsIn o findings
-found-in o jobs left done findings all is of = (all.0, all.1, found-of-some all.0 jobs left done findings all.2 is of)
+pub none-taken : (o : Option Scenario) (findings : List Finding) (jobs : List Job) → AreFindingsIn o findings → jobs ≡ [] → AreJobsIn o jobs
+none-taken o findings jobs h none = (h.0, h.1, subst (AreJobsOf h.0) (sym none) (All-nil (IsJobOf h.0)))
 
 -- and of a book that searches it
 pub some-one : (s r : Scenario) → Some s ≡ Some r → s ≡ r

@@ -19,10 +19,9 @@ use Rattle.lf_search.proofs.Laws.{finds_never_full}
 use Rattle.lf_book.specs.Books.{scenario_of, state_of, IsClosedFor}
 use Rattle.lf_book.specs.declared.book.Book.{Book}
 use Rattle.lf_pool.specs.Holds.{IsAnsweredCount}
-use Rattle.lf_pool.specs.Solved.{AreFoundIn, AreSolved, AreWorkers, IsEnded, IsFoundIn, IsFullBook, IsLeft, IsRefused, IsSearched}
+use Rattle.lf_pool.specs.Solved.{AreFoundIn, AreSolved, AreWorkers, IsFoundIn, IsFullBook, IsLeft, IsRefused, IsSearched}
 use Rattle.lf_pool.specs.Solved.{IsSolved}
 use Rattle.lf_pool.specs.declared.finish.Ended.{Ended}
-use Rattle.lf_pool.specs.declared.finish.Ended.TheVariants as ended
 use Rattle.lf_pool.specs.declared.solving.Solved.{Solved}
 use Rattle.lf_pool.specs.declared.solving.Solved.TheVariants as solved
 use Rattle.lf_pool.specs.declared.solving.SolvedAll.{SolvedAll}

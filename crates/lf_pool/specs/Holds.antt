@@ -1,7 +1,7 @@
 -- What the holds of the lock do to the book that lies under it. A turn is a first hold and, after a job, a second one: it is filed in that,
--- or given back. Where many sets are open, a worker takes a handful of them in one hold, and files them in another. Nothing else changes
--- the book.
-use Rattle.std.specs.Prelude.{◌≡◌, ◌⊎◌, ℕ, ◌+◌, List, [], ◌∷◌, ◌++◌, Option, Some}
+-- or given back. Where many sets are open, a worker takes a handful of them in one hold, and files them in another, in which it takes the next
+-- handful. Nothing else changes the book.
+use Rattle.std.specs.Prelude.{◌≡◌, ◌⊎◌, ℕ, ◌+◌, List, [], ◌∷◌, Option, Some}
 use Rattle.lf_marks.specs.Counting.{IsCount, OfKind}
 use Rattle.lf_marks.specs.Steps as mark
 use Rattle.std.specs.Arc.{arc_value}
@@ -12,9 +12,10 @@ use Rattle.lf_book.specs.Books.{scenario_of, state_of, task_of_finding, task_of_
 use Rattle.lf_book.specs.declared.book.Book.{Book}
 use Rattle.lf_book.specs.declared.taking.Taken.TheVariants as taken
 use Rattle.lf_search.specs.Events.{FindsBusy}
-use Rattle.lf_work.specs.Jobs.{IsOfJob}
 use Rattle.lf_work.specs.declared.finding.Finding.{Finding}
 use Rattle.lf_work.specs.declared.job.Job.{Job}
+use Rattle.lf_work.specs.declared.scratch.Scratch.{Scratch}
+use Rattle.lf_work.specs.Scratches.{IsScratchFor}
 use Rattle.lf_work.specs.declared.spent.Spent.{Spent}
 use Rattle.lf_pool.specs.declared.locked.Begun.{Begun}
 use Rattle.lf_pool.specs.declared.locked.Begun.TheVariants as begun
@@ -65,11 +66,9 @@ AreGivenBack (job ∷ jobs) old new =
 abbrev pub AreEnded : List Finding → List Job → ℕ → Book → Book → Type 0
 AreEnded findings jobs n old new = (between : Book) × AreFiled findings n old between × AreGivenBack jobs between new
 
--- findings are those of jobs, the last job's first
-abbrev pub AreOfJobs : List Job → List Finding → Type 0
-AreOfJobs [] findings = findings ≡ []
-AreOfJobs (job ∷ jobs) findings = (others : List Finding) × (finding : Finding) × (findings ≡ others ++ finding ∷ []) × IsOfJob job finding
-    × AreOfJobs jobs others
+-- a worker went on in one hold: so many of its findings were filed, and then jobs were taken
+abbrev pub HasGoneOn : List Finding → List Job → Book → Book → Type 0
+HasGoneOn findings jobs old new = (n : ℕ) × (between : Book) × AreFiled findings n old between × AreTaken jobs between new
 
 -- a job is of a scenario, and a book of that scenario gave it out
 abbrev pub IsJobOf : Scenario → Job → Type 0
@@ -91,6 +90,11 @@ IsFindingIn searched finding = (s : Scenario) × (searched ≡ Some s) × IsFoun
 
 abbrev pub AreFindingsIn : Option Scenario → List Finding → Type 0
 AreFindingsIn searched findings = (s : Scenario) × (searched ≡ Some s) × All (IsFoundFor s) findings
+
+-- a worker's jobs and those that it took for later, what it found, and what it works with are of that scenario
+abbrev pub IsAtWork : Option Scenario → List Job → List Job → List Finding → Scratch → Type 0
+IsAtWork searched jobs next findings scratch = (s : Scenario) × (searched ≡ Some s) × AreJobsOf s jobs × AreJobsOf s next
+    × All (IsFoundFor s) findings × IsScratchFor s scratch
 
 -- what a job of that scenario left
 abbrev pub IsLeftIn : Option Scenario → Spent → Type 0

@@ -14,6 +14,7 @@ mod handful;
 mod hands;
 mod locked;
 mod promises;
+mod rounds;
 mod searched;
 mod share;
 mod shared;

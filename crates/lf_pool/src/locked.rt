@@ -45,7 +45,7 @@ impl<L: Searched> Locked<L> {
     ghost use Rattle.std.specs.List.{All};
     ghost use Rattle.lf_book.specs.Books.{task_of_job, IsGivenBack, IsGivenFor, IsTaken};
     ghost use Rattle.lf_book.specs.declared.taking.Taken.TheVariants as taken;
-    ghost use Rattle.lf_pool.specs.Holds.{AreEnded, AreFiled, AreFindingsIn, AreGivenBack, AreJobsIn, AreTaken, IsBegun, IsBusy, IsFindingClaimed, IsFindingIn, IsJobClaimed, IsLeftIn};
+    ghost use Rattle.lf_pool.specs.Holds.{AreEnded, AreFiled, AreFindingsIn, AreGivenBack, AreJobsIn, AreTaken, HasGoneOn, IsBegun, IsBusy, IsFindingClaimed, IsFindingIn, IsJobClaimed, IsLeftIn};
     ghost use Rattle.lf_pool.specs.declared.locked.Begun.TheVariants as begun;
     ghost use Rattle.lf_pool.specs.declared.handful.TheConstants.{HANDFUL};
 
@@ -74,6 +74,7 @@ impl<L: Searched> Locked<L> {
         ensures filed { MatchBool result
             (IsFiled finding self.old.book self.new.book × (share.new.filed ≡ share.old.filed + 1))
             ((¬ IsFindingClaimed self.old.book finding) × (self.new.book ≡ self.old.book) × (share.new.filed ≡ share.old.filed)) }
+        ensures scratch { share.new.scratch ≡ share.old.scratch }
         ensures scenario { scenario_of self.new.book ≡ scenario_of self.old.book }
     {
         let Locked { book, total } = self;
@@ -140,6 +141,29 @@ impl<L: Searched> Locked<L> {
         }
     }
 
+    /// Files what a worker found, and takes its next handful.
+    pub(crate) fn go_on(
+        &mut self,
+        share: &mut Share<L>,
+        jobs: &mut Vec<Job>,
+        findings: &mut Vec<Finding>,
+    )
+        requires none { jobs.old.items ≡ [] }
+        requires findings { AreFindingsIn L.scenario findings.old.items }
+        requires room { HANDFUL ≤ vec_capacity jobs.old }
+        ensures went { HasGoneOn findings.old.items jobs.new.items self.old.book self.new.book }
+        ensures same { AreJobsIn L.scenario jobs.new.items }
+        ensures few { length jobs.new.items ≤ HANDFUL }
+        ensures none { findings.new.items ≡ [] }
+        ensures rooms { (vec_capacity jobs.new ≡ vec_capacity jobs.old) × (vec_capacity findings.new ≡ vec_capacity findings.old) }
+        ensures share { share.old.filed ≤ share.new.filed }
+        ensures scratch { share.new.scratch ≡ share.old.scratch }
+        ensures scenario { scenario_of self.new.book ≡ scenario_of self.old.book }
+    {
+        let _filed = self.file_all(share, findings);
+        self.take_some(jobs, &mut share.spent);
+    }
+
     /// Ends a handful: files what was found, then gives back the jobs that are left. Both lists are empty then, with their room. It answers how
     /// much was filed; by so many the worker's share is raised.
     pub(crate) fn end_some(
@@ -168,6 +192,7 @@ impl<L: Searched> Locked<L> {
         ensures none { findings.new.items ≡ [] }
         ensures room { vec_capacity findings.new ≡ vec_capacity findings.old }
         ensures share { share.new.filed ≡ share.old.filed + result }
+        ensures scratch { share.new.scratch ≡ share.old.scratch }
         ensures scenario { scenario_of self.new.book ≡ scenario_of self.old.book }
     {
         let before = share.filed;

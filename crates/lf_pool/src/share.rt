@@ -21,7 +21,7 @@ pub struct Share<L: Searched> {
     pub(crate) scratch: Scratch,
     /// None where memory for them had run out, and while its worker has them in hand: then it takes sets one by one.
     pub(crate) hands: Option<Hands>,
-    /// What jobs of the search left whose findings it filed, of a handful at most.
+    /// What jobs of the search left whose findings it filed, of two handfuls at most.
     pub(crate) spent: Vec<Spent>,
     /// Room that nobody uses, 128 bytes: so what one worker writes doesn't lie in a line of memory with what the next one does, which would have to
     /// wait for it.
@@ -53,6 +53,7 @@ impl<L: Searched> Share<L> {
         requires { IfSome left (IsLeftIn L.scenario) }
         ensures filed { self.new.filed ≡ self.old.filed }
         ensures part { self.new.part ≡ self.old.part }
+        ensures scratch { self.new.scratch ≡ self.old.scratch }
     {
         let Some(left) = left else {
             return;
@@ -70,11 +71,11 @@ impl<L: Searched> Share<L> {
     }
 }
 
-/// A list with room for what the jobs of a handful leave, or without where memory has run out.
+/// A list with room for what the jobs of two handfuls leave, or without where memory has run out.
 fn room(alloc: Global) -> Vec<Spent>
     ensures { result.items ≡ [] }
 {
-    match Vec::with_capacity(alloc, HANDFUL) {
+    match Vec::with_capacity(alloc, 2 * HANDFUL) {
         Ok(spent) => spent,
         Err(_) => Vec::new(alloc),
     }

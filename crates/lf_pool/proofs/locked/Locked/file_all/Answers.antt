@@ -17,6 +17,7 @@ findings-preserved g c =
       room = c.pop.ensures.capacity ∙ so.room;
       filed = next.1;
       share = next.2;
+      scratch = c.file-filed.ensures.scratch ∙ so.scratch;
       scenario = c.file-filed.ensures.scenario ∙ so.scenario;
     }
 

@@ -12,6 +12,7 @@ invariant-findings g l = record {
   room : vec_capacity l.findings ≡ vec_capacity l.initial.findings;
   filed : AreFiled done count l.initial.self.book l.self.book;
   share : l.share.filed ≡ l.initial.share.filed + count;
+  scratch : l.share.scratch ≡ l.initial.share.scratch;
   scenario : scenario_of l.self.book ≡ scenario_of l.initial.self.book;
 }
 

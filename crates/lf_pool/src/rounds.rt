@@ -1,0 +1,201 @@
+//! The rounds of a worker, in each of which it works a handful of sets.
+
+ghost use Rattle.std.specs.Prelude.{◌≡◌, ◌⊎◌, ◌+◌, ◌≤◌, [], IfOk, OnOk, OnErr, length, vec_capacity};
+ghost use Rattle.std.specs.List.{All};
+ghost use Rattle.lf_pool.specs.Holds.{AreFindingsIn, AreJobsIn, IsAtWork, IsLeftIn};
+ghost use Rattle.lf_pool.specs.declared.handful.TheConstants.{HANDFUL};
+
+use crate::gate::Gate;
+use crate::handful::HANDFUL;
+use crate::hands::Hands;
+use crate::searched::Searched;
+use crate::share::Share;
+use crate::shared::SharedBook;
+use lf_work::{Finding, Job, Spent};
+use std::alloc::AllocError;
+use std::mem::swap;
+use std::rt::Clock;
+use std::sync::Wait;
+
+/// How much a worker has found before it tries for its next handful, while it has sets to work: half a handful.
+const FOUND: usize = HANDFUL / 2;
+
+impl<L: Searched> SharedBook<L> {
+    /// Many turns of a worker at once, as long as many sets are open: it takes a handful of them, works each by the gate outside the lock, and
+    /// files what it found in a hold in which it takes the next handful. Where few sets are open, and where the worker has no lists, it does
+    /// nothing. It answers how much was filed, and by so much the share is raised. The error is that memory has run out: what was found before
+    /// is filed, and the other sets were given back.
+    pub(crate) fn work_some<R: Wait + Clock, G: Gate>(
+        &self,
+        rt: &R,
+        share: &mut Share<L>,
+        gate: &G,
+    ) -> Result<u64, AllocError>
+        ensures filed { IfOk result (λ filed. share.new.filed ≡ share.old.filed + filed) }
+        ensures err { OnErr result (share.old.filed ≤ share.new.filed) }
+    {
+        let Some(mut hands) = share.hands.take() else {
+            return Ok(0);
+        };
+        let before = share.filed;
+        let worked = self.work_rounds(rt, share, gate, &mut hands);
+        share.hands = Some(hands);
+        worked?;
+        Ok(share.filed - before)
+    }
+
+    /// The same, with the worker's lists in hand.
+    fn work_rounds<R: Wait + Clock, G: Gate>(
+        &self,
+        rt: &R,
+        share: &mut Share<L>,
+        gate: &G,
+        hands: &mut Hands,
+    ) -> Result<(), AllocError>
+        ensures { share.old.filed ≤ share.new.filed }
+    {
+        let Hands {
+            jobs,
+            next,
+            findings,
+        } = hands;
+        self.take_handful(rt, jobs, &mut share.spent);
+        let Some(last) = jobs.last() else {
+            return Ok(());
+        };
+        share.scratch.suit(last);
+        let mut worked = Ok(());
+        for _ in rt.forever() {
+            worked = self.work_round(rt, share, gate, jobs, next, findings);
+            if worked.is_err() {
+                break;
+            }
+            swap(jobs, next);
+            if jobs.is_empty() {
+                break;
+            }
+        }
+        self.end_all(rt, share, jobs, next, findings);
+        worked
+    }
+
+    /// Works a handful of jobs, the last one first. Meanwhile it takes the next handful once it gets the lock without waiting, and at its end it
+    /// waits for the lock if it hasn't got it. In that hold it files what it found before. The error is that memory has run out.
+    fn work_round<R: Wait + Clock, G: Gate>(
+        &self,
+        rt: &R,
+        share: &mut Share<L>,
+        gate: &G,
+        jobs: &mut Vec<Job>,
+        next: &mut Vec<Job>,
+        findings: &mut Vec<Finding>,
+    ) -> Result<(), AllocError>
+        requires none { next.old.items ≡ [] }
+        requires work { IsAtWork L.scenario jobs.old.items next.old.items findings.old.items share.old.scratch }
+        requires few { (length jobs.old.items ≤ HANDFUL) × (length findings.old.items ≤ HANDFUL) }
+        requires rooms { (HANDFUL ≤ vec_capacity next.old) × (HANDFUL + HANDFUL ≤ vec_capacity findings.old) }
+        ensures all { OnOk result (jobs.new.items ≡ []) }
+        ensures work { IsAtWork L.scenario jobs.new.items next.new.items findings.new.items share.new.scratch }
+        ensures few { OnOk result ((length next.new.items ≤ HANDFUL) × (length findings.new.items ≤ HANDFUL)) }
+        ensures rooms { (vec_capacity jobs.new ≡ vec_capacity jobs.old) × (vec_capacity next.new ≡ vec_capacity next.old)
+            × (vec_capacity findings.new ≡ vec_capacity findings.old) }
+        ensures share { share.old.filed ≤ share.new.filed }
+    {
+        'jobs: while let Some(job) = jobs.pop() {
+            match gate.run(rt, &job, &mut share.scratch) {
+                Ok(finding) => {
+                    findings.push_reserved(finding);
+                    share.scratch.keep(job.spend());
+                }
+                Err(error) => {
+                    jobs.push_reserved(job);
+                    return Err(error);
+                }
+            }
+            if next.is_empty() && findings.len() >= FOUND {
+                self.try_on(share, next, findings);
+            }
+        }
+        if next.is_empty() {
+            self.go_on(rt, share, next, findings);
+        }
+        Ok(())
+    }
+
+    /// Takes a handful of sets where many are open.
+    fn take_handful<R: Wait>(&self, rt: &R, jobs: &mut Vec<Job>, spent: &mut Vec<Spent>)
+        requires none { jobs.old.items ≡ [] }
+        requires left { All (IsLeftIn L.scenario) spent.old.items }
+        requires room { HANDFUL ≤ vec_capacity jobs.old }
+        ensures same { AreJobsIn L.scenario jobs.new.items }
+        ensures left { All (IsLeftIn L.scenario) spent.new.items }
+        ensures few { length jobs.new.items ≤ HANDFUL }
+        ensures room { vec_capacity jobs.new ≡ vec_capacity jobs.old }
+    {
+        self.lock.lock(rt).take_some(jobs, spent);
+    }
+
+    /// Files what was found and takes a handful, once the lock is free.
+    fn go_on<R: Wait>(
+        &self,
+        rt: &R,
+        share: &mut Share<L>,
+        jobs: &mut Vec<Job>,
+        findings: &mut Vec<Finding>,
+    )
+        requires none { jobs.old.items ≡ [] }
+        requires findings { AreFindingsIn L.scenario findings.old.items }
+        requires room { HANDFUL ≤ vec_capacity jobs.old }
+        ensures same { AreJobsIn L.scenario jobs.new.items }
+        ensures few { length jobs.new.items ≤ HANDFUL }
+        ensures none { findings.new.items ≡ [] }
+        ensures rooms { (vec_capacity jobs.new ≡ vec_capacity jobs.old) × (vec_capacity findings.new ≡ vec_capacity findings.old) }
+        ensures share { share.old.filed ≤ share.new.filed }
+        ensures scratch { share.new.scratch ≡ share.old.scratch }
+    {
+        self.lock.lock(rt).go_on(share, jobs, findings);
+        self.changed.notify_all();
+    }
+
+    /// The same where the lock is free at once. Else nothing changes.
+    fn try_on(&self, share: &mut Share<L>, jobs: &mut Vec<Job>, findings: &mut Vec<Finding>)
+        requires none { jobs.old.items ≡ [] }
+        requires findings { AreFindingsIn L.scenario findings.old.items }
+        requires room { HANDFUL ≤ vec_capacity jobs.old }
+        ensures same { AreJobsIn L.scenario jobs.new.items }
+        ensures few { length jobs.new.items ≤ HANDFUL }
+        ensures done { ((jobs.new.items ≡ []) × (findings.new.items ≡ findings.old.items)) ⊎ (findings.new.items ≡ []) }
+        ensures rooms { (vec_capacity jobs.new ≡ vec_capacity jobs.old) × (vec_capacity findings.new ≡ vec_capacity findings.old) }
+        ensures share { share.old.filed ≤ share.new.filed }
+        ensures scratch { share.new.scratch ≡ share.old.scratch }
+    {
+        let Some(mut locked) = self.lock.try_lock() else {
+            return;
+        };
+        locked.go_on(share, jobs, findings);
+        drop(locked);
+        self.changed.notify_all();
+    }
+
+    /// Files what was found, gives jobs back, and wakes all that wait.
+    fn end_all<R: Wait>(
+        &self,
+        rt: &R,
+        share: &mut Share<L>,
+        jobs: &mut Vec<Job>,
+        next: &mut Vec<Job>,
+        findings: &mut Vec<Finding>,
+    )
+        requires { AreFindingsIn L.scenario findings.old.items }
+        ensures none { (jobs.new.items ≡ []) × (next.new.items ≡ []) × (findings.new.items ≡ []) }
+        ensures rooms { (vec_capacity jobs.new ≡ vec_capacity jobs.old) × (vec_capacity next.new ≡ vec_capacity next.old)
+            × (vec_capacity findings.new ≡ vec_capacity findings.old) }
+        ensures share { share.old.filed ≤ share.new.filed }
+    {
+        let mut locked = self.lock.lock(rt);
+        let _filed = locked.end_some(share, jobs, findings);
+        let _more = locked.end_some(share, next, findings);
+        drop(locked);
+        self.changed.notify_all();
+    }
+}
