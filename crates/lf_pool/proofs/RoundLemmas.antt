@@ -1,5 +1,5 @@
 -- What a worker has in hand stays of the scenario that is searched, and its lists keep their room.
-use Rattle.std.proofs.Common.{◌≡◌, ℕ, ◌+◌, ◌-◌, ◌≤◌, Some, false, inl, inr, sym, ◌∙◌, refl, subst, arith, length, List, [], ◌∷◌, ◌++◌}
+use Rattle.std.proofs.Common.{ap, length-append, ◌≡◌, ℕ, ◌+◌, ◌-◌, ◌≤◌, Some, false, inl, inr, sym, ◌∙◌, refl, subst, arith, length, List, [], ◌∷◌, ◌++◌}
 use Rattle.std.proofs.lemmas.List.Elements.{All-nil, All-head, All-push}
 use Rattle.std.specs.Arc.{arc_value}
 use Rattle.std.specs.Prelude.{◌⊎◌, Option, Result, Ok, Err, OnOk, is_err}
@@ -22,6 +22,10 @@ none-of (x ∷ l) h = absurd (omega (arith, h))
 
 pub none-few : {A : Type 0} (l : List A) → l ≡ [] → length l ≤ HANDFUL
 none-few l h = subst (λ l. length l ≤ HANDFUL) (sym h) (omega arith)
+
+-- one item more makes a list longer by one
+pub one-more : {A : Type 0} (l m : List A) (x : A) → m ≡ l ++ x ∷ [] → length m ≡ length l + 1
+one-more l m x e = ap length e ∙ length-append l (x ∷ [])
 
 -- what is so of what is answered is so where it is
 pub on-ok : {T Failed P : Type 0} (r : Result T Failed) → is_err r ≡ false → OnOk r P → P

@@ -1,7 +1,11 @@
 //! The rounds of a worker, in each of which it works a handful of sets.
 
-ghost use Rattle.std.specs.Prelude.{◌≡◌, ◌⊎◌, ◌+◌, ◌≤◌, [], IfOk, OnOk, OnErr, length, vec_capacity};
+ghost use Rattle.std.specs.Prelude.{◌≡◌, ◌⊎◌, ◌+◌, ◌<◌, ◌≤◌, [], ◌∷◌, ◌++◌, IfOk, IfErr, OnOk, OnErr, length, vec_capacity};
+ghost use Rattle.std.specs.Arc.{arc_value};
 ghost use Rattle.std.specs.List.{All};
+ghost use Rattle.lf_work.specs.Jobs.{IsOfJob};
+ghost use Rattle.lf_work.specs.Scratches.{IsScratchFor};
+ghost use Rattle.lf_work.specs.declared.finding.Finding.{Finding};
 ghost use Rattle.lf_pool.specs.Holds.{AreFindingsIn, AreJobsIn, IsAtWork, IsLeftIn};
 ghost use Rattle.lf_pool.specs.declared.handful.TheConstants.{HANDFUL};
 
@@ -11,7 +15,7 @@ use crate::hands::Hands;
 use crate::searched::Searched;
 use crate::share::Share;
 use crate::shared::SharedBook;
-use lf_work::{Finding, Job, Spent};
+use lf_work::{Finding, Job, Scratch, Spent};
 use std::alloc::AllocError;
 use std::mem::swap;
 use std::rt::Clock;
@@ -102,15 +106,9 @@ impl<L: Searched> SharedBook<L> {
         ensures share { share.old.filed ≤ share.new.filed }
     {
         'jobs: while let Some(job) = jobs.pop() {
-            match gate.run(rt, &job, &mut share.scratch) {
-                Ok(finding) => {
-                    findings.push_reserved(finding);
-                    share.scratch.keep(job.spend());
-                }
-                Err(error) => {
-                    jobs.push_reserved(job);
-                    return Err(error);
-                }
+            if let Err((error, job)) = put_found(rt, gate, &mut share.scratch, job, findings) {
+                jobs.push_reserved(job);
+                return Err(error);
             }
             if next.is_empty() && findings.len() >= FOUND {
                 self.try_on(share, next, findings);
@@ -197,5 +195,31 @@ impl<L: Searched> SharedBook<L> {
         let _more = locked.end_some(share, next, findings);
         drop(locked);
         self.changed.notify_all();
+    }
+}
+
+/// Works a job of the scratch's scenario by the gate, and puts what is found at the end of a list with room for it. The error is that memory has run out, and
+/// hands the job back.
+fn put_found<R: Clock, G: Gate>(
+    rt: &R,
+    gate: &G,
+    scratch: &mut Scratch,
+    job: Job,
+    findings: &mut Vec<Finding>,
+) -> Result<(), (AllocError, Job)>
+    requires suited { IsScratchFor (arc_value job.scenario) scratch.old }
+    requires room { length findings.old.items < vec_capacity findings.old }
+    ensures found { OnOk result ((finding : Finding) × (findings.new.items ≡ findings.old.items ++ finding ∷ []) × IsOfJob job finding) }
+    ensures back { IfErr result (λ back. (back.1 ≡ job) × (findings.new ≡ findings.old)) }
+    ensures scratch { IsScratchFor (arc_value job.scenario) scratch.new }
+    ensures room { vec_capacity findings.new ≡ vec_capacity findings.old }
+{
+    match gate.run(rt, &job, scratch) {
+        Ok(finding) => {
+            findings.push_reserved(finding);
+            scratch.keep(job.spend());
+            Ok(())
+        }
+        Err(error) => Err((error, job)),
     }
 }

@@ -1,49 +1,50 @@
-use Rattle.std.proofs.Common.{◌+◌, inr, length, sym, ◌∙◌, arith}
+use Rattle.std.proofs.Common.{◌+◌, ◌++◌, [], ◌∷◌, ap, inr, length, refl, sym, ◌∙◌, arith}
 use Rattle.std.proofs.lemmas.Bool.{eqb-true}
 use Rattle.std.specs.Arc.{arc_value}
-use Rattle.lf_pool.proofs.RoundLemmas.{ahead-on, found-at-work, gone-on, none-left, none-of, put-again, room-on, still-ahead, suited, worked-one}
+use Rattle.lf_pool.proofs.RoundLemmas.{ahead-on, found-at-work, gone-on, none-left, none-of, one-more, put-again, room-on, still-ahead, suited, worked-one}
 use Rattle.lf_pool.proofs.shared.SharedBook.work_round.Goals as goal
 
-pub run-requires : goal.run-requires
-run-requires g c =
-    let so = c.jobs.invariant in
+pub put_found-requires-clause-suited : goal.put_found-requires-clause-suited
+put_found-requires-clause-suited g c κs within =
     suited g.L.Searched.scenario c.jobs.jobs.items c.pop.new.self.items c.jobs.next.items c.jobs.findings.items c.jobs.share.scratch c.in-Some.job
-    so.work c.in-Some.ensures.items
+    c.jobs.invariant.work c.in-Some.ensures.items
 
 pub returns-in-Err-clause-work : goal.returns-in-Err-clause-work
 returns-in-Err-clause-work g c =
-    put-again g.L.Searched.scenario c.jobs.jobs.items c.pop.new.self.items c.push_reserved-in-Err.new.self.items c.jobs.next.items
-    c.jobs.findings.items c.jobs.share.scratch c.run.new.scratch c.in-Some.job c.jobs.invariant.work c.in-Some.ensures.items
-    c.push_reserved-in-Err.ensures.items c.run.ensures.scratch
-
-pub try_on-requires-clause-none : goal.try_on-requires-clause-none
-try_on-requires-clause-none g c =
-    none-of c.jobs.next.items (omega (arith, eqb-true c.jobs.next.len 0 (sym c.if-is_empty.ensures), c.jobs.next.ok))
+    let back = c.in-Err.ensures.back in
+    let again = c.push_reserved.ensures.items ∙ ap (λ j. c.pop.new.self.items ++ j ∷ []) back.0 in
+    rw back.1
+    (put-again g.L.Searched.scenario c.jobs.jobs.items c.pop.new.self.items c.push_reserved.new.self.items c.jobs.next.items c.jobs.findings.items
+    c.jobs.share.scratch c.put_found.new.scratch c.in-Some.job c.jobs.invariant.work c.in-Some.ensures.items again c.put_found.ensures.scratch)
 
 pub try_on-requires-clause-findings : goal.try_on-requires-clause-findings
 try_on-requires-clause-findings g c =
+    let job = c.in-Some.job in
+    let found = c.in_default-put_found.ensures.found in
     let worked = worked-one g.L.Searched.scenario c.jobs.jobs.items c.pop.new.self.items c.jobs.next.items c.jobs.findings.items
-    c.push_reserved.new.self.items c.jobs.share.scratch c.keep.new.self c.in-Some.job c.in-Ok.finding (arc_value c.spend.result.scenario)
-    c.jobs.invariant.work c.in-Some.ensures.items c.push_reserved.ensures.items c.in-Ok.ensures.finding c.spend.ensures c.keep.ensures.scratch in
-    found-at-work g.L.Searched.scenario c.pop.new.self.items c.jobs.next.items c.push_reserved.new.self.items c.keep.new.self worked
+    c.put_found.new.findings.items c.jobs.share.scratch c.put_found.new.scratch job found.0 (arc_value job.scenario) c.jobs.invariant.work
+    c.in-Some.ensures.items found.1 found.2 refl c.put_found.ensures.scratch in
+    found-at-work g.L.Searched.scenario c.pop.new.self.items c.jobs.next.items c.put_found.new.findings.items c.put_found.new.scratch worked
 
 pub jobs-preserved-then-len-ge-FOUND : goal.jobs-preserved-then-len-ge-FOUND
 jobs-preserved-then-len-ge-FOUND g c =
     let so = c.jobs.invariant in
+    let job = c.in-Some.job in
     let popped = c.in-Some.ensures in
-    let put = c.push_reserved.ensures in
+    let found = c.in_default-put_found.ensures.found in
+    let more = one-more c.jobs.findings.items c.put_found.new.findings.items found.0 found.1 in
     let tried = c.try_on.ensures in
     let worked = worked-one g.L.Searched.scenario c.jobs.jobs.items c.pop.new.self.items c.jobs.next.items c.jobs.findings.items
-    c.push_reserved.new.self.items c.jobs.share.scratch c.keep.new.self c.in-Some.job c.in-Ok.finding (arc_value c.spend.result.scenario)
-    so.work popped.items put.items c.in-Ok.ensures.finding c.spend.ensures c.keep.ensures.scratch in
+    c.put_found.new.findings.items c.jobs.share.scratch c.put_found.new.scratch job found.0 (arc_value job.scenario) so.work
+    popped.items found.1 found.2 refl c.put_found.ensures.scratch in
     record {
-      work = gone-on g.L.Searched.scenario c.pop.new.self.items c.jobs.next.items c.try_on.new.jobs.items c.push_reserved.new.self.items
-          c.try_on.new.findings.items c.keep.new.self c.try_on.new.share.scratch worked tried.same tried.done tried.scratch;
-      rooms = (popped.capacity ∙ so.rooms.0, tried.rooms.0 ∙ so.rooms.1, tried.rooms.1 ∙ put.capacity ∙ so.rooms.2);
+      work = gone-on g.L.Searched.scenario c.pop.new.self.items c.jobs.next.items c.try_on.new.jobs.items c.put_found.new.findings.items
+          c.try_on.new.findings.items c.put_found.new.scratch c.try_on.new.share.scratch worked tried.same tried.done tried.scratch;
+      rooms = (popped.capacity ∙ so.rooms.0, tried.rooms.0 ∙ so.rooms.1, tried.rooms.1 ∙ c.put_found.ensures.room ∙ so.rooms.2);
       few = omega (arith, so.few, popped.len);
-      room = room-on c.pop.new.self.items c.try_on.new.jobs.items c.push_reserved.new.self.items c.try_on.new.findings.items tried.done
-          (omega (arith, so.few, popped.len)) (omega (arith, so.room, popped.len, put.len));
-      ahead = ahead-on c.pop.new.self.items c.try_on.new.jobs.items c.push_reserved.new.self.items c.try_on.new.findings.items tried.done
+      room = room-on c.pop.new.self.items c.try_on.new.jobs.items c.put_found.new.findings.items c.try_on.new.findings.items tried.done
+          (omega (arith, so.few, popped.len)) (omega (arith, so.room, popped.len, more));
+      ahead = ahead-on c.pop.new.self.items c.try_on.new.jobs.items c.put_found.new.findings.items c.try_on.new.findings.items tried.done
           (omega (arith, so.few, popped.len)) tried.few;
       filed = omega (arith, so.filed, tried.share);
     }
@@ -51,17 +52,19 @@ jobs-preserved-then-len-ge-FOUND g c =
 pub jobs-preserved : goal.jobs-preserved
 jobs-preserved g c =
     let so = c.jobs.invariant in
+    let job = c.in-Some.job in
     let popped = c.in-Some.ensures in
-    let put = c.push_reserved.ensures in
+    let found = c.in_default-put_found.ensures.found in
+    let more = one-more c.jobs.findings.items c.put_found.new.findings.items found.0 found.1 in
     record {
       work = worked-one g.L.Searched.scenario c.jobs.jobs.items c.pop.new.self.items c.jobs.next.items c.jobs.findings.items
-          c.push_reserved.new.self.items c.jobs.share.scratch c.keep.new.self c.in-Some.job c.in-Ok.finding (arc_value c.spend.result.scenario)
-          so.work popped.items put.items c.in-Ok.ensures.finding c.spend.ensures c.keep.ensures.scratch;
-      rooms = (popped.capacity ∙ so.rooms.0, so.rooms.1, put.capacity ∙ so.rooms.2);
+          c.put_found.new.findings.items c.jobs.share.scratch c.put_found.new.scratch job found.0 (arc_value job.scenario) so.work
+          popped.items found.1 found.2 refl c.put_found.ensures.scratch;
+      rooms = (popped.capacity ∙ so.rooms.0, so.rooms.1, c.put_found.ensures.room ∙ so.rooms.2);
       few = omega (arith, so.few, popped.len);
-      room = omega (arith, so.room, popped.len, put.len);
+      room = omega (arith, so.room, popped.len, more);
       ahead = still-ahead c.jobs.next.items (length c.jobs.jobs.items + length c.jobs.findings.items)
-          (length c.pop.new.self.items + length c.push_reserved.new.self.items) so.ahead (omega (arith, popped.len, put.len));
+          (length c.pop.new.self.items + length c.put_found.new.findings.items) so.ahead (omega (arith, popped.len, more));
       filed = so.filed;
     }
 
