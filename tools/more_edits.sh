@@ -15,6 +15,7 @@ cd "$room/clone"
 [ $# -gt 0 ] || set -- $(ls more-edits | grep -v README)
 status=0
 for crate in "$@"; do
+    mkdir -p "crates/$crate/must-fail"
     rm -f "crates/$crate/must-fail/"*.edit
     cp "more-edits/$crate/"*.edit "crates/$crate/must-fail/"
     rt must-fail "$crate" || status=1
