@@ -4,7 +4,7 @@
 //!     bench_searches books COUNT search|runs|plain|drive <SCENARIO
 //!     bench_searches checks COUNT runs|check|rows <SCENARIO
 //!     bench_searches pools WORKERS [shares] <SCENARIO
-//!     bench_searches runs COUNT run|run_reusing|edges FAULTS EXCLUDED
+//!     bench_searches runs COUNT run|rerun|edges FAULTS EXCLUDED
 //!     bench_searches trees COUNT write|read|json KIDS
 //!
 //! The first word names a module here, which says what is done.

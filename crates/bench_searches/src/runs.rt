@@ -1,7 +1,7 @@
-//! `runs COUNT run|run_reusing|edges FAULTS EXCLUDED` runs a machine that sends to all at every step, as often as it is told, and prints a
+//! `runs COUNT run|rerun|edges FAULTS EXCLUDED` runs a machine that sends to all at every step, as often as it is told, and prints a
 //! sum of what it finds.
 //!
-//! `run_reusing` gives one run's memory to the next, and `edges` then looks for the sharp reach of what node 0 ends with and for the
+//! `rerun` makes one run the next, and `edges` then looks for the sharp reach of what node 0 ends with and for the
 //! edges within it. FAULTS is how many faults each set has, 0 to 6, and EXCLUDED how many omissions are excluded from the edges, none
 //! where the word is missing. It reads nothing.
 
@@ -14,7 +14,8 @@ use lf_cone::{put_edges, sharp};
 use lf_faults::{Fault, FaultSet, FaultSpec};
 use lf_latency::{Links, Network};
 use lf_outcome::Point;
-use lf_sim::{Letter, Machine, Out, Run, Setting, Stepped, run, run_reusing};
+use lf_player::rerun;
+use lf_sim::{Letter, Machine, Out, Run, Setting, Stepped, run};
 use std::alloc::{AllocError, Global};
 
 /// Eight nodes, each of which tells all others a number, and adds the first note that it gets to it.
@@ -151,18 +152,23 @@ pub(crate) fn measure(rt: &HostRuntime, asked: Asked) -> Result<u8, AllocError> 
     Ok(0)
 }
 
-/// The run of a set, in the memory of one that is no longer needed, but for `run`.
+/// The run of a set, made of another set's but for `run`.
 fn played(
     alloc: Global,
     setting: &Setting<Chatter>,
     set: &FaultSet,
     way: Word,
-    spent: Run<Chatter>,
+    last: Run<Chatter>,
 ) -> Result<Run<Chatter>, AllocError>
+    requires { IsRun (world_of setting.now) last }
     ensures { IfOk result (IsRun (world_of setting.now)) }
 {
     match way {
-        Word::RunReusing | Word::Edges => Ok(run_reusing(setting, set, spent)),
+        Word::Rerun | Word::Edges => {
+            let mut played = last;
+            rerun(setting, &mut played, set);
+            Ok(played)
+        }
         _ => run(alloc, setting, set),
     }
 }

@@ -1,9 +1,7 @@
-//! A player runs one set of faults after another in a setting, and works only those points again that come out otherwise.
+//! The run of one set of faults is made that of another: only those points are worked again that come out otherwise.
 #![tactic(auto)]
 
 mod change;
 mod marks;
-mod player;
 
 pub use change::rerun;
-pub use player::Player;

@@ -24,6 +24,6 @@ pub use machine::Machine;
 pub use out::{Out, Stepped};
 pub use points::{arrivals_are_later, by_points, inboxes_of, same_until};
 pub use record::Run;
-pub use runs::{run, run_reusing, runs_agree};
+pub use runs::{run, runs_agree};
 pub use schedule::Slot;
 pub use setting::Setting;

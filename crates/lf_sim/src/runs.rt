@@ -28,21 +28,6 @@ pub fn run<M: Machine>(
     Ok(played(setting, set, cells, inbox))
 }
 
-/// The same, in the memory of a run that is no longer needed. It takes none itself.
-pub fn run_reusing<M: Machine>(setting: &Setting<M>, set: &FaultSet, spent: Run<M>) -> Run<M>
-    ensures run { IsRun (world_of setting.now) result }
-    ensures set { set_of result ≡ set.now }
-{
-    let Run { grid, .. } = spent;
-    let Grid {
-        mut cells,
-        inbox,
-        ..
-    } = grid;
-    cells.clear();
-    played(setting, set, cells, inbox)
-}
-
 /// The law that two runs of one setting under one set are the same: who is up, the states, and the notes.
 pub fn runs_agree<M: Machine>(setting: &Setting<M>, one: &Run<M>, other: &Run<M>)
     requires one { IsRun (world_of setting.now) one.now }

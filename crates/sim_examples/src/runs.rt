@@ -4,7 +4,8 @@ use crate::machines::{Hub, Ring};
 use crate::plain::{is_plain, plain};
 use crate::texts::{agrees, set, setting};
 use lf_faults::FaultSet;
-use lf_sim::{Machine, Setting, Stepped, run, run_reusing, runs_agree};
+use lf_player::rerun;
+use lf_sim::{Machine, Setting, Stepped, run, runs_agree};
 use std::alloc::Global;
 use std::process::Abort;
 
@@ -24,7 +25,7 @@ const SETS: &str = concat!(
     "omit 1>0 @5,omit 2>0 @6,crash 3 @7,pause 0 @4,pause 1 @4,crash 2 @11\n",
 );
 
-/// Whether the run of a set is the one of these cells, and then so in the memory of the run of another set.
+/// Whether the run of a set is the one of these cells, and so is the run of another set that is made that of this one.
 fn has_cells<M: Machine>(
     alloc: Global,
     setting: &Setting<M>,
@@ -33,17 +34,17 @@ fn has_cells<M: Machine>(
     cells: &[Stepped<M::State, M::Note>],
 ) -> bool {
     match (run(alloc, setting, set), run(alloc, setting, before)) {
-        (Ok(found), Ok(before)) => {
-            let spent = run_reusing(setting, set, before);
-            runs_agree(setting, &found, &spent);
-            is_plain(setting, &found, set, cells) && is_plain(setting, &spent, set, cells)
+        (Ok(found), Ok(mut changed)) => {
+            rerun(setting, &mut changed, set);
+            runs_agree(setting, &found, &changed);
+            is_plain(setting, &found, set, cells) && is_plain(setting, &changed, set, cells)
         }
         _ => false,
     }
 }
 
-/// Whether the set of a row makes the run that the plain evaluation finds, and then so in the memory of the run of another set, in place of
-/// which it is put.
+/// Whether the set of a row makes the run that the plain evaluation finds, by itself and out of the run of another set, in place of which it
+/// is put.
 fn is_plain_run<M: Machine>(
     alloc: Global,
     setting: &Setting<M>,
@@ -53,15 +54,15 @@ fn is_plain_run<M: Machine>(
     let Some(set) = set(row) else {
         return false;
     };
-    let spent = *before;
+    let last = *before;
     *before = set;
     match plain(alloc, setting, &set) {
-        Ok(cells) => has_cells(alloc, setting, &spent, &set, cells.as_slice()),
+        Ok(cells) => has_cells(alloc, setting, &last, &set, cells.as_slice()),
         Err(_) => false,
     }
 }
 
-/// Each of the sets makes the run, and then the run in the memory of the one before, that the plain evaluation finds.
+/// Each of the sets makes the run that the plain evaluation finds, by itself and out of the run of the set before.
 fn are_plain<M: Machine>(rt: &impl Abort, alloc: Global, setting: &Setting<M>) {
     let mut before = FaultSet::empty();
     for row in SETS.lines() {
