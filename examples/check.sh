@@ -174,6 +174,50 @@ test_examples() {
     done
 }
 
+# longer_of FILE STEPS: what its first comment says of a run of so many steps, `# In STEPS steps: LINE, LINE`, and where it says nothing, its report.
+longer_of() {
+    local line
+    while IFS= read -r line; do
+        case $line in
+        "# In $2 steps: "*)
+            line=${line#*': '}
+            printf '%s' "${line//, /$'\n'}"
+            return
+            ;;
+        '#'*) ;;
+        *) break ;;
+        esac
+    done <"$1"
+    report_of "$1"
+}
+
+# test_longer FILE: with half as many steps again the answer is the report, or what the first comment says.
+test_longer() {
+    local file=$1 line wanted code=1 steps=0
+    while IFS= read -r line; do
+        case $line in
+        'horizon = '*)
+            line=${line#'horizon = '}
+            steps=$(((${line%%' '*} * 3 + 1) / 2))
+            ;;
+        esac
+    done <"$room/desk/$file"
+    [ "$steps" -le 48 ] || steps=48
+    wanted=$(longer_of "$room/desk/$file" "$steps")
+    case $wanted in
+    none*) code=0 ;;
+    refused*) code=2 ;;
+    esac
+    expect "$code" "$wanted" '*' "sed 's/^horizon = .*/horizon = $steps/' $file | leastfault answer -$(protocol_of "$room/desk/$file")"
+}
+
+test_longer_runs() {
+    local example
+    for example in "$room"/desk/examples/protocols/scenarios/*.toml; do
+        test_longer "${example#"$room/desk/"}"
+    done
+}
+
 # ---- protocol files ----
 
 test_protocols() {
@@ -790,6 +834,7 @@ install -m 755 "$program" "$room/bin/leastfault"
 cp -R "$here" "$room/desk/examples"
 export PATH="$room/bin:$PATH"
 test_examples
+test_longer_runs
 test_protocols
 test_built_ins
 test_copies
