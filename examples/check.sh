@@ -174,6 +174,50 @@ test_examples() {
     done
 }
 
+# longer_of FILE STEPS: what its first comment says of a run of so many steps, `# In STEPS steps: LINE, LINE`, and where it says nothing, its report.
+longer_of() {
+    local line
+    while IFS= read -r line; do
+        case $line in
+        "# In $2 steps: "*)
+            line=${line#*': '}
+            printf '%s' "${line//, /$'\n'}"
+            return
+            ;;
+        '#'*) ;;
+        *) break ;;
+        esac
+    done <"$1"
+    report_of "$1"
+}
+
+# test_longer FILE: with half as many steps again the answer is the report, or what the first comment says.
+test_longer() {
+    local file=$1 line wanted code=1 steps=0
+    while IFS= read -r line; do
+        case $line in
+        'horizon = '*)
+            line=${line#'horizon = '}
+            steps=$(((${line%%' '*} * 3 + 1) / 2))
+            ;;
+        esac
+    done <"$room/desk/$file"
+    [ "$steps" -le 48 ] || steps=48
+    wanted=$(longer_of "$room/desk/$file" "$steps")
+    case $wanted in
+    none*) code=0 ;;
+    refused*) code=2 ;;
+    esac
+    expect "$code" "$wanted" '*' "sed 's/^horizon = .*/horizon = $steps/' $file | leastfault answer -$(protocol_of "$room/desk/$file")"
+}
+
+test_longer_runs() {
+    local example
+    for example in "$room"/desk/examples/protocols/scenarios/*.toml; do
+        test_longer "${example#"$room/desk/"}"
+    done
+}
+
 # ---- protocol files ----
 
 test_protocols() {
@@ -525,11 +569,15 @@ test_protocol() {
     expect 2 'refused protocol 7 facts.blocked' $'facts.blocked: `prepare`: *`prepared`?\nline * | phase = prepare\n* | *^^^^^^^\n' \
         "sed 's/blocked = \"phase = prepared\"/blocked = \"phase = prepare\"/' examples/protocols/two_phase.toml | leastfault protocol -"
     expect 2 'refused protocol 2' '?*' 'leastfault protocol examples/README.md'
+    put free.toml "$(printf '%s\n' 'name = "free"' 'state = { most = "flag", one = "flag" }' 'notes = []' \
+        'rules = [{ who = "{2..} - all", on = "begin", set = "most = true" }]' 'outcomes = { free = "at most one most and most at 1 or no one" }')"
+    expect 0 ok $'*\nwarning: rule 1 is no node\'s: *' 'leastfault protocol free.toml'
 }
 
 # The option --protocol, and what is refused first.
 test_own_protocols() {
     local protocol=examples/protocols/retry.toml own=examples/protocols/scenarios/retry_lost.toml
+    local chain=examples/protocols/scenarios/chain_replication_progress
     expect 1 $'all 1 2\nomit 0>1 @1\nomit 0>2 @1' '' "leastfault search --protocol=$protocol $own --all"
     expect 1 $'least 1\nomit 0>1 @1' '' "leastfault search - --protocol $protocol --quiet <$own"
     expect 0 $'step 1\n0 has\n1 lacks\n2 lacks\n0>1 data 2\n0>2 data 2\n0 rules 3\nstep 2\n0 has\n1 has\n2 has\n1 rules 2\n2 rules 2
@@ -544,6 +592,10 @@ step 3\n0 has\n1 has\n2 has\nstep 4\n0 has\n1 has\n2 has\nreaches' '' "leastfaul
     expect 2 'refused 4 given' '?*' "sed 's/^outcome/given = { patience = 3 }\noutcome/' $own | leastfault search - --protocol $protocol"
     expect 2 'refused 10 outcome' $'outcome: `had`: *`has`?\nline * | each had\n*' \
         "sed 's/delivered/each had/' $own | leastfault search - --protocol $protocol"
+    expect 2 'refused 10 outcome' '*node 3*' "sed 's/delivered/has at 3/' $own | leastfault search - --protocol $protocol"
+    expect 2 'refused 10 outcome' '*atoms*' "sed 's/^nodes = 3/nodes = 8/; s/^horizon = 4/horizon = 48/; s/delivered/always each has/' $own | leastfault search - --protocol $protocol"
+    expect 0 'none 1' $'no node has these rules, *: 1, 4\n' \
+        "sed 's/^nodes = 4/nodes = 3/; s/^crashes = 4/crashes = 3/' $chain.toml | leastfault search - --protocol examples/protocols/chain_replication.toml"
     expect 2 'refused faults' '?*' "leastfault run $own nonsense --protocol $protocol"
     expect 3 '' $'read\n*' "leastfault search $own --protocol nowhere.toml"
     expect 3 '' $'read\n*' "leastfault search nowhere.toml --protocol wrong.toml"
@@ -790,6 +842,7 @@ install -m 755 "$program" "$room/bin/leastfault"
 cp -R "$here" "$room/desk/examples"
 export PATH="$room/bin:$PATH"
 test_examples
+test_longer_runs
 test_protocols
 test_built_ins
 test_copies

@@ -42,10 +42,10 @@
 //! with the device on the next line, or `pool NUMBER`.
 //!
 //! Where the status is 2, standard error says in words what is wrong with what was refused. Where a protocol file is one, it says what the
-//! file has, and what in it looks like a slip. Of a search, `why` and a run with `--protocol` it says where the run without faults passes a range or
-//! replaces a note, and of an answer over every delay that a seed plays no part. Else it stays empty where all is well. But where it is a terminal, a search, an answer, `why` or a
-//! check that takes longer than a second says on one line there how far it has come, and erases that line before it replies. With
-//! `--quiet` it doesn't.
+//! file has, and what in it looks like a slip. Of a search, `why` and a run with `--protocol` it says which rules no node has, and where the
+//! run without faults passes a range or replaces a note, and of an answer over every delay that a seed plays no part. Else it stays empty where
+//! all is well. But where it is a terminal, a search, an answer, `why` or a check that takes longer than a second says on one line there how far
+//! it has come, and erases that line before it replies. With `--quiet` it doesn't.
 #![tactic(auto)]
 
 mod combination;
@@ -284,8 +284,8 @@ fn with_notes(
     Ok(notes)
 }
 
-/// Where the run without faults passes a range or replaces a note: of a search, a run or a picture of a protocol file's scenario, by its
-/// seed. Of an answer over every delay, that a seed plays no part.
+/// Which rules no node has, and where the run without faults passes a range or replaces a note: of a search, a run or a picture of a
+/// protocol file's scenario, by its seed. Of an answer over every delay, that a seed plays no part.
 fn notes_of(alloc: Global, asked: &Asked, texts: &Texts<'_>) -> Result<String, AllocError> {
     if let Asked::Answer {
         every_delay: true,
