@@ -5,7 +5,8 @@
 #     check.sh [--built]
 #
 # With --built the program is the one that `rt ci` leaves in crates/leastfault_cli/out/. Without it, `rt run` proves and builds
-# the program first, which takes the Rattle kit and some twenty minutes. The tests themselves need bash and coreutils alone.
+# the program first, which takes the Rattle kit and some twenty minutes. The tests themselves need bash and coreutils alone; where
+# `rsvg-convert` is installed they render pictures, too.
 #
 # A test runs one command and compares the status, standard output to the last byte, and standard error. What standard error says
 # in words may change, so most tests ask only whether it says anything. Prints each test that fails, with the lines that differ,
@@ -392,7 +393,6 @@ test_run() {
 }
 
 test_told() {
-    local file text=''
     expect 1 $'step 1\n- 0>1 data 2\n+ 0>1 data omitted\nstep 2\n- 1 has\n+ 1 lacks\nstep 3\n- 1 has\n+ 1 lacks\nstep 4\n- 1 has\n+ 1 lacks
 - reaches\n+ misses' '' "leastfault run examples/one_try.toml 'omit 0>1 @1' --beside ''"
     expect 0 '= reaches' '' "leastfault run examples/one_try.toml '' --beside ''"
@@ -463,7 +463,31 @@ test_told() {
     }
   ]
 }' '' "leastfault run two.toml 'omit 0>1 @1' --json"
+}
 
+# grouped CLASS ELEMENTS COMMAND: what stands in the groups of a class of the picture that the command prints.
+grouped() {
+    expect 0 "$2" '*' "$3 | sed -n \"/^<g class='$1'/,/^<.g>/{/^<.\{0,1\}g/d;p}\""
+}
+
+# renders COMMAND: a program that heeds no rule of style for dark ground shows the words of the picture that the command prints, and all colours, and with
+# these rules alone it does so, too. Words are in sight where the picture differs from that without them, both without the rims around words.
+renders() {
+    run "$1 >whole.svg
+sed \"/^<g class='rim'/,/^<.g>/d\" whole.svg >light.svg
+sed 's/^@media(.*{\$//; s/^}\$//' light.svg >dark.svg
+sed '/^<style>/,/^<.style>/d' light.svg >plain.svg
+for i in light dark plain; do
+    grep -v '<text' \$i.svg >silent.svg
+    rsvg-convert \$i.svg >\$i.png && rsvg-convert silent.svg >silent.png || exit 9
+    ! cmp -s \$i.png silent.png || exit 8
+done
+cmp light.png plain.png && ! cmp -s light.png dark.png"
+    count "$1, rendered" "$(differ status 0 "$status")"
+}
+
+test_pictures() {
+    local text='' mood='leastfault draw --protocol gloomy.toml mood.toml'
     # The pictures of the pages are what the program draws.
     slurp text "$top/docs/pictures/crash_between_tries.svg"
     expect 1 "${text%$'\n'}" '' "leastfault draw examples/crash_between_tries.toml 'omit 0>1 @1,crash 0 @2'"
@@ -471,6 +495,45 @@ test_told() {
     expect 1 "${text%$'\n'}" '*' "leastfault draw examples/protocols/scenarios/raft_election_forgets.toml 'pause 2 @4' --protocol examples/protocols/raft_election.toml"
     ends 0 '</svg>' '' "leastfault draw examples/relayed.toml ''"
     expect 2 'refused faults' '?*' "leastfault draw examples/one_try.toml 'crash 0 @1'"
+
+    # The title is whole, in as many lines as it takes.
+    put eight.toml "$(printf '%s\n' 'nodes = 8' 'horizon = 12' 'last_omission = 10' 'crashes = 2' 'pauses = 2' 'pause_length = 2' 'budget = 6' \
+        'protocol = "retry"' 'tries = 12' 'outcome = "delivered"')"
+    grouped title "<text x='14' y='24'>omit 0&gt;1 @1, omit 0&gt;2 @1, pause 4 @2, omit 0&gt;3 @10, crash 5 @10, crash 0 @11: reaches</text>" \
+        "leastfault draw eight.toml 'omit 0>1 @1,omit 0>2 @1,omit 0>3 @10,pause 4 @2,crash 5 @10,crash 0 @11'"
+    run 'sed "s/nodes = 8/nodes = 2/" eight.toml >two.toml'
+    grouped title "<text x='14' y='24'>omit 0&gt;1 @1, omit 0&gt;1 @2, pause 1 @3, omit 0&gt;1 @10,</text>
+<text x='14' y='41'>crash 1 @10, crash 0 @11: reaches</text>" \
+        "leastfault draw two.toml 'omit 0>1 @1,omit 0>1 @2,omit 0>1 @10,pause 1 @3,crash 1 @10,crash 0 @11'"
+
+    # A node that is down says so where its own words are the same.
+    put gloomy.toml "$(printf '%s\n' 'name = "gloomy"' 'notes = ["DATA"]' 'state = { mood = "crashed | paused" }' \
+        'outcomes = { kept = "each crashed or each paused" }' \
+        'rules = [{ on = "DATA", set = "mood = paused" }, { who = "0", on = "end", when = "t = 1", send = "DATA to all" }]')"
+    put mood.toml "$(printf '%s\n' 'nodes = 2' 'horizon = 4' 'last_omission = 0' 'crashes = 1' 'pauses = 1' 'pause_length = 1' 'budget = 2' \
+        'protocol = "gloomy"' 'outcome = "kept"')"
+    grouped stopped $'<text x=\'65\' y=\'142\'>crashed</text>\n<text x=\'161\' y=\'172\'>paused</text>' "$mood 'crash 0 @2,pause 1 @3'"
+    grouped state $'<text x=\'65\' y=\'82\'>crashed</text>\n<text x=\'161\' y=\'82\'>crashed</text>\n<text x=\'161\' y=\'142\'>paused</text>
+<text x=\'161\' y=\'202\'>paused</text>' "$mood 'crash 0 @2,pause 1 @3'"
+
+    # Red rings stand where a promise is first seen to fail: at one step of an `all`, and at all points of an `any`.
+    put rings.toml "$(printf '%s\n' 'nodes = 2' 'horizon = 4' 'last_omission = 3' 'crashes = 0' 'budget = 1' 'protocol = "retry"' 'tries = 1' \
+        'outcome = ["all", ["shows", 1, 4, "has"], ["shows", 0, 3, "lacks"],' \
+        '["any", ["shows", 1, 2, "has"], ["shows", 0, 1, "lacks"]], ["shows", 1, 1, "lacks"]]')"
+    grouped fails "<circle cx='56' cy='114' r='6'/>
+<circle cx='152' cy='144' r='6'/>" "leastfault draw rings.toml 'omit 0>1 @1'"
+    grouped asked "<circle cx='56' cy='174' r='6'/>
+<circle cx='152' cy='114' r='6'/>
+<circle cx='152' cy='204' r='6'/>" "leastfault draw rings.toml 'omit 0>1 @1'"
+    grouped fails "<circle cx='56' cy='174' r='6'/>" "leastfault draw rings.toml ''"
+    grouped fails '' "leastfault draw examples/one_try.toml ''"
+
+    # Programs that are no browsers show a picture, too.
+    if command -v rsvg-convert >/dev/null; then
+        renders "leastfault draw examples/crash_between_tries.toml 'omit 0>1 @1,crash 0 @2'"
+        renders "leastfault draw eight.toml 'omit 0>1 @1,pause 4 @2'"
+        renders "$mood ''"
+    fi
 }
 
 # The answer over every delay, and runs where messages come as a list says.
@@ -852,6 +915,7 @@ test_own_file
 test_full
 test_run
 test_told
+test_pictures
 test_every_delay
 test_why
 test_check
