@@ -369,6 +369,20 @@ test_own_file() {
     put own.toml "$scenario"
     expect 2 '' '?*' 'leastfault search own.toml --tree own.toml'
     holds own.toml "$scenario" 'a search whose certificate would replace its scenario'
+    # by another name too: another spelling, a link, and a hard link
+    ln -s own.toml "$room/desk/soft.toml"
+    ln "$room/desk/own.toml" "$room/desk/hard.toml"
+    local name
+    for name in ./own.toml examples/../own.toml "$room/desk/own.toml" soft.toml hard.toml; do
+        expect 2 '' "--tree = $name: it would overwrite the scenario*" "leastfault search own.toml --tree $name"
+        expect 2 '' "--tree = own.toml: it would overwrite the scenario*" "leastfault search $name --tree own.toml"
+        holds own.toml "$scenario" "a search whose certificate would replace its scenario, by the name $name"
+    done
+    expect 2 '' '--tree = ./kept_protocol.toml: it would overwrite the protocol*' \
+        'cp examples/protocols/two_phase.toml kept_protocol.toml; leastfault search own.toml --protocol kept_protocol.toml --tree ./kept_protocol.toml'
+    # of standard input nobody knows the name, and what isn't a file is never replaced
+    expect 1 $'least 1\nomit 0>1 @1' '' 'leastfault search own.toml --tree /dev/null'
+    expect 3 '' 'read*' 'leastfault search nowhere.toml --tree ./nowhere.toml'
 }
 
 test_full() {
