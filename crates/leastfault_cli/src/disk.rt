@@ -1,6 +1,6 @@
 //! The system's files, with standard input and output.
 
-ghost use Rattle.std.specs.Prelude.{◌≡◌, ◌+◌, ◌≤◌, None, IfOk, length};
+ghost use Rattle.std.specs.Prelude.{◌≡◌, ◌+◌, ◌≤◌, false, None, IfOk, length};
 
 use crate::devices::{Input, name_of, opened_input, write_file};
 use crate::line::Line;

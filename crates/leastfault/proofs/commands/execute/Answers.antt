@@ -1,6 +1,5 @@
-use Rattle.std.proofs.Common.{List, ℕ, Option, string_bytes}
+use Rattle.std.proofs.Common.{string_bytes}
 use Rattle.std.proofs.lemmas.Result.{err_from_is_err_and}
-use Rattle.lf_streams.specs.Files.{Desk}
 use Rattle.leastfault.specs.declared.commands.Executed.{Executed}
 use Rattle.leastfault.specs.Commands.{IsCause, IsDone}
 use Rattle.leastfault.specs.Places.{writes_of}

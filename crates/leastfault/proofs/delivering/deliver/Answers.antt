@@ -1,4 +1,4 @@
-use Rattle.std.proofs.Common.{◌∷◌, [], Option, None, List, ℕ, Ok, option_map, subst}
+use Rattle.std.proofs.Common.{◌∷◌, [], Option, None, List, ℕ, Ok, subst}
 use Rattle.lf_words.specs.Words.{written_to}
 use Rattle.leastfault.specs.Commands.{certificate_of}
 use Rattle.leastfault.specs.Places.{WasDelivered, filed_of}
