@@ -585,8 +585,18 @@ test_every_delay() {
 
 test_why() {
     expect 1 $'least 2\nomit 0>1 @1\ncrash 0 @2\nwithout omit 0>1 @1: reaches\nstep 2\n- 1 has\n+ 1 lacks
-without crash 0 @2: reaches\nstep 2\n- 0 has\n+ 0 down' '' 'leastfault why examples/crash_between_tries.toml'
-    expect 1 $'least 1\ncrash 0 @2\nwithout crash 0 @2: reaches\nstep 2\n- 0 voting\n+ 0 down' '' 'leastfault why - --quiet <examples/blocked_commit.toml'
+without crash 0 @2: reaches\nstep 2\n- 0>1 data 3\n- 0>2 data 3\nstep 4\n- 1 has\n+ 1 lacks' '' 'leastfault why examples/crash_between_tries.toml'
+    expect 1 $'least 1\ncrash 0 @2\nwithout crash 0 @2: reaches\nstep 3\n- 0>1 commit 4\n- 0>2 commit 4\nstep 5\n- 1 committed\n+ 1 prepared
+- 2 committed\n+ 2 prepared' '' 'leastfault why - --quiet <examples/blocked_commit.toml'
+    # A node wakes without its vote, and votes again: the last difference is the one by which the promise has failed.
+    expect 1 $'least 1\npause 2 @4\nwithout pause 2 @4: reaches\nstep 5
+- 2 follower since=5 term=1 voted={0} votes={}\n+ 2 follower since=5 term=1 voted={1} votes={}\n+ 2>1 vote(1) 6\nstep 6
+- 1 candidate since=4 term=1 voted={1} votes={1}\n+ 1 leader since=4 term=1 voted={1} votes={1,2}
+- 2 follower since=6 term=1 voted={0} votes={}\n+ 2 follower since=6 term=1 voted={1} votes={}' '*' \
+        'leastfault why examples/protocols/scenarios/raft_election_forgets.toml --protocol examples/protocols/raft_election.toml'
+    put early.toml "$(printf '%s\n' 'nodes = 2' 'horizon = 4' 'last_omission = 0' 'crashes = 1' 'budget = 1' 'protocol = "retry"' 'tries = 1' \
+        'outcome = ["all", ["shows", 1, 2, "has"], ["shows", 1, 4, "has"]]')"
+    expect 1 $'least 1\ncrash 0 @1\nwithout crash 0 @1: reaches\nstep 1\n- 0>1 data 2\nstep 2\n- 1 has\n+ 1 lacks' '' 'leastfault why early.toml'
     expect 0 $'none 3\nruns at level 0: 1\nruns at level 1: 14\nruns at level 2: 25\nruns at level 3: 12
 rests on node 0 up to step 4\nrests on node 1 up to step 4\nrests on node 2 up to step 4' '' 'leastfault why examples/relayed.toml'
     # A promise that nodes keep that do nothing, and one that rests on nothing.
