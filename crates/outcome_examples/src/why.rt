@@ -44,9 +44,9 @@ const SETS: &str = concat!(
     "step 3\n- 1 empty not_done backup unclaimed\n+ 1 empty not_done primary unclaimed\n",
     "without omit 0>1 @2: reaches\n",
     "step 3\n- 1 holds not_done backup unclaimed\n+ 1 empty not_done primary unclaimed\n",
-    // A node that is down sends nothing; in the end others differ, all of which are told.
+    // A node that is down sends nothing, here until it wakes; the last step after which another differs is told, with all nodes.
     "#redundant 2 1|3 1 0 2 1 1 1 0 0|delivered|pause 0 @1\n",
-    "without pause 0 @1: reaches\nstep 1\n- 0>1 data 2\nstep 3\n- 1 has\n+ 1 lacks\n",
+    "without pause 0 @1: reaches\nstep 1\n- 0>1 data 2\nstep 2\n- 1 has\n+ 1 lacks\n",
     "#retry 3 1|3 1 0 2 1 1 1 0 0|delivered|pause 0 @1\n",
     "without pause 0 @1: reaches\nstep 1\n- 0>1 data 2\n- 0>2 data 2\nstep 3\n- 1 has\n+ 1 lacks\n- 2 has\n+ 2 lacks\n",
     // That votes to a node that is down are lost isn't told.
