@@ -718,6 +718,22 @@ paste -d '\\n' part.1 part.2 part.3 | grep ."
         '--vary budget=1 --workers 0' '--vary budget=1 --part 0/2' '--vary budget=1 --part 3/2' '--vary budget=1 --part 1' '--vary budget=1 --all' '--vary budget=1 --vary budget=2'; do
         expect 2 '' '?*' "leastfault sweep $commit $n"
     done
+    # Commas within brackets and quotes belong to a value.
+    own=examples/protocols/scenarios/chang_roberts_lost.toml
+    expect 1 $'[2,3,1,0]\tleast 1\tomit 1>2 @1\n[0,1,2,3]\tleast 1\tomit 3>0 @1' '' \
+        "leastfault sweep $own --protocol examples/protocols/chang_roberts.toml --vary 'given.id=[2,3,1,0],[0,1,2,3]' --quiet"
+    expect 2 $'"a,b"\trefused 10 outcome' '' "leastfault sweep $commit --vary 'outcome=\"a,b\"' --quiet"
+    expect 2 '' '--vary given.id=?2,3?,?1,0: value 2 begins with a bracket or a quote, but TOML reads no value up to a comma or the end;*' \
+        "leastfault sweep $commit --vary 'given.id=[2,3],[1,0'"
+    expect 2 '' '--vary votes=?true?x: value 1 begins with a bracket*' "leastfault sweep $commit --vary 'votes=[true]x'"
+    expect 2 '' '--vary outcome=a,x?1?: value 2 has a bracket or a quote further in;*' "leastfault sweep $commit --vary 'outcome=a,x[1]'"
+    expect 2 '' $'--vary budget=1,,2: value 2 is missing\n' "leastfault sweep $commit --vary budget=1,,2"
+    # Nothing varies twice, nor within something else that varies.
+    expect 2 '' $'--vary: the key budget is there twice\n' "leastfault sweep $commit --vary budget=1 --vary crashes=1 --vary budget=2"
+    expect 2 '' $'--vary: the key given.stable stands within given; vary one of them\n' "leastfault sweep $commit --vary given.stable=true --vary given=1"
+    expect 2 '' $'--vary: the key a.b stands within a; vary one of them\n' "leastfault sweep $commit --vary a.b=1 --vary a=2"
+    expect 2 '' $'--part: it takes I/N, as in 2/3, with I from 1 to N, and N up to 1000000\n' "leastfault sweep $commit --vary budget=1 --part 1/1000001"
+    expect 0 'up to 1000000' '' "leastfault sweep --help | grep -o 'up to 1000000'"
     helps 'leastfault sweep --help'
     expect 2 '' 'swep: no such command; did you mean `leastfault sweep`[?]'$'\n' 'leastfault swep'
     expect 0 'leastfault sweep --help' '' "leastfault --help | grep -o 'leastfault sweep --help'"

@@ -1,8 +1,9 @@
 //! The words of `sweep`.
 
+use crate::varying::plan_of;
 use clap::error::ErrorKind;
 use clap::{Arg, ArgAction, ArgMatches, Command, Error};
-use leastfault_sweep::{By, Part};
+use leastfault_sweep::{By, Part, SweepAsked};
 use std::alloc::{AllocError, Global};
 
 /// The most workers that can be asked for.
@@ -16,7 +17,8 @@ the values, the reply and its faults. The last --vary runs fastest.";
 /// What VALUES are, how a study is spread over machines, examples, and the statuses.
 const NOTES: &str =
     "KEY is a key of the scenario, or given.NAME for a constant of its protocol. VALUES are A..B, all whole numbers from A to B, or
-values with commas between. Of seed they are the last digits.
+values with commas between: what TOML reads, as 3, true, [2, 5] or \"a, b\", and else a text, as agreement. Of seed they are the last
+digits. No key varies twice, nor within another that varies.
 
 A combination that is refused has its line, as any other. At the end standard error counts the replies, and says what is wrong with
 the first combination that is refused.
@@ -25,6 +27,7 @@ Examples:
   leastfault sweep commit.toml --vary patience=1..8 --vary seed=0..99
   leastfault sweep commit.toml --vary outcome=agreement,unblocked --workers 4
   leastfault sweep raft.toml --protocol raft_election.toml --vary given.stable=true,false --part 2/3
+  leastfault sweep abd.toml --protocol abd.toml --vary 'given.enter=[5, 2, 9],[2, 5, 9]'
 
 Exit status:
   0  no combination has faults that make it miss its outcome
@@ -32,25 +35,6 @@ Exit status:
   2  the arguments, the protocol file or the scenario as a whole are refused; or a combination is refused or `full`, and none has
      such faults
   3  out of memory (`memory`), or a file or stream failed (`read`, `write`)";
-
-/// What `sweep` asks for.
-#[derive(Drop)]
-pub(crate) struct SweepAsked {
-    /// The file of the scenario; `-` is standard input.
-    pub(crate) file: String,
-    /// What varies, as it was written.
-    pub(crate) vary: Vec<String>,
-    pub(crate) by: By,
-    /// How many workers are to ask, 1..=32.
-    pub(crate) workers: u32,
-    pub(crate) part: Part,
-    /// Whether each line is to be a JSON object.
-    pub(crate) json: bool,
-    /// Whether the replies aren't to be counted on standard error.
-    pub(crate) quiet: bool,
-    /// The file of the protocol that the scenario may name besides the shipped ones, if there is one.
-    pub(crate) protocol: Option<String>,
-}
 
 /// Why the words ask for nothing.
 #[derive(Drop)]
@@ -107,7 +91,7 @@ fn command<'a>(alloc: Global) -> Result<Command<'a>, AllocError> {
         alloc,
         "part",
         "I/N",
-        "Asks of the I-th, the I+N-th combination and so on: one of N parts",
+        "Asks of the I-th, the I+N-th combination and so on: one of N parts, up to 1000000",
     );
     let protocol = option(
         alloc,
@@ -159,12 +143,12 @@ fn taken(alloc: Global, matches: &ArgMatches<'_>) -> Result<SweepAsked, SweepUna
     let Some(part) = part_of(matches.get_str("part")) else {
         return Err(wrong(
             alloc,
-            "--part: it takes I/N, as in 2/3, with I from 1 to N\n",
+            "--part: it takes I/N, as in 2/3, with I from 1 to N, and N up to 1000000\n",
         )?);
     };
     Ok(SweepAsked {
         file: String::from_str(alloc, file)?,
-        vary: texts(alloc, matches.get_strs("vary").unwrap_or(&[]))?,
+        plan: plan_of(alloc, matches.get_strs("vary").unwrap_or(&[]))?,
         by,
         workers,
         part,
@@ -175,17 +159,6 @@ fn taken(alloc: Global, matches: &ArgMatches<'_>) -> Result<SweepAsked, SweepUna
             None => None,
         },
     })
-}
-
-/// Copies of texts.
-fn texts(alloc: Global, given: &[&str]) -> Result<Vec<String>, AllocError> {
-    let mut texts = Vec::new(alloc);
-    for text in given {
-        if texts.push(String::from_str(alloc, text)?).is_err() {
-            return Err(AllocError);
-        }
-    }
-    Ok(texts)
 }
 
 /// By what is answered. None where the word is neither.

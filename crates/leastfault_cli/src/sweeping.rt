@@ -1,22 +1,16 @@
-//! The command `sweep`.
-
-ghost use Rattle.std.specs.Prelude.{◌≡◌, false};
+//! The command `sweep`: its devices, and what to say on standard error.
 
 use crate::combination::refused_words;
 use crate::devices::{Text, name_of, opened, opened_by_name, print};
 use crate::report::{Report, Unwritten};
 use crate::stop::Stop;
-use crate::sweep_words::{SweepAsked, SweepUnasked, sweep_asked};
-use crate::varying::plan_of;
-use leastfault::{
-    BytesFault, LONGEST, ProtocolError, ScenarioError, Sink, Source, protocol_refusal,
-    read_protocol, refusal,
-};
-use leastfault_sweep::{Place, Plan, Study, SweepFault, sweep, sweep_shared};
+use crate::sweep_words::{SweepUnasked, sweep_asked};
+use crate::varying::names_of;
+use leastfault::{BytesFault, read_protocol};
+use leastfault_sweep::{Counts, Ended, Study, SweepAsked, execute};
 use lf_hints::search_hint;
 use lf_protocol_hints::protocol_hint;
-use lf_streams::{ReadFault, read_up_to};
-use std::alloc::{AllocError, Global};
+use std::alloc::AllocError;
 use std::thread::Threads;
 
 /// Does what the words behind `sweep` ask for. The answer is the status.
@@ -25,8 +19,8 @@ pub(crate) fn sweep_done(
     threads: &(impl Threads + Sync),
     words: &[String],
 ) -> Result<u8, Stop> {
-    match planned(rt.alloc(), words) {
-        Ok((asked, plan)) => read(rt, threads, &asked, &plan),
+    match sweep_asked(rt.alloc(), words) {
+        Ok(asked) => done(rt, threads, &asked),
         Err(SweepUnasked::Told(text)) => {
             print(rt, text.as_str())?;
             Ok(0)
@@ -36,7 +30,7 @@ pub(crate) fn sweep_done(
     }
 }
 
-/// Says on standard error what is wrong with the words. The answer is the status.
+/// Says on standard error what is wrong. The answer is the status.
 fn told(rt: &HostRuntime, text: &str) -> Result<u8, Stop> {
     match eprint!(rt; "{text}") {
         Ok(()) => Ok(2),
@@ -44,167 +38,136 @@ fn told(rt: &HostRuntime, text: &str) -> Result<u8, Stop> {
     }
 }
 
-/// What the words ask for, and what varies.
-fn planned(alloc: Global, words: &[String]) -> Result<(SweepAsked, Plan), SweepUnasked> {
-    let asked = sweep_asked(alloc, words)?;
-    let plan = plan_of(alloc, asked.vary.as_slice())?;
-    Ok((asked, plan))
+/// The files that a sweep reads.
+#[derive(Drop)]
+struct Files {
+    /// That of the protocol besides the shipped ones.
+    protocol: Text,
+    scenario: Text,
 }
 
-/// Reads the protocol file and the scenario, and sweeps.
-fn read(
-    rt: &HostRuntime,
-    threads: &(impl Threads + Sync),
-    asked: &SweepAsked,
-    plan: &Plan,
-) -> Result<u8, Stop> {
+/// Sweeps as it is asked, with the files that are named. The answer is the status.
+fn done(rt: &HostRuntime, threads: &(impl Threads + Sync), asked: &SweepAsked) -> Result<u8, Stop> {
     let alloc = rt.alloc();
-    let protocol = match &asked.protocol {
-        Some(file) => Some(text_of(
-            alloc,
-            opened_by_name(rt, Some(file.as_str()))?,
-            file.as_str(),
-        )?),
+    let Ok(names) = names_of(alloc, asked.plan.varied()) else {
+        return Err(Stop::from(BytesFault::Memory));
+    };
+    let mut protocol = opened_by_name(rt, asked.protocol.as_deref())?;
+    let mut scenario = opened(rt, Some(asked.file.as_str()))?;
+    let mut report = Report::new(alloc, rt.stdout(), names.as_slice(), asked.json);
+    let ended = execute(
+        threads,
+        alloc,
+        asked,
+        &mut protocol,
+        &mut scenario,
+        &mut report,
+    );
+    let files = Files { protocol, scenario };
+    match ended {
+        Ok(ended) => {
+            said(rt, asked, names.as_slice(), &ended, &report, &files)?;
+            Ok(ended.status())
+        }
+        Err(fault) => Err(stopped(rt, fault, asked, &report, &files)),
+    }
+}
+
+/// Says what a sweep comes to: its counts on standard error, or that it is refused.
+fn said(
+    rt: &HostRuntime,
+    asked: &SweepAsked,
+    names: &[String],
+    ended: &Ended,
+    report: &Report<'_>,
+    files: &Files,
+) -> Result<(), Stop> {
+    match ended {
+        Ended::Swept(counts) => {
+            if !asked.quiet {
+                counted(rt, asked, names, counts, report, files);
+            }
+            Ok(())
+        }
+        Ended::Refused(line) => {
+            print(rt, line.as_str())?;
+            hinted(rt, refused(rt, line.as_str(), files));
+            Ok(())
+        }
+        Ended::Undated => {
+            let _status = told(rt, "the scenario has a date that can't be written\n")?;
+            Ok(())
+        }
+    }
+}
+
+/// Counts the replies on standard error, and says there what is wrong with the first combination that is refused.
+fn counted(
+    rt: &HostRuntime,
+    asked: &SweepAsked,
+    names: &[String],
+    counts: &Counts,
+    report: &Report<'_>,
+    files: &Files,
+) {
+    hinted(rt, report.tally().words(rt.alloc(), counts, names));
+    let (Some(line), Some(scenario)) = (report.tally().first_refused(), files.scenario.bytes())
+    else {
+        return;
+    };
+    let protocol = match asked.protocol {
+        Some(_) => files.protocol.bytes(),
         None => None,
     };
-    let scenario = text_of(
-        alloc,
-        opened(rt, Some(asked.file.as_str()))?,
-        name_of(asked.file.as_str()),
-    )?;
-    if let Some(protocol) = &protocol {
-        if let Err(error) = read_protocol(alloc, protocol.as_slice()) {
-            return protocol_refused(rt, protocol.as_slice(), &error);
-        }
-    }
-    if scenario.len() > LONGEST {
-        return refused(rt, scenario.as_slice(), ScenarioError::TooLong);
-    }
     let study = Study {
-        scenario: scenario.as_slice(),
-        plan,
+        scenario,
+        plan: &asked.plan,
     };
-    let protocol = protocol.as_ref().map(|text| text.as_slice());
-    swept(rt, threads, asked, protocol, &study)
+    hinted(rt, refused_words(rt.alloc(), protocol, &study, names, line));
 }
 
-/// Sweeps, counts the replies on standard error, and says there what is wrong with the first combination that is refused.
-fn swept(
-    rt: &HostRuntime,
-    threads: &(impl Threads + Sync),
-    asked: &SweepAsked,
-    protocol: Option<&[u8]>,
-    study: &Study<'_>,
-) -> Result<u8, Stop> {
+/// What is wrong with a protocol file or a scenario that is refused as a whole, by the line that says so.
+fn refused(rt: &HostRuntime, line: &str, files: &Files) -> Result<String, AllocError> {
     let alloc = rt.alloc();
-    let names = match names_of(alloc, study.plan) {
-        Ok(names) => names,
-        Err(_) => return Err(Stop::from(BytesFault::Memory)),
+    let (Some(protocol), Some(scenario)) = (files.protocol.bytes(), files.scenario.bytes()) else {
+        return Err(AllocError);
     };
-    let mut report = Report::new(alloc, rt.stdout(), names.as_slice(), asked.json);
-    match ended(threads, alloc, asked, protocol, study, &mut report) {
-        Ok(_) => {
-            if !asked.quiet {
-                hinted(rt, report.tally().words(alloc, names.as_slice()));
-                if let Some(line) = report.tally().first_refused() {
-                    hinted(
-                        rt,
-                        refused_words(alloc, protocol, study, names.as_slice(), line),
-                    );
-                }
-            }
-            Ok(report.tally().status())
-        }
-        Err(SweepFault::NoDocument) => refused(rt, study.scenario, ScenarioError::NoDocument),
-        Err(SweepFault::Date) => told(rt, "the scenario has a date that can't be written\n"),
-        Err(SweepFault::Protocol) | Err(SweepFault::Memory) => Err(Stop::from(BytesFault::Memory)),
-        Err(SweepFault::Write) => Err(match report.unwritten() {
-            Some(Unwritten::Output(error)) => {
-                Stop::at(alloc, BytesFault::Write, "standard output", error)
-            }
-            _ => Stop::from(BytesFault::Memory),
-        }),
+    if !line.starts_with("refused protocol") {
+        return search_hint(alloc, scenario, line.as_bytes());
+    }
+    match read_protocol(alloc, protocol) {
+        Ok(_) => Ok(String::new(alloc)),
+        Err(error) => protocol_hint(alloc, protocol, &error),
     }
 }
 
-/// Sweeps by as many workers as are asked for.
-fn ended<'a>(
-    threads: &(impl Threads + Sync),
-    alloc: Global,
+/// Why a sweep has no whole output: a fault, and the device that failed with the system's reason, where one did.
+fn stopped(
+    rt: &HostRuntime,
+    fault: BytesFault,
     asked: &SweepAsked,
-    protocol: Option<&[u8]>,
-    study: &Study<'_>,
-    report: &mut Report<'a>,
-) -> Result<u64, SweepFault>
-    requires { ⟦<Report<'a> as Sink>⟧.has_failed report.old ≡ false }
-{
-    if asked.workers <= 1 {
-        sweep(alloc, protocol, asked.by, study, asked.part, report)
-    } else {
-        sweep_shared(
-            threads,
+    report: &Report<'_>,
+    files: &Files,
+) -> Stop {
+    let alloc = rt.alloc();
+    if let Some(error) = files.protocol.device().error() {
+        return Stop::at(
             alloc,
-            protocol,
-            asked.by,
-            study,
-            asked.part,
-            asked.workers,
-            report,
-        )
+            fault,
+            asked.protocol.as_deref().unwrap_or("-"),
+            error,
+        );
     }
-}
-
-/// What varies, by name.
-fn names_of(alloc: Global, plan: &Plan) -> Result<Vec<String>, AllocError> {
-    let mut names = Vec::new(alloc);
-    for one in plan.varied() {
-        let name = match one.place() {
-            Place::Key(name) => String::from_str(alloc, name.as_str())?,
-            Place::Constant(name) => format!(in alloc; "given.{name}")?,
-        };
-        if names.push(name).is_err() {
-            return Err(AllocError);
+    if let Some(error) = files.scenario.device().error() {
+        return Stop::at(alloc, fault, name_of(asked.file.as_str()), error);
+    }
+    match (fault, report.unwritten()) {
+        (BytesFault::Write, Some(Unwritten::Output(error))) => {
+            Stop::at(alloc, fault, "standard output", error)
         }
+        (BytesFault::Write, _) => Stop::from(BytesFault::Memory),
+        _ => Stop::from(fault),
     }
-    Ok(names)
-}
-
-/// What a file has, or as much of it as tells that it is too long.
-fn text_of(alloc: Global, file: Text, name: &str) -> Result<Vec<u8>, Stop>
-    requires { ⟦<Text as Source>⟧.has_failed file ≡ false }
-{
-    let mut file = file;
-    match read_up_to(alloc, &mut file, LONGEST) {
-        Ok(text) => Ok(text),
-        Err(ReadFault::Memory) => Err(Stop::from(BytesFault::Memory)),
-        Err(ReadFault::Failed) => Err(match file.device().error() {
-            Some(error) => Stop::at(alloc, BytesFault::Read, name, error),
-            None => Stop::from(BytesFault::Read),
-        }),
-    }
-}
-
-/// Prints that the scenario as a whole is refused. The answer is the status.
-fn refused(rt: &HostRuntime, scenario: &[u8], error: ScenarioError) -> Result<u8, Stop> {
-    let Ok(line) = refusal(rt.alloc(), error) else {
-        return Err(Stop::from(BytesFault::Memory));
-    };
-    print(rt, line.as_str())?;
-    hinted(rt, search_hint(rt.alloc(), scenario, line.as_bytes()));
-    Ok(2)
-}
-
-/// Prints that the protocol file is refused. The answer is the status.
-fn protocol_refused(rt: &HostRuntime, protocol: &[u8], error: &ProtocolError) -> Result<u8, Stop> {
-    if matches!(error, ProtocolError::Memory) {
-        return Err(Stop::from(BytesFault::Memory));
-    }
-    let Ok(line) = protocol_refusal(rt.alloc(), error) else {
-        return Err(Stop::from(BytesFault::Memory));
-    };
-    print(rt, line.as_str())?;
-    hinted(rt, protocol_hint(rt.alloc(), protocol, error));
-    Ok(2)
 }
 
 /// Says on standard error what is wrong, as far as there is memory for it.

@@ -1,15 +1,12 @@
-//! What the replies of a sweep come to.
+//! What is remarkable of the replies of a sweep.
 
+use leastfault_sweep::Counts;
 use std::alloc::{AllocError, Global};
 
-/// How many replies of each kind a sweep has, and the first with the fewest faults.
+/// The first combination of a sweep with the fewest faults, and the first that is refused.
 #[derive(Drop)]
 pub(crate) struct Tally {
     alloc: Global,
-    none: u64,
-    least: u64,
-    refused: u64,
-    full: u64,
     fewest: Option<Fewest>,
     /// The line of the first combination that is refused, without its line feed.
     first_refused: Option<String>,
@@ -28,16 +25,12 @@ impl Tally {
     pub(crate) fn new(alloc: Global) -> Tally {
         Tally {
             alloc,
-            none: 0,
-            least: 0,
-            refused: 0,
-            full: 0,
             fewest: None,
             first_refused: None,
         }
     }
 
-    /// Counts a line, in which so many values stand before the reply.
+    /// Takes a line in, in which so many values stand before the reply.
     pub(crate) fn add(&mut self, line: &[u8], values: usize) -> Result<(), AllocError> {
         let Ok(line) = std::str::from_utf8(line) else {
             return Ok(());
@@ -47,16 +40,13 @@ impl Tally {
             return Ok(());
         };
         match reply.split_once(' ') {
-            Some(("none", _)) => self.none = self.none.saturating_add(1),
-            Some(("full", _)) => self.full = self.full.saturating_add(1),
+            Some(("none", _)) | Some(("full", _)) => {}
             Some(("least", faults)) => {
-                self.least = self.least.saturating_add(1);
                 if let Ok(faults) = faults.parse::<u32>() {
                     self.add_least(faults, line)?;
                 }
             }
             _ => {
-                self.refused = self.refused.saturating_add(1);
                 if self.first_refused.is_none() {
                     self.first_refused = Some(String::from_str(self.alloc, line)?);
                 }
@@ -85,33 +75,27 @@ impl Tally {
         Ok(())
     }
 
-    /// The status of the sweep: 1 where a combination has faults that make it miss, else 2 where one has no answer, else 0.
-    pub(crate) fn status(&self) -> u8 {
-        if self.least > 0 {
-            1
-        } else if self.refused > 0 || self.full > 0 {
-            2
-        } else {
-            0
-        }
-    }
-
-    /// What to say of the sweep, in which these vary.
-    pub(crate) fn words(&self, alloc: Global, names: &[String]) -> Result<String, AllocError> {
-        let all = self
+    /// What to say of the sweep, in which these vary, with so many replies of each kind.
+    pub(crate) fn words(
+        &self,
+        alloc: Global,
+        counts: &Counts,
+        names: &[String],
+    ) -> Result<String, AllocError> {
+        let all = counts
             .none
-            .saturating_add(self.least)
-            .saturating_add(self.refused)
-            .saturating_add(self.full);
+            .saturating_add(counts.least)
+            .saturating_add(counts.refused)
+            .saturating_add(counts.full);
         let mut words = format!(in alloc;
             "{all} combinations: {} none, {} least",
-            self.none, self.least
+            counts.none, counts.least
         )?;
-        if self.full > 0 {
-            write!(words, ", {} full", self.full)?;
+        if counts.full > 0 {
+            write!(words, ", {} full", counts.full)?;
         }
-        if self.refused > 0 {
-            write!(words, ", {} refused", self.refused)?;
+        if counts.refused > 0 {
+            write!(words, ", {} refused", counts.refused)?;
         }
         if let Some(fewest) = &self.fewest {
             write!(words, "; the fewest faults: {}, first at", fewest.faults)?;

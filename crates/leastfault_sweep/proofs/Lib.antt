@@ -1,0 +1,2 @@
+mod ExecutedLemmas
+mod OneLemmas

@@ -2,13 +2,13 @@
 
 ghost use Rattle.std.specs.Prelude.{IfOk, string_bytes};
 ghost use Rattle.leastfault.specs.Known.{known_of};
-ghost use Rattle.leastfault_sweep.specs.Replies.{IsReplyBy, RepliesBy};
+ghost use Rattle.leastfault_sweep.specs.Replies.{IsReplyBy, RefusesBy, RepliesBy, text_of};
 
 use crate::by::By;
 use leastfault::{
     ProtocolError, ProtocolFile, Reply, Wanted, answer_reply, read_protocol, search_reply,
 };
-use lf_sweeping::{Asker, SweepFault};
+use lf_sweeping::{Asker, Replied, SweepFault};
 use lf_watch::NoWatch;
 use std::alloc::{AllocError, Global};
 
@@ -20,13 +20,15 @@ pub(crate) struct Reading<'a> {
 }
 
 impl Asker for Reading<'_> {
-    ghost replies = { λ asker. RepliesBy asker.protocol asker.by };
+    ghost replies = { λ asker. RepliesBy (text_of asker.protocol) asker.by };
 
-    fn reply(&self, alloc: Global, text: &[u8]) -> Result<String, SweepFault> {
+    ghost refuses = { λ asker. RefusesBy (text_of asker.protocol) };
+
+    fn reply(&self, alloc: Global, text: &[u8]) -> Result<Replied, SweepFault> {
         match self.protocol {
-            None => Ok(reply_by(alloc, self.by, None, text)?.text),
+            None => Ok(reply_by(alloc, self.by, None, text)?),
             Some(protocol) => match read_protocol(alloc, protocol) {
-                Ok(file) => Ok(reply_by(alloc, self.by, Some(&file), text)?.text),
+                Ok(file) => Ok(reply_by(alloc, self.by, Some(&file), text)?),
                 Err(ProtocolError::Memory) => Err(SweepFault::Memory),
                 Err(_) => Err(SweepFault::Protocol),
             },
@@ -40,16 +42,22 @@ fn reply_by(
     by: By,
     known: Option<&ProtocolFile>,
     text: &[u8],
-) -> Result<Reply<u8>, AllocError>
-    ensures { IfOk result (λ reply. IsReplyBy by (known_of known.entry) text.now (string_bytes reply.text) reply.value) }
+) -> Result<Replied, AllocError>
+    ensures { IfOk result (λ reply. IsReplyBy by (known_of known.entry) text.now (string_bytes reply.text) reply.status) }
 {
     match by {
-        By::Answer => answer_reply(alloc, known, text, &NoWatch),
+        By::Answer => {
+            let Reply { text, value } = answer_reply(alloc, known, text, &NoWatch)?;
+            Ok(Replied {
+                text,
+                status: value,
+            })
+        }
         By::Search => {
             let Reply { text, value } = search_reply(alloc, known, Wanted::Answer, text, &NoWatch)?;
-            Ok(Reply {
+            Ok(Replied {
                 text,
-                value: value.status,
+                status: value.status,
             })
         }
     }

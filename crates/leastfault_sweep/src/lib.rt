@@ -4,11 +4,17 @@
 //! combinations, whatever the number of workers.
 #![tactic(auto)]
 
+mod asked;
 mod asking;
 mod by;
+mod executing;
+mod laws;
 mod sweeping;
 
+pub use asked::SweepAsked;
 pub use by::By;
+pub use executing::{Ended, execute};
+pub use laws::sweeps_are_one;
 pub use lf_sweep::{Part, Place, Plan, PlanError, Varied, VaryError, Words, read_varied};
-pub use lf_sweeping::{Study, SweepFault};
+pub use lf_sweeping::{Counts, Study, SweepFault};
 pub use sweeping::{sweep, sweep_shared};

@@ -2,18 +2,21 @@
 
 ghost use Rattle.std.specs.Prelude.{◌≡◌, ◌≤◌, false};
 ghost use Rattle.lf_sweeping.specs.Sweeps.{WasSwept};
-ghost use Rattle.leastfault_sweep.specs.Replies.{RepliesBy};
+ghost use Rattle.leastfault_sweep.specs.Replies.{RefusesBy, RepliesBy, text_of};
 
 use crate::asking::Reading;
 use crate::by::By;
 use lf_streams::Sink;
 use lf_sweep::Part;
-use lf_sweeping::{Study, SweepFault};
+use lf_sweeping::{Counts, Study, SweepFault};
 use std::alloc::Global;
 use std::thread::Threads;
 
-/// Asks of all combinations of a part of a sweep, and writes the line of each as it comes, in order. The answer is how many there are.
-/// The scenario may name the protocol of a file, where its text is given.
+/// Asks of all combinations of a part of a sweep, and writes the line of each as it comes, in order. The answer is how many replies of each
+/// kind there are. The scenario may name the protocol of a file, where its text is given.
+///
+/// The error says why it ended before the last: `NoDocument` and `Date` only where a combination has no text for that reason, `Protocol` only
+/// where the protocol file is refused, `Write` exactly where the sink failed, and `Memory` where memory ran out.
 ///
 /// It runs in one thread.
 pub fn sweep<W: Sink>(
@@ -23,9 +26,10 @@ pub fn sweep<W: Sink>(
     study: &Study<'_>,
     part: Part,
     writer: &mut W,
-) -> Result<u64, SweepFault>
+) -> Result<Counts, SweepFault>
     requires { W.has_failed writer.old ≡ false }
-    ensures { WasSwept W.written W.has_failed (RepliesBy protocol.entry by) study.now part writer.old writer.new result }
+    ensures { WasSwept W.written W.has_failed (RepliesBy (text_of protocol.entry) by) (RefusesBy (text_of protocol.entry)) study.now.scenario.now
+        study.now.plan.now.varied.items part writer.old writer.new result }
 {
     let asker = Reading { protocol, by };
     lf_sweeping::sweep(alloc, &asker, study, part, writer)
@@ -41,10 +45,11 @@ pub fn sweep_shared<R: Threads + Sync, W: Sink>(
     part: Part,
     workers: u32,
     writer: &mut W,
-) -> Result<u64, SweepFault>
+) -> Result<Counts, SweepFault>
     requires workers { 1 ≤ workers }
     requires writer { W.has_failed writer.old ≡ false }
-    ensures { WasSwept W.written W.has_failed (RepliesBy protocol.entry by) study.now part writer.old writer.new result }
+    ensures { WasSwept W.written W.has_failed (RepliesBy (text_of protocol.entry) by) (RefusesBy (text_of protocol.entry)) study.now.scenario.now
+        study.now.plan.now.varied.items part writer.old writer.new result }
 {
     let asker = Reading { protocol, by };
     lf_sweeping::sweep_shared(rt, alloc, &asker, study, part, workers, writer)

@@ -1,3 +1,6 @@
 mod CombinationLemmas
+mod ExactLemmas
+mod ListedLemmas
 mod MemberLemmas
 mod ReadingLemmas
+mod TextLemmas

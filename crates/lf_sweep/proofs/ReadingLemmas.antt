@@ -1,16 +1,15 @@
 -- What varies, as it is read.
-use Rattle.std.proofs.Common.{◌≡◌, ◌≢◌, ℕ, ◌<◌, ◌==◌, suc, Bool, true, List, [], ◌∷◌, ◌++◌, length, map, Option, Some, None, Result, Ok, Err, Bor, refl, sym, ap, subst, ◌∙◌, arith, inl, inr}
+use Rattle.std.proofs.Common.{◌≡◌, ◌≢◌, ℕ, ◌<◌, suc, List, [], ◌∷◌, ◌++◌, length, string_bytes, Option, Some, None, Result, Ok, Err, Bor, IfErr, refl, sym, ap, subst, ◌∙◌, arith, inl, inr}
 use Rattle.std.specs.Prelude.{MatchOption, MatchResult}
-use Rattle.std.specs.List.{list_any}
-use Rattle.std.proofs.lemmas.Bool.{false≢true}
-use Rattle.std.proofs.lemmas.List.Splits.{length-slice_split}
+use Rattle.std.proofs.lemmas.List.{length-map}
 use Rattle.std.proofs.lemmas.Str.Pattern.{IsSplitOnceResult, split_after, split_parts}
 use Rattle.lf_sweep.specs.declared.error.VaryError.{VaryError}
 use Rattle.lf_sweep.specs.declared.error.VaryError.TheVariants as faults
 use Rattle.lf_sweep.specs.declared.varied.Varied.{Varied}
 use Rattle.lf_sweep.specs.declared.words.Words.{Words}
 use Rattle.lf_sweep.specs.declared.words.Words.TheVariants as words
-use Rattle.lf_sweep.specs.Varied.{AreListed, AreNumbers, AreWords, IsCut, IsPlace, IsRange, IsVaried, Lacks, pieces_of, some_empty}
+use Rattle.lf_sweep.specs.Varied.{AreListed, AreNoNumbers, AreNoWords, AreNotListed, AreNumbers, AreWords, IsCut, IsNoneOf, IsNotVaried, IsPlace, IsRange, IsVaried, Lacks}
+use Rattle.lf_sweep.proofs.ListedLemmas.{list_or_none, values_once}
 
 -- `split_once` cuts a text at the first of a byte
 pub cut_found : (c : ℕ) (bs : List ℕ) (r : Option (Bor (List ℕ) × Bor (List ℕ))) → c < 128 → IsSplitOnceResult c bs r
@@ -42,40 +41,61 @@ cut_once c bs xs back ys rest a b = fronts c xs ys back rest (sym a.joined ∙ b
 
 -- what varies, where the text is cut
 pub varied_by_cut : (text name values : List ℕ) → IsCut 61 text name values → (r : Result Varied VaryError)
-    → MatchResult r (λ v. IsPlace name v.place × AreWords values v.words)
-    (λ e. e ≢ faults.Memory → (v : Varied) → IsPlace name v.place → AreWords values v.words → ⊥)
-    → MatchResult r (IsVaried text) (λ e. e ≢ faults.Memory → (v : Varied) → IsVaried text v → ⊥)
+    → MatchResult r (λ v. IsPlace name v.place × AreWords values v.words) (IsNoneOf name values)
+    → MatchResult r (IsVaried text) (IsNotVaried text)
 varied_by_cut text name values cut (Ok v) h = record { name = name; values = values; cut = cut; place = h.0; words = h.1 }
-varied_by_cut text name values cut (Err e) h = λ other v is.
-    let same = cut_once 61 text is.name is.values name values is.cut cut in
-    h other v (subst (λ n. IsPlace n v.place) same.0 is.place) (subst (λ vs. AreWords vs v.words) same.1 is.words)
+varied_by_cut text name values cut (Err e) h = inr (name, values, cut, h)
 
--- the values, where the text is a range
-pub words_by_range : (text first last : List ℕ) → IsRange text first last → (r : Result Words VaryError)
-    → MatchResult r (AreNumbers first last) (λ e. (w : Words) → AreNumbers first last w → ⊥)
-    → MatchResult r (AreWords text) (λ e. e ≢ faults.Memory → (w : Words) → AreWords text w → ⊥)
-words_by_range text first last range (Ok w) h = inl (first, last, range, h)
-words_by_range text first last range (Err e) h = λ other w are. elim are [
-  | inl numbers ↦
-      let same = cut_once 46 text numbers.0 (46 ∷ numbers.1) first (46 ∷ last) numbers.2 range in
-      h w (subst (λ l. AreNumbers first l w) (tails 46 46 numbers.1 last same.1) (subst (λ f. AreNumbers f numbers.1 w) same.0 numbers.3))
-  | inr listed ↦ listed.0 first last range
-]
+-- a range has one pair of ends
+range_once : (text first last ahead behind : List ℕ) → IsRange text first last → IsRange text ahead behind → (first ≡ ahead) × (last ≡ behind)
+range_once text first last ahead behind a b =
+    let same = cut_once 46 text first (46 ∷ last) ahead (46 ∷ behind) a.0 b.0 in
+    (same.0, tails 46 46 last behind same.1)
 
--- an empty piece, by the texts of the pieces
-any_mapped : (xs : List (Bor (List ℕ))) → list_any (λ piece. length piece == 0) (map (λ x. x.now) xs) ≡ list_any (λ x. length x.now == 0) xs
-any_mapped [] = refl
-any_mapped (x ∷ xs) = rw (any_mapped xs) refl
+numbers_or_none : (first last : List ℕ) (e : VaryError) (w : Words) → AreNoNumbers first last e → AreNumbers first last w → ⊥
+numbers_or_none first last e (words.Listed listed) none are = are
+numbers_or_none first last faults.NoPair (words.Numbers n m) none are = none
+numbers_or_none first last faults.NoPlace (words.Numbers n m) none are = none
+numbers_or_none first last faults.NoRange (words.Numbers n m) none are = absurd (omega (arith, none n m are.0 are.1, are.2))
+numbers_or_none first last (faults.NoValue k) (words.Numbers n m) none are = none
+numbers_or_none first last (faults.Unread k) (words.Numbers n m) none are = none
+numbers_or_none first last (faults.Marked k) (words.Numbers n m) none are = none
+numbers_or_none first last faults.TooMany (words.Numbers n m) none are =
+    let same : none.0 ≡ n = sym none.2.1 ∙ are.0.1 in
+    let same_too : none.1 ≡ m = sym none.3.1 ∙ are.1.1 in
+    absurd (omega (arith, none.4, are.3, same, same_too))
+numbers_or_none first last faults.Memory (words.Numbers n m) none are = none
 
-pub empty_by_pieces : (text : List ℕ) (xs : List (Bor (List ℕ))) (b : Bool) → map (λ x. x.now) xs ≡ pieces_of text
-    → b ≡ list_any (λ x. length x.now == 0) xs → some_empty (pieces_of text) ≡ b
-empty_by_pieces text xs b pieces is = ap some_empty (sym pieces) ∙ any_mapped xs ∙ sym is
+listed_or_not : (text : List ℕ) (e : VaryError) (w : Words) → e ≢ faults.Memory → AreNotListed text e → AreListed text w → ⊥
+listed_or_not text e (words.Numbers n m) other none are = are
+listed_or_not text e (words.Listed listed) other (inl none) are = list_or_none text _ e other are.0 none
+listed_or_not text e (words.Listed listed) other (inr many) are =
+    let same = ap length (values_once text many.1 _ many.2 are.0) in
+    absurd (omega (arith, many.3, are.1, same, length-map listed.items string_bytes))
 
--- where a piece is empty the text is no list of words
-pub not_listed : (text : List ℕ) → some_empty (pieces_of text) ≡ true → (w : Words) → AreListed text w → ⊥
-not_listed text empty (words.Numbers n m) are = are
-not_listed text empty (words.Listed listed) are = false≢true (sym are.1 ∙ empty)
+words_or_none : (text : List ℕ) (e : VaryError) (w : Words) → e ≢ faults.Memory → AreNoWords text e → AreWords text w → ⊥
+words_or_none text e w other (inl none) (inl are) =
+    let same = range_once text none.0 none.1 are.0 are.1 none.2 are.2 in
+    numbers_or_none none.0 none.1 e w none.3
+    (subst (λ l. AreNumbers none.0 l w) (sym same.1) (subst (λ f. AreNumbers f are.1 w) (sym same.0) are.3))
+words_or_none text e w other (inl none) (inr are) = are.0 none.0 none.1 none.2
+words_or_none text e w other (inr none) (inl are) = none.0 are.0 are.1 are.2
+words_or_none text e w other (inr none) (inr are) = listed_or_not text e w other none.1 are.1
 
--- there is one piece at least
-pub some_pieces : (text : List ℕ) → 0 < length (pieces_of text)
-some_pieces text = omega (arith, length-slice_split (λ b. b == 44) text)
+none_of : (name values : List ℕ) (e : VaryError) (v : Varied) → e ≢ faults.Memory → IsNoneOf name values e → IsPlace name v.place
+    → AreWords values v.words → ⊥
+none_of name values e v other (inl (inl none)) place are = none.1 v.place place
+none_of name values e v other (inl (inr memory)) place are = other memory
+none_of name values e v other (inr none) place are = words_or_none values e v.words other none.1 are
+
+not_varied : (text : List ℕ) (e : VaryError) (v : Varied) → e ≢ faults.Memory → IsNotVaried text e → IsVaried text v → ⊥
+not_varied text e v other (inl lacks) is = lacks.1 is.name is.values is.cut
+not_varied text e v other (inr none) is =
+    let same = cut_once 61 text is.name is.values none.0 none.1 is.cut none.2 in
+    none_of none.0 none.1 e v other none.3 (subst (λ n. IsPlace n v.place) same.0 is.place) (subst (λ vs. AreWords vs v.words) same.1 is.words)
+
+-- a text that is refused says nothing
+pub none_varied : (text : List ℕ) (r : Result Varied VaryError) → MatchResult r (IsVaried text) (IsNotVaried text)
+    → IfErr r (λ e. e ≢ faults.Memory → (v : Varied) → IsVaried text v → ⊥)
+none_varied text (Ok v) h = tt
+none_varied text (Err e) h = λ other v is. not_varied text e v other h is

@@ -1,8 +1,11 @@
 pub mod Limits
 pub mod Words
+pub mod Listed
 pub mod Varied
 pub mod Combinations
+pub mod Apart
 pub mod Members
 pub mod Texts
+pub mod Exact
 pub mod Lines
 pub mod Parts

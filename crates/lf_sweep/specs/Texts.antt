@@ -1,8 +1,10 @@
 -- The texts of combinations.
-use Rattle.std.specs.Prelude.{◌≡◌, ◌≤◌, ℕ, false, List, [], ◌∷◌, Some, IsUtf8}
-use Rattle.toml.specs.Data.{Members, members_depth}
+use Rattle.std.specs.Prelude.{◌≡◌, ◌≤◌, ℕ, ⊤, true, false, List, [], ◌∷◌, Some, IsUtf8}
+use Rattle.toml.specs.Data.{Members, members_depth, members_have_valid_dates}
 use Rattle.toml.specs.Parse.{parse_document}
 use Rattle.toml.specs.Text.{IsDocumentText}
+use Rattle.lf_sweep.specs.declared.error.TextError.{TextError}
+use Rattle.lf_sweep.specs.declared.error.TextError.TheVariants as faults
 use Rattle.lf_sweep.specs.declared.varied.Varied.{Varied}
 use Rattle.lf_sweep.specs.Limits.{deepest}
 use Rattle.lf_sweep.specs.Members.{value_of, with_place}
@@ -20,9 +22,20 @@ pub record IsDocumentOf (ms : Members) (text : List ℕ) : Type 0 where
   -- it is read as them, unless they nest deeper than is read
   pub read : members_depth ms ≤ deepest → parse_document text ≡ Some ms
 
+-- the bytes are a TOML document with these members
+abbrev pub IsScenario : List ℕ → Members → Type 0
+IsScenario scenario ms = IsUtf8 scenario × (parse_document scenario ≡ Some ms)
+
 -- the text is that of a scenario with these values: of its members, with the value of a word at each that varies
 pub record IsTextWith (scenario : List ℕ) (vs : List Varied) (words : List (List ℕ)) (text : List ℕ) : Type 0 where
   pub members : Members
-  pub utf8 : IsUtf8 scenario
-  pub read : parse_document scenario ≡ Some members
+  pub held : IsScenario scenario members
+  pub dated : members_have_valid_dates (with_words vs words members) ≡ true
   pub document : IsDocumentOf (with_words vs words members) text
+
+-- why there is none: the scenario is no document, or it has a date that can't be written. Memory may be wanting for any
+abbrev pub HasNoText : List ℕ → List Varied → List (List ℕ) → TextError → Type 0
+HasNoText scenario vs words faults.NoDocument = (ms : Members) → ¬ (IsScenario scenario ms)
+HasNoText scenario vs words faults.Date =
+    (ms : Members) × IsScenario scenario ms × (members_have_valid_dates (with_words vs words ms) ≡ false)
+HasNoText scenario vs words faults.Memory = ⊤

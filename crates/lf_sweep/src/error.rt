@@ -14,8 +14,15 @@ pub enum VaryError {
     NoPlace,
     #[error("a range takes two whole numbers, and the first is no more than the last")]
     NoRange,
-    #[error("a value is missing")]
-    NoValue,
+    /// By its number, from 1, as below.
+    #[error("value {0} is missing")]
+    NoValue(u64),
+    /// A value that begins with a bracket or a quote.
+    #[error("value {0} begins with a bracket or a quote, but TOML reads no value up to a comma or the end; a text that begins so takes quotes")]
+    Unread(u64),
+    /// A value that begins otherwise.
+    #[error("value {0} has a bracket or a quote further in; a text that has one takes quotes")]
+    Marked(u64),
     #[error("there are more than 1000000 values")]
     TooMany,
     #[error("out of memory")]
@@ -35,6 +42,10 @@ impl From<AllocError> for VaryError {
 /// Why some values can't be combined.
 #[derive(Clone, Copy, Debug, PartialEq, Eq, Error)]
 pub enum PlanError {
+    #[error("a key is there twice")]
+    Twice,
+    #[error("a key stands within another: vary one of them")]
+    Within,
     #[error("there are more than 1000000000 combinations")]
     TooMany,
 }

@@ -5,9 +5,11 @@
 //! scenario that has these values.
 #![tactic(auto)]
 
+mod apart;
 mod error;
 mod laws;
 mod line;
+mod listed;
 mod members;
 mod part;
 mod plan;
@@ -18,7 +20,7 @@ mod varied;
 mod words;
 
 pub use error::{PlanError, TextError, VaryError};
-pub use laws::combinations_are_numbered;
+pub use laws::{combinations_are_numbered, texts_are_one};
 pub use line::line_of;
 pub use part::{MOST_PARTS, Part};
 pub use plan::{MOST_COMBINATIONS, Plan};

@@ -10,7 +10,7 @@ use std::alloc::{AllocError, Global};
 use toml::{Table, Value};
 
 /// The key of a scenario at which its protocol's constants stand.
-const GIVEN: &str = "given";
+pub(crate) const GIVEN: &str = "given";
 
 /// Puts a value at a place of a scenario, in place of what stood there or of nothing.
 pub(crate) fn put(

@@ -1,9 +1,11 @@
 //! The combinations of the values of all that varies.
 
 ghost use Rattle.std.specs.Prelude.{◌≡◌, ◌<◌, ◌≤◌, map, IfOk, MatchOption, MatchResult, string_bytes};
+ghost use Rattle.lf_sweep.specs.Apart.{AreApart, HaveNoPlan};
 ghost use Rattle.lf_sweep.specs.Combinations.{combinations, words_at};
 ghost use Rattle.lf_sweep.specs.Limits.{most_combinations};
 
+use crate::apart::some_clash;
 use crate::error::PlanError;
 use crate::varied::Varied;
 use std::alloc::{AllocError, Global};
@@ -18,13 +20,20 @@ pub struct Plan {
     count: u64,
     ghost counted: { count ≡ combinations varied.items },
     ghost few: { count ≤ most_combinations },
+    ghost apart: { AreApart varied.items },
 }
 
 impl Plan {
-    /// The combinations of these values.
+    /// The combinations of these values. Nothing may vary twice, and nothing within something else that varies.
     pub fn new(varied: Vec<Varied>) -> Result<Plan, PlanError>
-        ensures { MatchResult result (λ plan. plan.varied ≡ varied) (λ _. most_combinations < combinations varied.items) }
+        ensures { MatchResult result (λ plan. plan.varied ≡ varied) (HaveNoPlan varied.items) }
     {
+        if some_clash(varied.as_slice(), false) {
+            return Err(PlanError::Twice);
+        }
+        if some_clash(varied.as_slice(), true) {
+            return Err(PlanError::Within);
+        }
         match counted(varied.as_slice()) {
             Some(count) => Ok(Plan { varied, count }),
             None => Err(PlanError::TooMany),

@@ -1,24 +1,28 @@
 //! The reading of what varies.
 
-ghost use Rattle.std.specs.Prelude.{◌≡◌, ◌≢◌, ◌≤◌, ◌<◌, ◌==◌, ℕ, List, ◌∷◌, length, map, IfOk, MatchOption, MatchResult, string_bytes};
-ghost use Rattle.std.specs.List.{list_any};
+ghost use Rattle.std.specs.Prelude.{◌≡◌, ◌≢◌, ◌≤◌, ◌<◌, ℕ, List, ◌∷◌, IfErr, IfOk, MatchOption, MatchResult};
 ghost use Rattle.lf_sweep.specs.declared.varied.Place.{Place};
 ghost use Rattle.lf_sweep.specs.declared.words.Words.{Words};
 ghost use Rattle.lf_sweep.specs.declared.varied.Varied.{Varied};
-ghost use Rattle.lf_sweep.specs.Varied.{AreListed, AreNumbers, AreWords, IsConstant, IsCut, IsPlace, IsRange, IsVaried, pieces_of};
+ghost use Rattle.lf_sweep.specs.Varied.{AreListed, AreNoNumbers, AreNoWords, AreNotListed, AreNumbers, AreWords, IsConstant, IsCut, IsNoPlace, IsNoneOf, IsNotVaried};
+ghost use Rattle.lf_sweep.specs.Varied.{IsPlace, IsRange, IsVaried};
 ghost use Rattle.lf_sweep.specs.Words.{count_of, most_values};
 
 use crate::error::VaryError;
+use crate::listed::{has_mark, values_in};
 use crate::varied::{Place, Varied};
 use crate::words::{MOST_VALUES, Words};
-use std::alloc::{AllocError, Global};
+use std::alloc::Global;
 
 /// What a text says that varies: `KEY=VALUES`.
 ///
 /// KEY is a key of the scenario, or `given.NAME` for a constant of its protocol. VALUES are `A..B`, the whole numbers from A to B with
-/// both ends, or words with a comma between any two. The refusal `Memory` comes only where memory has run out.
+/// both ends, or values with a comma between any two. Where a value begins with a bracket or a quote it is the first that TOML reads there
+/// before a comma or the end, so its own commas belong to it. Every other value ends before the next comma, and has no bracket and no
+/// quote. The refusal `Memory` comes only where memory has run out.
 pub fn read_varied(alloc: Global, text: &str) -> Result<Varied, VaryError>
-    ensures { MatchResult result (IsVaried text.now) (λ e. e ≢ VaryError.Memory → (v : Varied) → IsVaried text.now v → ⊥) }
+    ensures varied { MatchResult result (IsVaried text.now) (IsNotVaried text.now) }
+    ensures none { IfErr result (λ e. e ≢ VaryError.Memory → (v : Varied) → IsVaried text.now v → ⊥) }
 {
     match cut(text, '=') {
         Some((name, values)) => varied(alloc, name, values),
@@ -28,8 +32,7 @@ pub fn read_varied(alloc: Global, text: &str) -> Result<Varied, VaryError>
 
 /// What varies, by its name, and its values.
 fn varied(alloc: Global, name: &str, values: &str) -> Result<Varied, VaryError>
-    ensures { MatchResult result (λ v. IsPlace name.now v.place × AreWords values.now v.words)
-        (λ e. e ≢ VaryError.Memory → (v : Varied) → IsPlace name.now v.place → AreWords values.now v.words → ⊥) }
+    ensures { MatchResult result (λ v. IsPlace name.now v.place × AreWords values.now v.words) (IsNoneOf name.now values.now) }
 {
     let place = place_in(alloc, name)?;
     let words = words_in(alloc, values)?;
@@ -46,7 +49,7 @@ fn cut(text: &str, at: char) -> Option<(&str, &str)>
 
 /// What varies, by its name.
 fn place_in(alloc: Global, name: &str) -> Result<Place, VaryError>
-    ensures { MatchResult result (IsPlace name.now) (λ e. e ≢ VaryError.Memory → (place : Place) → IsPlace name.now place → ⊥) }
+    ensures { MatchResult result (IsPlace name.now) (IsNoPlace name.now) }
 {
     let constant = constant_in(name);
     if constant.unwrap_or(name).is_empty() {
@@ -70,7 +73,7 @@ fn constant_in(name: &str) -> Option<&str>
 
 /// The values of a text.
 fn words_in(alloc: Global, text: &str) -> Result<Words, VaryError>
-    ensures value { MatchResult result (AreWords text.now) (λ e. e ≢ VaryError.Memory → (words : Words) → AreWords text.now words → ⊥) }
+    ensures value { MatchResult result (AreWords text.now) (AreNoWords text.now) }
     ensures some { IfOk result (λ words. 0 < count_of words) }
     ensures few { IfOk result (λ words. count_of words ≤ most_values) }
 {
@@ -80,15 +83,16 @@ fn words_in(alloc: Global, text: &str) -> Result<Words, VaryError>
     }
 }
 
-/// The ends of a range. None where a text has no `..` behind its first point.
+/// The ends of a range. None where a text has no `..` behind its first point, or a bracket or a quote before it.
 fn range_in(text: &str) -> Option<(&str, &str)>
     ensures { MatchOption result ((first last : List ℕ) → IsRange text.now first last → ⊥) (λ ends. IsRange text.now ends.0.now ends.1.now) }
 {
-    match cut(text, '.') {
-        Some((first, rest)) => match behind_point(rest) {
-            Some(last) => Some((first, last)),
-            None => None,
-        },
+    let (first, rest) = cut(text, '.')?;
+    if has_mark(first.as_bytes()) {
+        return None;
+    }
+    match behind_point(rest) {
+        Some(last) => Some((first, last)),
         None => None,
     }
 }
@@ -102,7 +106,7 @@ fn behind_point(text: &str) -> Option<&str>
 
 /// The numbers between two ends.
 fn numbers(first: &str, last: &str) -> Result<Words, VaryError>
-    ensures value { MatchResult result (AreNumbers first.now last.now) (λ _. (words : Words) → AreNumbers first.now last.now words → ⊥) }
+    ensures value { MatchResult result (AreNumbers first.now last.now) (AreNoNumbers first.now last.now) }
     ensures some { IfOk result (λ words. 0 < count_of words) }
     ensures few { IfOk result (λ words. count_of words ≤ most_values) }
 {
@@ -118,43 +122,15 @@ fn numbers(first: &str, last: &str) -> Result<Words, VaryError>
     Ok(Words::Numbers { first, last })
 }
 
-/// The words of a text that stand between commas.
+/// The words of a list of values.
 fn listed(alloc: Global, text: &str) -> Result<Words, VaryError>
-    ensures value { MatchResult result (AreListed text.now) (λ e. e ≢ VaryError.Memory → (words : Words) → AreListed text.now words → ⊥) }
+    ensures value { MatchResult result (AreListed text.now) (AreNotListed text.now) }
     ensures some { IfOk result (λ words. 0 < count_of words) }
     ensures few { IfOk result (λ words. count_of words ≤ most_values) }
 {
-    let pieces = pieces_of(alloc, text)?;
-    if some_empty(pieces.as_slice()) {
-        return Err(VaryError::NoValue);
-    }
-    if pieces.len() as u64 > MOST_VALUES {
+    let words = values_in(alloc, text)?;
+    if words.len() as u64 > MOST_VALUES {
         return Err(VaryError::TooMany);
     }
-    Ok(Words::Listed(copies(alloc, pieces.as_slice())?))
-}
-
-/// The pieces of a text between commas.
-fn pieces_of(alloc: Global, text: &str) -> Result<Vec<&str>, AllocError>
-    ensures { IfOk result (λ pieces. map (λ piece. piece.now) pieces.items ≡ pieces_of text.now) }
-{
-    text.split(',').collect(alloc)
-}
-
-/// Whether one of the texts is empty.
-fn some_empty(texts: &[&str]) -> bool
-    ensures { result ≡ list_any (λ text. length text.now == 0) texts.now }
-{
-    texts.iter().any(|text| text.is_empty())
-}
-
-/// Copies of texts.
-fn copies(alloc: Global, texts: &[&str]) -> Result<Vec<String>, AllocError>
-    ensures { IfOk result (λ copies. map string_bytes copies.items ≡ map (λ text. text.now) texts.now) }
-{
-    let mut copies = Vec::new(alloc);
-    'each: for text in texts {
-        copies.push(String::from_str(alloc, text)?)?;
-    }
-    Ok(copies)
+    Ok(Words::Listed(words))
 }

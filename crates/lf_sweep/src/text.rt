@@ -1,8 +1,8 @@
 //! The text of a combination.
 
-ghost use Rattle.std.specs.Prelude.{◌≡◌, IfOk, map, string_bytes};
+ghost use Rattle.std.specs.Prelude.{◌≡◌, IfOk, MatchResult, map, string_bytes};
 ghost use Rattle.toml.specs.View.{table_view};
-ghost use Rattle.lf_sweep.specs.Texts.{IsTextWith, with_words};
+ghost use Rattle.lf_sweep.specs.Texts.{HasNoText, IsTextWith, with_words};
 
 use crate::error::TextError;
 use crate::members::put;
@@ -13,14 +13,16 @@ use toml::Table;
 use toml::ser::Error;
 
 /// The text of a scenario that has these values at what varies, a word for each, in place of what stands there: a TOML document as `toml`
-/// writes it. The scenario has to be one.
+/// writes it. The refusal is `NoDocument` exactly where the scenario is none, and `Date` exactly where it has a date with these values that
+/// can't be written, unless memory runs out.
 pub fn text_of(
     alloc: Global,
     scenario: &[u8],
     varied: &[Varied],
     words: &[String],
 ) -> Result<String, TextError>
-    ensures { IfOk result (λ text. IsTextWith scenario.now varied.now (map string_bytes words.now) (string_bytes text)) }
+    ensures { MatchResult result (λ text. IsTextWith scenario.now varied.now (map string_bytes words.now) (string_bytes text))
+        (HasNoText scenario.now varied.now (map string_bytes words.now)) }
 {
     let mut table = match toml::table_from_slice(alloc, scenario) {
         Ok(table) => table,

@@ -4,13 +4,15 @@
 #![tactic(auto)]
 
 mod asker;
+mod counts;
 mod error;
 mod lines;
 mod row;
 mod study;
 mod sweeping;
 
-pub use asker::Asker;
+pub use asker::{Asker, Replied};
+pub use counts::{Counts, Kind};
 pub use error::SweepFault;
 pub use study::Study;
 pub use sweeping::{sweep, sweep_shared};

@@ -3,35 +3,46 @@
 ghost use Rattle.std.specs.Prelude.{◌≡◌, ◌+◌, ◌<◌, false, IfErr, IfOk};
 ghost use Rattle.lf_sweep.specs.Combinations.{combinations};
 ghost use Rattle.lf_sweep.specs.Parts.{number_at};
-ghost use Rattle.lf_sweeping.specs.Faults.{is_write};
+ghost use Rattle.lf_sweeping.specs.Faults.{HasCause, is_write};
 ghost use Rattle.lf_sweeping.specs.Rows.{AreInside, AreLinesAt};
 
 use crate::asker::Asker;
+use crate::counts::Counts;
 use crate::error::SweepFault;
 use crate::row::row;
 use crate::study::Study;
 use lf_sweep::Part;
 use std::alloc::Global;
 
+/// Lines of combinations, and how many replies of each kind they have.
+#[derive(Drop)]
+pub(crate) struct Lines {
+    pub(crate) bytes: Vec<u8>,
+    pub(crate) counts: Counts,
+}
+
 /// The lines of a part's combinations from a place on, of so many.
-pub(crate) fn lines<A: Asker>(
+pub(crate) fn part_lines<A: Asker>(
     alloc: Global,
     asker: &A,
     study: &Study<'_>,
     part: Part,
     from: u64,
     some: u64,
-) -> Result<Vec<u8>, SweepFault>
-    requires { AreInside study.now part (from + some) }
-    ensures lines { IfOk result (λ lines. AreLinesAt (A.replies asker.now) study.now part from some lines.items) }
+) -> Result<Lines, SweepFault>
+    requires { AreInside study.now.plan.now.varied.items part (from + some) }
+    ensures lines { IfOk result (AreLinesAt (A.replies asker.now) study.now.scenario.now study.now.plan.now.varied.items part from some) }
+    ensures cause { IfErr result (HasCause (A.refuses asker.now) study.now.scenario.now study.now.plan.now.varied.items part) }
     ensures sink { IfErr result (λ e. is_write e ≡ false) }
 {
-    let mut lines = Vec::new(alloc);
+    let mut bytes = Vec::new(alloc);
+    let mut counts = Counts::empty();
     'places: for i in 0..some {
         let line = row(alloc, asker, study, number_in(study, part, from + i))?;
-        lines.extend_from_slice(line.as_slice())?;
+        bytes.extend_from_slice(line.bytes.as_slice())?;
+        counts = counts.plus(line.counts);
     }
-    Ok(lines)
+    Ok(Lines { bytes, counts })
 }
 
 /// The number of the combination at a place of a part.

@@ -1,13 +1,14 @@
 //! Sweeps, by one worker and by several.
 
 ghost use Rattle.std.specs.Prelude.{◌≡◌, ◌+◌, ◌*◌, ◌≤◌, ◌<◌, ℕ, false, vec_len, slice_index_or, IfErr, IfOk};
-ghost use Rattle.lf_sweeping.specs.Faults.{is_write};
+ghost use Rattle.lf_sweeping.specs.Faults.{HasCause, is_write};
 ghost use Rattle.lf_sweeping.specs.Rows.{AreInside, AreLinesAt};
 ghost use Rattle.lf_sweeping.specs.Sweeps.{WasPut, WasSwept, WerePut};
 
 use crate::asker::Asker;
+use crate::counts::Counts;
 use crate::error::SweepFault;
-use crate::lines::lines;
+use crate::lines::{Lines, part_lines};
 use crate::study::Study;
 use lf_streams::{Sink, write_all};
 use lf_sweep::Part;
@@ -18,7 +19,11 @@ use std::thread::Threads;
 /// How many combinations a worker asks of before their lines are written.
 const ROUND: u64 = 8;
 
-/// Asks of all combinations of a part, and writes the line of each as it comes, in order. The answer is how many there are.
+/// Asks of all combinations of a part, and writes the line of each as it comes, in order. The answer is how many replies of each kind there
+/// are.
+///
+/// The error says why it ended before the last: `NoDocument` and `Date` only where a combination has no text for that reason, `Protocol`
+/// where the asker refuses so, `Write` exactly where the sink failed, and `Memory` where memory ran out.
 ///
 /// It runs in one thread.
 pub fn sweep<A: Asker, W: Sink>(
@@ -27,16 +32,19 @@ pub fn sweep<A: Asker, W: Sink>(
     study: &Study<'_>,
     part: Part,
     writer: &mut W,
-) -> Result<u64, SweepFault>
+) -> Result<Counts, SweepFault>
     requires { W.has_failed writer.old ≡ false }
-    ensures { WasSwept W.written W.has_failed (A.replies asker.now) study.now part writer.old writer.new result }
+    ensures { WasSwept W.written W.has_failed (A.replies asker.now) (A.refuses asker.now) study.now.scenario.now study.now.plan.now.varied.items part
+        writer.old writer.new result }
 {
     let count = part.count(study.plan.count());
+    let mut counts = Counts::empty();
     'places: for place in 0..count {
-        let line = lines(alloc, asker, study, part, place, 1)?;
-        put(writer, line.as_slice())?;
+        let line = part_lines(alloc, asker, study, part, place, 1)?;
+        put(writer, line.bytes.as_slice())?;
+        counts = counts.plus(line.counts);
     }
-    Ok(count)
+    Ok(counts)
 }
 
 /// The same as `sweep`, by so many workers at once, 1 at least: the bytes are the same.
@@ -48,19 +56,21 @@ pub fn sweep_shared<R: Threads + Sync, A: Asker + Sync, W: Sink>(
     part: Part,
     workers: u32,
     writer: &mut W,
-) -> Result<u64, SweepFault>
+) -> Result<Counts, SweepFault>
     requires workers { 1 ≤ workers }
     requires writer { W.has_failed writer.old ≡ false }
-    ensures { WasSwept W.written W.has_failed (A.replies asker.now) study.now part writer.old writer.new result }
+    ensures { WasSwept W.written W.has_failed (A.replies asker.now) (A.refuses asker.now) study.now.scenario.now study.now.plan.now.varied.items part
+        writer.old writer.new result }
 {
     let count = part.count(study.plan.count());
     let mut place = 0;
+    let mut counts = Counts::empty();
     'rounds: while place < count {
         let round = Round::of(place, count - place, workers);
-        put_round(rt, alloc, asker, study, part, round, writer)?;
+        counts = counts.plus(put_round(rt, alloc, asker, study, part, round, writer)?);
         place += round.lanes * round.size;
     }
-    Ok(count)
+    Ok(counts)
 }
 
 /// What workers ask of before their lines are written.
@@ -99,21 +109,27 @@ fn put_round<R: Threads + Sync, A: Asker + Sync, W: Sink>(
     part: Part,
     round: Round,
     writer: &mut W,
-) -> Result<(), SweepFault>
-    requires inside { AreInside study.now part (round.place + round.lanes * round.size) }
+) -> Result<Counts, SweepFault>
+    requires inside { AreInside study.now.plan.now.varied.items part (round.place + round.lanes * round.size) }
     requires writer { W.has_failed writer.old ≡ false }
-    ensures { WerePut W.written W.has_failed (A.replies asker.now) study.now part round.place (round.lanes * round.size) writer.old writer.new result }
+    ensures { WerePut W.written W.has_failed (A.replies asker.now) (A.refuses asker.now) study.now.scenario.now study.now.plan.now.varied.items part
+        round.place (round.lanes * round.size)
+        writer.old writer.new result }
 {
     let Ok(found) = asked(rt, alloc, asker, study, part, round) else {
         return Err(SweepFault::Memory);
     };
+    let mut counts = Counts::empty();
     'lanes: for lane in 0..found.len() {
         match &found[lane] {
-            Ok(lines) => put(writer, lines.as_slice())?,
+            Ok(lines) => {
+                put(writer, lines.bytes.as_slice())?;
+                counts = counts.plus(lines.counts);
+            }
             Err(fault) => return Err(*fault),
         }
     }
-    Ok(())
+    Ok(counts)
 }
 
 /// The lines of the combinations of a round, worker by worker.
@@ -124,11 +140,14 @@ fn asked<R: Threads + Sync, A: Asker + Sync>(
     study: &Study<'_>,
     part: Part,
     round: Round,
-) -> Result<Vec<Result<Vec<u8>, SweepFault>>, AllocError>
-    requires { AreInside study.now part (round.place + round.lanes * round.size) }
+) -> Result<Vec<Result<Lines, SweepFault>>, AllocError>
+    requires { AreInside study.now.plan.now.varied.items part (round.place + round.lanes * round.size) }
     ensures lanes { IfOk result (λ found. vec_len found ≡ round.lanes) }
     ensures lines { IfOk result (λ found. (lane : ℕ) (d : _) → lane < round.lanes →
-        IfOk (slice_index_or found.items lane d) (λ lines. AreLinesAt (A.replies asker.now) study.now part (round.place + lane * round.size) round.size lines.items)) }
+        IfOk (slice_index_or found.items lane d) (AreLinesAt (A.replies asker.now) study.now.scenario.now study.now.plan.now.varied.items part (round.place
+        + lane * round.size) round.size)) }
+    ensures cause { IfOk result (λ found. (lane : ℕ) (d : _) → lane < round.lanes →
+        IfErr (slice_index_or found.items lane d) (HasCause (A.refuses asker.now) study.now.scenario.now study.now.plan.now.varied.items part)) }
     ensures sink { IfOk result (λ found. (lane : ℕ) (d : _) → lane < round.lanes → IfErr (slice_index_or found.items lane d) (λ e. is_write e ≡ false)) }
 {
     thread::map_indices(
@@ -147,13 +166,15 @@ fn lane_lines<A: Asker>(
     part: Part,
     round: Round,
     lane: u64,
-) -> Result<Vec<u8>, SweepFault>
-    requires inside { AreInside study.now part (round.place + round.lanes * round.size) }
+) -> Result<Lines, SweepFault>
+    requires inside { AreInside study.now.plan.now.varied.items part (round.place + round.lanes * round.size) }
     requires lane { lane < round.lanes }
-    ensures lines { IfOk result (λ lines. AreLinesAt (A.replies asker.now) study.now part (round.place + lane * round.size) round.size lines.items) }
+    ensures lines { IfOk result (AreLinesAt (A.replies asker.now) study.now.scenario.now study.now.plan.now.varied.items part (round.place + lane *
+        round.size) round.size) }
+    ensures cause { IfErr result (HasCause (A.refuses asker.now) study.now.scenario.now study.now.plan.now.varied.items part) }
     ensures sink { IfErr result (λ e. is_write e ≡ false) }
 {
-    lines(
+    part_lines(
         alloc,
         asker,
         study,

@@ -52,6 +52,24 @@ fn the_last_that_varies_runs_fastest(rt: HostRuntime) {
         "a=1,2 b=x,y c=0..1|1,x,0;1,x,1;1,y,0;1,y,1;2,x,0;2,x,1;2,y,0;2,y,1\n",
         "given.stable=true,false|true;false\n",
         "a=b=c|b=c\n",
+        "given.enter=[5,2,9],[2,5,9]|[5,2,9];[2,5,9]\n",
+        "a=[[1,2],[3]],[],4|[[1,2],[3]];[];4\n",
+        "a={p=1,q=[2,3]},{p=3}|{p=1,q=[2,3]};{p=3}\n",
+        "a=\"x,y\",z b='p,q',\"\"|\"x,y\",'p,q';\"x,y\",\"\";z,'p,q';z,\"\"\n",
+        "a=1,\"2..3\"|1;\"2..3\"\n",
+        "a=[1,2|refused\n",
+        "a=[1,2]3|refused\n",
+        "a=x[1,2]|refused\n",
+        "a={0,1}|refused\n",
+        "a=1,]|refused\n",
+        "a=\"x,y|refused\n",
+        "a=1,2..3|refused\n",
+        "a=1 b=2 a=3|refused\n",
+        "given.a=1 given.a=2|refused\n",
+        "given=1 given.a=2|refused\n",
+        "given.a.b=1 given.a=2|refused\n",
+        "a=1 a.b=2|refused\n",
+        "a=1 ab=2 given.a=3 given.ab=4|1,2,3,4\n",
         "patience|refused\n",
         "=1|refused\n",
         "given.=1|refused\n",
@@ -73,7 +91,7 @@ fn the_last_that_varies_runs_fastest(rt: HostRuntime) {
     }
 }
 
-/// The text of a scenario in which one thing varies that takes one value.
+/// The text of a scenario in which one thing varies that takes one value, or why there is none.
 fn varied_text(alloc: Global, scenario: &str, text: &str) -> Result<String, AllocError> {
     let Ok(one) = read_varied(alloc, text) else {
         return Err(AllocError);
@@ -88,7 +106,7 @@ fn varied_text(alloc: Global, scenario: &str, text: &str) -> Result<String, Allo
     let words = plan.words(alloc, 0)?;
     match text_of(alloc, scenario.as_bytes(), plan.varied(), words.as_slice()) {
         Ok(text) => Ok(text),
-        Err(_) => Err(AllocError),
+        Err(error) => format!(in alloc; "{error}"),
     }
 }
 
@@ -104,6 +122,10 @@ fn a_value_stands_in_place_of_what_stood_there(rt: HostRuntime) {
         "given = { a = 1, b = 2 }|given.a=3|[given];a = 3;b = 2\n",
         "given = 5|given.a=3|[given];a = 3\n",
         "votes = [true, false]|crashes=1|crashes = 1;votes = [true, false]\n",
+        "nodes = 3|votes=[true,false]|nodes = 3;votes = [true, false]\n",
+        "nodes = 3|given.enter=[5,2,9]|nodes = 3;;[given];enter = [5, 2, 9]\n",
+        "nodes = 3|outcome=\"a,b\"|nodes = 3;outcome = \"a,b\"\n",
+        "nodes = = 3|nodes=2|the scenario is not TOML\n",
     );
     for row in rows.lines() {
         let (scenario, rest) = row.split_once('|').unwrap_or((row, ""));

@@ -1,6 +1,7 @@
-use Rattle.lf_sweep.proofs.ReadingLemmas.{varied_by_cut}
+use Rattle.lf_sweep.proofs.ReadingLemmas.{none_varied, varied_by_cut}
 use Rattle.lf_sweep.proofs.reading.read_varied.Goals as goal
 
-pub returns-in-Some : goal.returns-in-Some
-returns-in-Some c =
-    varied_by_cut c.args.text.now c.in-Some.name.now c.in-Some.values.now c.in-Some.ensures c.varied.result c.varied.ensures
+pub returns-in-Some-clause-none : goal.returns-in-Some-clause-none
+returns-in-Some-clause-none c =
+    none_varied c.args.text.now c.varied.result
+    (varied_by_cut c.args.text.now c.in-Some.name.now c.in-Some.values.now c.in-Some.ensures c.varied.result c.varied.ensures)

@@ -2,6 +2,7 @@ use Rattle.std.proofs.Common.{string_bytes}
 use Rattle.std.proofs.lemmas.Str.{IsUtf8-had}
 use Rattle.toml.specs.View.{table_view}
 use Rattle.lf_sweep.proofs.MemberLemmas.{document_of}
+use Rattle.lf_sweep.proofs.TextLemmas.{dated}
 use Rattle.lf_sweep.proofs.text.text_of.Goals as goal
 
 pub returns-in-Ok-table_to_string : goal.returns-in-Ok-table_to_string
@@ -9,9 +10,11 @@ returns-in-Ok-table_to_string c =
     let text = c.in-Ok-table_to_string.text in
     record {
       members = table_view c.in-Ok.table;
-      utf8 = c.in-Ok.ensures.ok.0;
-      read = c.in-Ok.ensures.ok.1;
+      held = c.in-Ok.ensures.ok;
+      dated = dated _ (table_view c.put_all.new.scenario) c.table_to_string.result text c.in-Ok-table_to_string.is c.in_ok-put_all.ensures
+          c.table_to_string.ensures.dates;
       document =
-          document_of _ (table_view c.put_all.new.scenario) (string_bytes text) c.in_ok-put_all.ensures (IsUtf8-had _ text.ok) c.in-Ok-table_to_string.ensures.text
+          document_of _ (table_view c.put_all.new.scenario) (string_bytes text) c.in_ok-put_all.ensures (IsUtf8-had _ text.ok)
+          c.in-Ok-table_to_string.ensures.text
           c.in-Ok-table_to_string.ensures.reads_back;
     }

@@ -1,13 +1,13 @@
-use Rattle.std.proofs.Common.{◌≡◌, ◌-◌, ◌≤◌, ℕ, false, List}
-use Rattle.std.specs.Io.KnownBytes.{Appends}
-use Rattle.lf_sweeping.specs.Rows.{AreLinesAt}
+use Rattle.std.proofs.Common.{◌≡◌, ◌-◌, ◌≤◌, false}
+use Rattle.lf_sweeping.specs.Sweeps.{WereTold}
 use Rattle.lf_sweeping.proofs.sweeping.sweep_shared.Given as goal
 
 -- the lines that were written
 abbrev pub invariant-rounds : goal.invariant-rounds
 invariant-rounds g l =
-    (bytes : List ℕ) × AreLinesAt (g.A.Asker.replies l.asker) l.study l.part 0 l.place bytes × Appends (g.W.Sink.written l.initial.writer) (g.W.Sink.written l.writer) bytes
-    × (g.W.Sink.has_failed l.writer ≡ false) × (l.place ≤ l.count)
+    (WereTold g.W.Sink.written g.W.Sink.has_failed (g.A.Asker.replies l.asker) (g.A.Asker.refuses l.asker) l.study.scenario.now
+    l.study.plan.now.varied.items l.part 0 l.place l.initial.writer l.writer
+    l.counts × (g.W.Sink.has_failed l.writer ≡ false)) × (l.place ≤ l.count)
 
 abbrev pub decreases-rounds : goal.decreases-rounds
 decreases-rounds g l = l.count - l.place
