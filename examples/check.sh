@@ -5,7 +5,8 @@
 #     check.sh [--built]
 #
 # With --built the program is the one that `rt ci` leaves in crates/leastfault_cli/out/. Without it, `rt run` proves and builds
-# the program first, which takes the Rattle kit and some twenty minutes. The tests themselves need bash and coreutils alone.
+# the program first, which takes the Rattle kit and some twenty minutes. The tests themselves need bash and coreutils alone; where
+# `rsvg-convert` is installed they render pictures, too.
 #
 # A test runs one command and compares the status, standard output to the last byte, and standard error. What standard error says
 # in words may change, so most tests ask only whether it says anything. Prints each test that fails, with the lines that differ,
@@ -174,6 +175,50 @@ test_examples() {
     done
 }
 
+# longer_of FILE STEPS: what its first comment says of a run of so many steps, `# In STEPS steps: LINE, LINE`, and where it says nothing, its report.
+longer_of() {
+    local line
+    while IFS= read -r line; do
+        case $line in
+        "# In $2 steps: "*)
+            line=${line#*': '}
+            printf '%s' "${line//, /$'\n'}"
+            return
+            ;;
+        '#'*) ;;
+        *) break ;;
+        esac
+    done <"$1"
+    report_of "$1"
+}
+
+# test_longer FILE: with half as many steps again the answer is the report, or what the first comment says.
+test_longer() {
+    local file=$1 line wanted code=1 steps=0
+    while IFS= read -r line; do
+        case $line in
+        'horizon = '*)
+            line=${line#'horizon = '}
+            steps=$(((${line%%' '*} * 3 + 1) / 2))
+            ;;
+        esac
+    done <"$room/desk/$file"
+    [ "$steps" -le 48 ] || steps=48
+    wanted=$(longer_of "$room/desk/$file" "$steps")
+    case $wanted in
+    none*) code=0 ;;
+    refused*) code=2 ;;
+    esac
+    expect "$code" "$wanted" '*' "sed 's/^horizon = .*/horizon = $steps/' $file | leastfault answer -$(protocol_of "$room/desk/$file")"
+}
+
+test_longer_runs() {
+    local example
+    for example in "$room"/desk/examples/protocols/scenarios/*.toml; do
+        test_longer "${example#"$room/desk/"}"
+    done
+}
+
 # ---- protocol files ----
 
 test_protocols() {
@@ -324,6 +369,20 @@ test_own_file() {
     put own.toml "$scenario"
     expect 2 '' '?*' 'leastfault search own.toml --tree own.toml'
     holds own.toml "$scenario" 'a search whose certificate would replace its scenario'
+    # by another name too: another spelling, a link, and a hard link
+    ln -s own.toml "$room/desk/soft.toml"
+    ln "$room/desk/own.toml" "$room/desk/hard.toml"
+    local name
+    for name in ./own.toml examples/../own.toml "$room/desk/own.toml" soft.toml hard.toml; do
+        expect 2 '' "--tree = $name: it would overwrite the scenario*" "leastfault search own.toml --tree $name"
+        expect 2 '' "--tree = own.toml: it would overwrite the scenario*" "leastfault search $name --tree own.toml"
+        holds own.toml "$scenario" "a search whose certificate would replace its scenario, by the name $name"
+    done
+    expect 2 '' '--tree = ./kept_protocol.toml: it would overwrite the protocol*' \
+        'cp examples/protocols/two_phase.toml kept_protocol.toml; leastfault search own.toml --protocol kept_protocol.toml --tree ./kept_protocol.toml'
+    # of standard input nobody knows the name, and what isn't a file is never replaced
+    expect 1 $'least 1\nomit 0>1 @1' '' 'leastfault search own.toml --tree /dev/null'
+    expect 3 '' 'read*' 'leastfault search nowhere.toml --tree ./nowhere.toml'
 }
 
 test_full() {
@@ -348,7 +407,6 @@ test_run() {
 }
 
 test_told() {
-    local file text=''
     expect 1 $'step 1\n- 0>1 data 2\n+ 0>1 data omitted\nstep 2\n- 1 has\n+ 1 lacks\nstep 3\n- 1 has\n+ 1 lacks\nstep 4\n- 1 has\n+ 1 lacks
 - reaches\n+ misses' '' "leastfault run examples/one_try.toml 'omit 0>1 @1' --beside ''"
     expect 0 '= reaches' '' "leastfault run examples/one_try.toml '' --beside ''"
@@ -419,7 +477,31 @@ test_told() {
     }
   ]
 }' '' "leastfault run two.toml 'omit 0>1 @1' --json"
+}
 
+# grouped CLASS ELEMENTS COMMAND: what stands in the groups of a class of the picture that the command prints.
+grouped() {
+    expect 0 "$2" '*' "$3 | sed -n \"/^<g class='$1'/,/^<.g>/{/^<.\{0,1\}g/d;p}\""
+}
+
+# renders COMMAND: a program that heeds no rule of style for dark ground shows the words of the picture that the command prints, and all colours, and with
+# these rules alone it does so, too. Words are in sight where the picture differs from that without them, both without the rims around words.
+renders() {
+    run "$1 >whole.svg
+sed \"/^<g class='rim'/,/^<.g>/d\" whole.svg >light.svg
+sed 's/^@media(.*{\$//; s/^}\$//' light.svg >dark.svg
+sed '/^<style>/,/^<.style>/d' light.svg >plain.svg
+for i in light dark plain; do
+    grep -v '<text' \$i.svg >silent.svg
+    rsvg-convert \$i.svg >\$i.png && rsvg-convert silent.svg >silent.png || exit 9
+    ! cmp -s \$i.png silent.png || exit 8
+done
+cmp light.png plain.png && ! cmp -s light.png dark.png"
+    count "$1, rendered" "$(differ status 0 "$status")"
+}
+
+test_pictures() {
+    local text='' mood='leastfault draw --protocol gloomy.toml mood.toml'
     # The pictures of the pages are what the program draws.
     slurp text "$top/docs/pictures/crash_between_tries.svg"
     expect 1 "${text%$'\n'}" '' "leastfault draw examples/crash_between_tries.toml 'omit 0>1 @1,crash 0 @2'"
@@ -427,6 +509,45 @@ test_told() {
     expect 1 "${text%$'\n'}" '*' "leastfault draw examples/protocols/scenarios/raft_election_forgets.toml 'pause 2 @4' --protocol examples/protocols/raft_election.toml"
     ends 0 '</svg>' '' "leastfault draw examples/relayed.toml ''"
     expect 2 'refused faults' '?*' "leastfault draw examples/one_try.toml 'crash 0 @1'"
+
+    # The title is whole, in as many lines as it takes.
+    put eight.toml "$(printf '%s\n' 'nodes = 8' 'horizon = 12' 'last_omission = 10' 'crashes = 2' 'pauses = 2' 'pause_length = 2' 'budget = 6' \
+        'protocol = "retry"' 'tries = 12' 'outcome = "delivered"')"
+    grouped title "<text x='14' y='24'>omit 0&gt;1 @1, omit 0&gt;2 @1, pause 4 @2, omit 0&gt;3 @10, crash 5 @10, crash 0 @11: reaches</text>" \
+        "leastfault draw eight.toml 'omit 0>1 @1,omit 0>2 @1,omit 0>3 @10,pause 4 @2,crash 5 @10,crash 0 @11'"
+    run 'sed "s/nodes = 8/nodes = 2/" eight.toml >two.toml'
+    grouped title "<text x='14' y='24'>omit 0&gt;1 @1, omit 0&gt;1 @2, pause 1 @3, omit 0&gt;1 @10,</text>
+<text x='14' y='41'>crash 1 @10, crash 0 @11: reaches</text>" \
+        "leastfault draw two.toml 'omit 0>1 @1,omit 0>1 @2,omit 0>1 @10,pause 1 @3,crash 1 @10,crash 0 @11'"
+
+    # A node that is down says so where its own words are the same.
+    put gloomy.toml "$(printf '%s\n' 'name = "gloomy"' 'notes = ["DATA"]' 'state = { mood = "crashed | paused" }' \
+        'outcomes = { kept = "each crashed or each paused" }' \
+        'rules = [{ on = "DATA", set = "mood = paused" }, { who = "0", on = "end", when = "t = 1", send = "DATA to all" }]')"
+    put mood.toml "$(printf '%s\n' 'nodes = 2' 'horizon = 4' 'last_omission = 0' 'crashes = 1' 'pauses = 1' 'pause_length = 1' 'budget = 2' \
+        'protocol = "gloomy"' 'outcome = "kept"')"
+    grouped stopped $'<text x=\'65\' y=\'142\'>crashed</text>\n<text x=\'161\' y=\'172\'>paused</text>' "$mood 'crash 0 @2,pause 1 @3'"
+    grouped state $'<text x=\'65\' y=\'82\'>crashed</text>\n<text x=\'161\' y=\'82\'>crashed</text>\n<text x=\'161\' y=\'142\'>paused</text>
+<text x=\'161\' y=\'202\'>paused</text>' "$mood 'crash 0 @2,pause 1 @3'"
+
+    # Red rings stand where a promise is first seen to fail: at one step of an `all`, and at all points of an `any`.
+    put rings.toml "$(printf '%s\n' 'nodes = 2' 'horizon = 4' 'last_omission = 3' 'crashes = 0' 'budget = 1' 'protocol = "retry"' 'tries = 1' \
+        'outcome = ["all", ["shows", 1, 4, "has"], ["shows", 0, 3, "lacks"],' \
+        '["any", ["shows", 1, 2, "has"], ["shows", 0, 1, "lacks"]], ["shows", 1, 1, "lacks"]]')"
+    grouped fails "<circle cx='56' cy='114' r='6'/>
+<circle cx='152' cy='144' r='6'/>" "leastfault draw rings.toml 'omit 0>1 @1'"
+    grouped asked "<circle cx='56' cy='174' r='6'/>
+<circle cx='152' cy='114' r='6'/>
+<circle cx='152' cy='204' r='6'/>" "leastfault draw rings.toml 'omit 0>1 @1'"
+    grouped fails "<circle cx='56' cy='174' r='6'/>" "leastfault draw rings.toml ''"
+    grouped fails '' "leastfault draw examples/one_try.toml ''"
+
+    # Programs that are no browsers show a picture, too.
+    if command -v rsvg-convert >/dev/null; then
+        renders "leastfault draw examples/crash_between_tries.toml 'omit 0>1 @1,crash 0 @2'"
+        renders "leastfault draw eight.toml 'omit 0>1 @1,pause 4 @2'"
+        renders "$mood ''"
+    fi
 }
 
 # The answer over every delay, and runs where messages come as a list says.
@@ -464,8 +585,18 @@ test_every_delay() {
 
 test_why() {
     expect 1 $'least 2\nomit 0>1 @1\ncrash 0 @2\nwithout omit 0>1 @1: reaches\nstep 2\n- 1 has\n+ 1 lacks
-without crash 0 @2: reaches\nstep 2\n- 0 has\n+ 0 down' '' 'leastfault why examples/crash_between_tries.toml'
-    expect 1 $'least 1\ncrash 0 @2\nwithout crash 0 @2: reaches\nstep 2\n- 0 voting\n+ 0 down' '' 'leastfault why - --quiet <examples/blocked_commit.toml'
+without crash 0 @2: reaches\nstep 2\n- 0>1 data 3\n- 0>2 data 3\nstep 4\n- 1 has\n+ 1 lacks' '' 'leastfault why examples/crash_between_tries.toml'
+    expect 1 $'least 1\ncrash 0 @2\nwithout crash 0 @2: reaches\nstep 3\n- 0>1 commit 4\n- 0>2 commit 4\nstep 5\n- 1 committed\n+ 1 prepared
+- 2 committed\n+ 2 prepared' '' 'leastfault why - --quiet <examples/blocked_commit.toml'
+    # A node wakes without its vote, and votes again: the last difference is the one by which the promise has failed.
+    expect 1 $'least 1\npause 2 @4\nwithout pause 2 @4: reaches\nstep 5
+- 2 follower since=5 term=1 voted={0} votes={}\n+ 2 follower since=5 term=1 voted={1} votes={}\n+ 2>1 vote(1) 6\nstep 6
+- 1 candidate since=4 term=1 voted={1} votes={1}\n+ 1 leader since=4 term=1 voted={1} votes={1,2}
+- 2 follower since=6 term=1 voted={0} votes={}\n+ 2 follower since=6 term=1 voted={1} votes={}' '*' \
+        'leastfault why examples/protocols/scenarios/raft_election_forgets.toml --protocol examples/protocols/raft_election.toml'
+    put early.toml "$(printf '%s\n' 'nodes = 2' 'horizon = 4' 'last_omission = 0' 'crashes = 1' 'budget = 1' 'protocol = "retry"' 'tries = 1' \
+        'outcome = ["all", ["shows", 1, 2, "has"], ["shows", 1, 4, "has"]]')"
+    expect 1 $'least 1\ncrash 0 @1\nwithout crash 0 @1: reaches\nstep 1\n- 0>1 data 2\nstep 2\n- 1 has\n+ 1 lacks' '' 'leastfault why early.toml'
     expect 0 $'none 3\nruns at level 0: 1\nruns at level 1: 14\nruns at level 2: 25\nruns at level 3: 12
 rests on node 0 up to step 4\nrests on node 1 up to step 4\nrests on node 2 up to step 4' '' 'leastfault why examples/relayed.toml'
     # A promise that nodes keep that do nothing, and one that rests on nothing.
@@ -525,11 +656,15 @@ test_protocol() {
     expect 2 'refused protocol 7 facts.blocked' $'facts.blocked: `prepare`: *`prepared`?\nline * | phase = prepare\n* | *^^^^^^^\n' \
         "sed 's/blocked = \"phase = prepared\"/blocked = \"phase = prepare\"/' examples/protocols/two_phase.toml | leastfault protocol -"
     expect 2 'refused protocol 2' '?*' 'leastfault protocol examples/README.md'
+    put free.toml "$(printf '%s\n' 'name = "free"' 'state = { most = "flag", one = "flag" }' 'notes = []' \
+        'rules = [{ who = "{2..} - all", on = "begin", set = "most = true" }]' 'outcomes = { free = "at most one most and most at 1 or no one" }')"
+    expect 0 ok $'*\nwarning: rule 1 is no node\'s: *' 'leastfault protocol free.toml'
 }
 
 # The option --protocol, and what is refused first.
 test_own_protocols() {
     local protocol=examples/protocols/retry.toml own=examples/protocols/scenarios/retry_lost.toml
+    local chain=examples/protocols/scenarios/chain_replication_progress
     expect 1 $'all 1 2\nomit 0>1 @1\nomit 0>2 @1' '' "leastfault search --protocol=$protocol $own --all"
     expect 1 $'least 1\nomit 0>1 @1' '' "leastfault search - --protocol $protocol --quiet <$own"
     expect 0 $'step 1\n0 has\n1 lacks\n2 lacks\n0>1 data 2\n0>2 data 2\n0 rules 3\nstep 2\n0 has\n1 has\n2 has\n1 rules 2\n2 rules 2
@@ -544,6 +679,10 @@ step 3\n0 has\n1 has\n2 has\nstep 4\n0 has\n1 has\n2 has\nreaches' '' "leastfaul
     expect 2 'refused 4 given' '?*' "sed 's/^outcome/given = { patience = 3 }\noutcome/' $own | leastfault search - --protocol $protocol"
     expect 2 'refused 10 outcome' $'outcome: `had`: *`has`?\nline * | each had\n*' \
         "sed 's/delivered/each had/' $own | leastfault search - --protocol $protocol"
+    expect 2 'refused 10 outcome' '*node 3*' "sed 's/delivered/has at 3/' $own | leastfault search - --protocol $protocol"
+    expect 2 'refused 10 outcome' '*atoms*' "sed 's/^nodes = 3/nodes = 8/; s/^horizon = 4/horizon = 48/; s/delivered/always each has/' $own | leastfault search - --protocol $protocol"
+    expect 0 'none 1' $'no node has these rules, *: 1, 4\n' \
+        "sed 's/^nodes = 4/nodes = 3/; s/^crashes = 4/crashes = 3/' $chain.toml | leastfault search - --protocol examples/protocols/chain_replication.toml"
     expect 2 'refused faults' '?*' "leastfault run $own nonsense --protocol $protocol"
     expect 3 '' $'read\n*' "leastfault search $own --protocol nowhere.toml"
     expect 3 '' $'read\n*' "leastfault search nowhere.toml --protocol wrong.toml"
@@ -806,6 +945,7 @@ install -m 755 "$program" "$room/bin/leastfault"
 cp -R "$here" "$room/desk/examples"
 export PATH="$room/bin:$PATH"
 test_examples
+test_longer_runs
 test_protocols
 test_built_ins
 test_copies
@@ -815,6 +955,7 @@ test_own_file
 test_full
 test_run
 test_told
+test_pictures
 test_every_delay
 test_why
 test_check

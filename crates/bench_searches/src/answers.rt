@@ -5,8 +5,9 @@
 
 use crate::input::{bytes, scenario_of};
 use crate::words::{Asked, Word};
-use leastfault::{merged_answer, plain_answer};
+use leastfault::plain_answer;
 use lf_faults::{FaultSet, fault_text};
+use lf_merged::merged_answer;
 use lf_scenario::Scenario;
 use std::alloc::{AllocError, Global};
 

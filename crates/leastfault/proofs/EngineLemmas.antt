@@ -1,6 +1,6 @@
 -- From the bytes that were read to what an engine promises.
 use Rattle.std.proofs.Common.{◌≡◌, ℕ, ◌+◌, Bool, true, false, List, length, take, refl, sym, ap, ◌∙◌, subst, inl, inr, arith, string_bytes}
-use Rattle.std.specs.Prelude.{◌||◌, drop, Option, None, Some, is_some, IfSome, Result, Ok, Err}
+use Rattle.std.specs.Prelude.{◌||◌, drop, Option, None, Some, IfSome, Result, Ok, Err}
 use Rattle.std.proofs.lemmas.Bool.{cases_lt}
 use Rattle.std.proofs.lemmas.List.{drop_all, length-take-le, take_all}
 use Rattle.lf_scenario.specs.Limits.{longest}
@@ -8,8 +8,8 @@ use Rattle.lf_tree.specs.Texts.{most_bytes}
 use Rattle.leastfault.specs.declared.fault.BytesFault.{BytesFault}
 use Rattle.leastfault.specs.declared.fault.BytesFault.TheVariants as faults
 use Rattle.leastfault.specs.declared.reply.Reply.{Reply}
-use Rattle.leastfault.specs.Engines.{IsEngine, IsEngineOfBoth, IsFront, IsFrontOf, IsMade, IsMadeHere, IsMadeOfAll, IsMadeOfBoth, IsMadeOfOne, IsSent, NoCause}
-use Rattle.leastfault.specs.Engines.{OfAsked, OfBoth, OfHeld, OfReply, Remakes, TookAtMost, WasRead, WasReadWhere, WasSent, tells_write}
+use Rattle.leastfault.specs.Engines.{IsEngine, IsEngineOfBoth, IsFront, IsMade, IsMadeHere, IsMadeOfBoth, IsMadeOfOne, IsSent, NoCause}
+use Rattle.leastfault.specs.Engines.{OfBoth, OfHeld, OfReply, Remakes, TookAtMost, WasRead, WasSent, tells_write}
 use Rattle.leastfault.proofs.ReplyLemmas.{GoesByFront}
 
 -- what follows of any text follows of what a source held,
@@ -23,12 +23,6 @@ pub both_wider : (Says Means : List ℕ → List ℕ → Type 0) (held other : O
 both_wider Says Means held other wider is =
     held_wider (λ text. OfHeld (Says text) other) (λ text. OfHeld (Means text) other) held
     (λ text. held_wider (Says text) (Means text) other (wider text)) is
-
--- and of a source that may not be asked
-asked_wider : (b : Bool) (Says Means : Option (List ℕ) → Type 0) (held : Option (List ℕ)) → ((text : Option (List ℕ)) → Says text → Means text)
-    → OfAsked b Says held → OfAsked b Means held
-asked_wider false Says Means held wider is = wider None is
-asked_wider true Says Means held wider is = held_wider (λ text. Says (Some text)) (λ text. Means (Some text)) held (λ text. wider (Some text)) is
 
 -- where the bytes at the front were taken, and no others, so many were, or all
 drop_front : (n : ℕ) (h : List ℕ) → drop (length (take n h)) h ≡ drop n h
@@ -66,21 +60,6 @@ pub to_both : (most most_too : ℕ) (Says : List ℕ → List ℕ → Type 0) �
 to_both most most_too Says by_front by_front_too held other items text other_items certificate tells same tells_too same_too is =
     to_held most (λ t. OfHeld (Says t) other) (λ h more told. held_wider (Says (take (most + 1) h)) (Says h) other (λ c. by_front c h more) told)
     held items text tells same (to_held most_too (Says text) (by_front_too text) other other_items certificate tells_too same_too is)
-
--- and of a source that may not be asked
-to_asked : (b : Bool) (most : ℕ) (Says : Option (List ℕ) → Type 0) → GoesByFront most (λ text. Says (Some text)) → (held bytes : Option (List ℕ))
-    → IsFrontOf b most held bytes → Says bytes → OfAsked b Says held
-to_asked false most Says by_front held None tells is = is
-to_asked false most Says by_front held (Some bytes) tells is = absurd tells
-to_asked true most Says by_front held None tells is = absurd tells
-to_asked true most Says by_front held (Some bytes) tells is = to_held most (λ text. Says (Some text)) by_front held bytes bytes tells refl is
-
--- the bytes of a text are there where it was asked for
-pub front_is_there : (b : Bool) (most : ℕ) (held bytes : Option (List ℕ)) → IsFrontOf b most held bytes → is_some bytes ≡ b
-front_is_there false most held None tells = refl
-front_is_there false most held (Some bytes) tells = absurd tells
-front_is_there true most held None tells = absurd tells
-front_is_there true most held (Some bytes) tells = refl
 
 -- what is answered isn't a fault, and no two faults
 no_ok : {X : Type 0} (x : X) (e : BytesFault) → Ok x ≡ Err e → ⊥
@@ -175,81 +154,6 @@ module _ {R : Type 0} (left : R → Option (List ℕ)) (stuck : R → Bool) (old
         is.one.1,
       ))
       (λ number no. absurd no)
-
--- or of the texts of three, of which the first and the last may not be asked for
-module _ {P R S V Y : Type 0} (left : P → Option (List ℕ)) (stuck : P → Bool) (left_too : R → Option (List ℕ)) (stuck_too : R → Bool)
-    (left_last : S → Option (List ℕ)) (stuck_last : S → Bool) (named judged : Bool) (old new : P) (old_too new_too : R) (old_last new_last : S)
-    (IsOther : Option (List ℕ) → List ℕ → Option (List ℕ) → Y → Type 0) (IsCause : Option (List ℕ) → List ℕ → ℕ → Type 0)
-    (by_first : (text : List ℕ) (certificate : Option (List ℕ)) (y : Y) → GoesByFront longest (λ protocol. IsOther (Some protocol) text certificate y))
-    (by_text : (protocol certificate : Option (List ℕ)) (y : Y) → GoesByFront longest (λ text. IsOther protocol text certificate y))
-    (by_last : (protocol : Option (List ℕ)) (text : List ℕ) (y : Y) → GoesByFront most_bytes (λ certificate. IsOther protocol text (Some certificate) y))
-    (causes_by_first : (text : List ℕ) (number : ℕ) → GoesByFront longest (λ protocol. IsCause (Some protocol) text number))
-    (causes_by_text : (protocol : Option (List ℕ)) (number : ℕ) → GoesByFront longest (λ text. IsCause protocol text number))
-    (protocol_of : V → Option (List ℕ)) (text_of : V → List ℕ) (certificate_of : V → Option (List ℕ)) (v : V) where
-  abbrev AreFronts : V → Type 0
-  AreFronts u =
-      IsFrontOf named longest (left old) (protocol_of u) × IsFront longest (left_too old_too) (text_of u)
-      × IsFrontOf judged most_bytes (left_last old_last) (certificate_of u)
-
-  abbrev WereRead : Type 0
-  WereRead =
-      WasReadWhere named (longest + 1) (left old) (left new) × WasRead (longest + 1) (left_too old_too) (left_too new_too)
-      × WasReadWhere judged (most_bytes + 1) (left_last old_last) (left_last new_last)
-
-  abbrev TookAll : Type 0
-  TookAll =
-      TookAtMost (longest + 1) (left old) (left new) × TookAtMost (longest + 1) (left_too old_too) (left_too new_too)
-      × TookAtMost (most_bytes + 1) (left_last old_last) (left_last new_last)
-
-  -- what is said of the last, and of the last two
-  abbrev OfLast : Y → Option (List ℕ) → List ℕ → Type 0
-  OfLast y protocol text = OfAsked judged (λ certificate. IsOther protocol text certificate y) (left_last old_last)
-
-  abbrev OfTwo : Y → Option (List ℕ) → Type 0
-  OfTwo y protocol = OfHeld (OfLast y protocol) (left_too old_too)
-
-  last_by_text : (y : Y) (protocol : Option (List ℕ)) → GoesByFront longest (OfLast y protocol)
-  last_by_text y protocol held more is =
-      asked_wider judged (λ certificate. IsOther protocol (take (longest + 1) held) certificate y) (λ certificate. IsOther protocol held certificate y)
-      (left_last old_last) (λ certificate. by_text protocol certificate y held more) is
-
-  two_by_first : (y : Y) → GoesByFront longest (λ protocol. OfTwo y (Some protocol))
-  two_by_first y held more is =
-      held_wider (OfLast y (Some (take (longest + 1) held))) (OfLast y (Some held)) (left_too old_too)
-      (λ text. asked_wider judged (λ certificate. IsOther (Some (take (longest + 1) held)) text certificate y)
-      (λ certificate. IsOther (Some held) text certificate y) (left_last old_last) (λ certificate. by_first text certificate y held more)) is
-
-  all_told : (y : Y) → AreFronts v → IsOther (protocol_of v) (text_of v) (certificate_of v) y → OfAsked named (OfTwo y) (left old)
-  all_told y tells is =
-      to_asked named longest (OfTwo y) (two_by_first y) (left old) (protocol_of v) tells.0
-      (to_held longest (OfLast y (protocol_of v)) (last_by_text y (protocol_of v)) (left_too old_too) (text_of v) (text_of v) tells.1 refl
-      (to_asked judged most_bytes (λ certificate. IsOther (protocol_of v) (text_of v) certificate y) (by_last (protocol_of v) (text_of v) y)
-      (left_last old_last) (certificate_of v) tells.2 is))
-
-  abbrev OfCause : ℕ → Option (List ℕ) → Type 0
-  OfCause number protocol = OfHeld (λ text. IsCause protocol text number) (left_too old_too)
-
-  cause_by_first : (number : ℕ) → GoesByFront longest (λ protocol. OfCause number (Some protocol))
-  cause_by_first number held more is =
-      held_wider (λ text. IsCause (Some (take (longest + 1) held)) text number) (λ text. IsCause (Some held) text number) (left_too old_too)
-      (λ text. causes_by_first text number held more) is
-
-  cause_told : (number : ℕ) → AreFronts v → IsCause (protocol_of v) (text_of v) number → OfAsked named (OfCause number) (left old)
-  cause_told number tells is =
-      to_asked named longest (OfCause number) (cause_by_first number) (left old) (protocol_of v) tells.0
-      (to_held longest (λ text. IsCause (protocol_of v) text number) (causes_by_text (protocol_of v) number) (left_too old_too) (text_of v) (text_of v)
-      tells.1 refl is)
-
-  pub made_of_all : (made : Result Y BytesFault)
-      → IsMade (λ (u : V). AreFronts u × WereRead) (λ _. ⊥) (stuck new || (stuck_too new_too || stuck_last new_last)) TookAll (Ok v)
-      → IsMadeHere (IsOther (protocol_of v) (text_of v) (certificate_of v)) (IsCause (protocol_of v) (text_of v)) made
-      → IsMadeOfAll left stuck left_too stuck_too left_last stuck_last named judged IsOther IsCause old new old_too new_too old_last new_last made
-  made_of_all made is here =
-      made_of (λ (u : V). AreFronts u × WereRead) (λ (y : Y). OfAsked named (OfTwo y) (left old) × WereRead) (λ _. ⊥)
-      (λ number. OfAsked named (OfCause number) (left old))
-      (stuck new || (stuck_too new_too || stuck_last new_last)) TookAll v (IsOther (protocol_of v) (text_of v) (certificate_of v))
-      (IsCause (protocol_of v) (text_of v)) made is here (λ y told. (all_told y is.one.0 told, is.one.1))
-      (λ number cause. cause_told number is.one.0 cause)
 
 -- no cause goes by any front
 pub no_cause : (number : ℕ) → GoesByFront longest (λ text. NoCause text number)

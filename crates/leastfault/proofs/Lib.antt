@@ -8,8 +8,10 @@ mod LeastSets
 mod Limits
 mod LineTexts
 mod Listing
+mod PlaceLemmas
 mod ReplyLemmas
 mod SetTexts
+mod ShownLaws
 mod ShownLemmas
 mod TreeTexts
 mod Uniqueness

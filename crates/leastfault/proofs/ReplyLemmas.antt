@@ -1,5 +1,5 @@
 -- The reply to a text, and to the bytes at its front.
-use Rattle.std.proofs.Common.{◌≡◌, ℕ, ◌+◌, ◌<◌, ◌≤◌, List, length, not, take, sym, ap, ◌∙◌, subst, inl, inr, arith, string_bytes}
+use Rattle.std.proofs.Common.{◌≡◌, ℕ, ◌+◌, ◌<◌, ◌≤◌, List, length, not, take, refl, sym, ap, ◌∙◌, subst, inl, inr, arith, string_bytes}
 use Rattle.std.specs.Prelude.{◌⊎◌, Bool, Option, None, Some, Result, Ok, Err, slice_get}
 use Rattle.std.proofs.lemmas.List.{length-take}
 use Rattle.lf_alone.specs.Ends.{IsFull, IsNeverFull}
@@ -9,6 +9,9 @@ use Rattle.lf_faults.specs.declared.spec.Bounds.{Bounds}
 use Rattle.lf_faults.proofs.Laws.{first_is_one}
 use Rattle.lf_document.specs.declared.error.ProtocolError.{ProtocolError}
 use Rattle.lf_protocol_file.specs.Files as files
+use Rattle.lf_pool.specs.declared.error.PoolError.{PoolError}
+use Rattle.lf_pool.specs.declared.error.PoolError.TheVariants as errors
+use Rattle.lf_pool.specs.Solved.{IsRefused}
 use Rattle.lf_scenario.specs.declared.error.ScenarioError.{ScenarioError}
 use Rattle.lf_scenario.specs.Limits.{longest}
 use Rattle.lf_scenario.specs.declared.scenario.Scenario.{Scenario}
@@ -37,7 +40,7 @@ use Rattle.leastfault.specs.Checks.{IsGiven}
 use Rattle.leastfault.specs.Commands.{IsCauseAt, IsCertified, IsCertifiedBy, IsUncertified}
 use Rattle.leastfault.specs.Known.{IsRefusedOf, IsTextOf}
 use Rattle.leastfault.specs.Protocols.{IsProtocolReply}
-use Rattle.leastfault.specs.Searches.{IsEndFor, IsEndIn, IsFoundFor}
+use Rattle.leastfault.specs.Searches.{IsEndFor, IsEndIn, IsFoundFor, fault_of}
 use Rattle.leastfault.specs.Reports.{all_report, check_status, full_line, judgement, no_set_line, refusal, report, run_status, search_status}
 use Rattle.leastfault.specs.Replies.{IsAnswerReply, IsCheckReply, IsPoolCause, IsReplyWith, IsRunReply}
 use Rattle.leastfault.specs.Replies.{IsSharedWith, MayWork, RepliesCheck, RepliesRefusal, told_trace}
@@ -69,6 +72,13 @@ pub search_found : (known : Option Declared) (wanted : Wanted) (text : List ℕ)
     → IsSearchedWith known (reports_of wanted) text (string_bytes found.text) found.value
 search_found known wanted text s found reads is = replied known (reports_of wanted) text (string_bytes found.text) found.value s reads is
 
+-- an error of so many workers is a want of memory, or a cause of theirs
+pub error_ends : (wanted : Wanted) (workers : ℕ) (s : Scenario) (e : PoolError) → IsRefused s workers e → IsEndFor wanted workers s (Err (fault_of e))
+error_ends wanted workers s errors.Workers why = inl (refl, why)
+error_ends wanted workers s errors.Memory why = tt
+error_ends wanted workers s (errors.OtherScenario book) why = absurd why
+error_ends wanted workers s (errors.Spent book) why = inr (refl, why.0, (book, why.1))
+
 -- also where so many workers search
 pub shared_found : (known : Option Declared) (wanted : Wanted) (workers : ℕ) (text : List ℕ) (s : Scenario) (result : Result (Reply Searched) BytesFault)
     → IsTextOf known s text → IsEndFor wanted workers s result → IsEndIn known wanted workers text result
@@ -76,7 +86,7 @@ shared_found known wanted workers text s (Ok found) reads is = (search_found kno
 shared_found known wanted workers text s (Err faults.Read) reads is = absurd is
 shared_found known wanted workers text s (Err faults.Write) reads is = absurd is
 shared_found known wanted workers text s (Err faults.Memory) reads is = tt
-shared_found known wanted workers text s (Err (faults.Pool number)) reads is = ((s, reads), is)
+shared_found known wanted workers text s (Err (faults.Pool number)) reads is = (s, reads, is)
 
 -- the answer is one
 same_answer : (s : Scenario) (x y : Option (List Parts)) → IsAnswer s x → IsAnswer s y → x ≡ y
@@ -276,7 +286,7 @@ module _ (known : Option Declared) where
       (searched_by_front Reports reply found held more is.0, work_long held known workers more is.1)
 
   pub cause_by_front : (workers number : ℕ) → GoesByFront longest (λ text. IsPoolCause known workers text number)
-  cause_by_front workers number held more is = absurd (front_is_no_text known held is.0.0 more is.0.1)
+  cause_by_front workers number held more is = absurd (front_is_no_text known held is.0 more is.1)
 
   pub run_by_front : (rules : Bool) (words reply : List ℕ) (status : ℕ) → GoesByFront longest (λ text. IsRunReply known rules words text reply status)
   run_by_front rules words reply status held more is = run_long held known reply status rules words more is

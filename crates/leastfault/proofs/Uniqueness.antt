@@ -53,7 +53,7 @@ answers_one s t x y same first other =
     (subst (λ b. IsFirst b (λ faults. not (reaches (world_of s.setting) faults s.formula)) x) same.bounds first)))
     other
 
-refusals_one : (known : Option Declared) (text : List ℕ) → HasOneReply (RepliesRefusal known text)
+pub refusals_one : (known : Option Declared) (text : List ℕ) → HasOneReply (RepliesRefusal known text)
 refusals_one known text one other m n a b =
     let same = refusals_are_one known text a.0 b.0 a.1 b.1 in
     (a.2 ∙ ap refusal same ∙ sym b.2, a.3 ∙ sym b.3)
@@ -235,7 +235,7 @@ handed_one known text status (Some t) (Some u) a b =
 -- words that name one set at most
 module _ (words : List ℕ) (named_one : (one other : List Parts) → Names words one → Names words other → one ≡ other) where
   -- scenarios that are the same have one reply to the words
-  told_one : (rules : Bool) (s t : Scenario) → AreSame s t → (one other : List ℕ) (m n : ℕ) → RepliesNoSet words s one m ⊎ RepliesTrace rules words s one m
+  pub told_one : (rules : Bool) (s t : Scenario) → AreSame s t → (one other : List ℕ) (m n : ℕ) → RepliesNoSet words s one m ⊎ RepliesTrace rules words s one m
       → RepliesNoSet words t other n ⊎ RepliesTrace rules words t other n → (one ≡ other) × (m ≡ n)
   told_one rules s t same one other m n (inl a) (inl b) = (a.1 ∙ sym b.1, a.2 ∙ sym b.2)
   told_one rules s t same one other m n (inl a) (inr b) = absurd (a.0 b.0 b.1 (subst (λ bounds. IsAllowed bounds b.0) (sym same.bounds) b.2))

@@ -27,13 +27,9 @@ tells_write (Err (faults.Pool number)) = false
 abbrev pub TookAtMost : ℕ → Option (List ℕ) → Option (List ℕ) → Type 0
 TookAtMost most held left = IfSome held (λ h. (n : ℕ) × (n ≤ most) × (left ≡ Some (drop n h)))
 
--- so many bytes of a source were taken, or all where it held fewer; and so of one that may not be asked for
+-- so many bytes of a source were taken, or all where it held fewer
 abbrev pub WasRead : ℕ → Option (List ℕ) → Option (List ℕ) → Type 0
 WasRead most held left = IfSome held (λ h. left ≡ Some (drop most h))
-
-abbrev pub WasReadWhere : Bool → ℕ → Option (List ℕ) → Option (List ℕ) → Type 0
-WasReadWhere false most held left = Unit {0}
-WasReadWhere true most held left = WasRead most held left
 
 -- what is said of a text is true of what a source held: where it doesn't tell, of some text
 abbrev pub OfHeld : (List ℕ → Type 0) → Option (List ℕ) → Type 0
@@ -105,28 +101,6 @@ module _ {R S : Type 0} (left : R → Option (List ℕ)) (has_failed : R → Boo
       (λ number. OfHeld (λ text. IsCause text number) (left old)) (has_failed new || has_failed_too new_too)
       (TookAtMost (longest + 1) (left old) (left new) × TookAtMost (most_bytes + 1) (left_too old_too) (left_too new_too))
 
--- what is said of a text that is asked for is true of what a source held; and else it is said of none
-abbrev pub OfAsked : Bool → (Option (List ℕ) → Type 0) → Option (List ℕ) → Type 0
-OfAsked false Says held = Says None
-OfAsked true Says held = OfHeld (λ text. Says (Some text)) held
-
--- of three sources, a protocol file's, a scenario's and a tree's: whether the first and the last are asked for, and then the same. So nothing is
--- refused before all that are asked for were read
-module _ {P R S : Type 0} (left : P → Option (List ℕ)) (has_failed : P → Bool) (left_too : R → Option (List ℕ)) (has_failed_too : R → Bool)
-    (left_last : S → Option (List ℕ)) (has_failed_last : S → Bool) where
-  abbrev pub IsMadeOfAll : {Y : Type 0} → Bool → Bool → (Option (List ℕ) → List ℕ → Option (List ℕ) → Y → Type 0)
-      → (Option (List ℕ) → List ℕ → ℕ → Type 0) → P → P → R → R → S → S → Result Y BytesFault → Type 0
-  IsMadeOfAll named judged IsOne IsCause old new old_too new_too old_last new_last =
-      IsMade
-      (λ y. OfAsked named (λ protocol. OfHeld (λ text. OfAsked judged (λ certificate. IsOne protocol text certificate y) (left_last old_last))
-      (left_too old_too)) (left old)
-      × (WasReadWhere named (longest + 1) (left old) (left new) × WasRead (longest + 1) (left_too old_too) (left_too new_too)
-      × WasReadWhere judged (most_bytes + 1) (left_last old_last) (left_last new_last)))
-      (λ number. OfAsked named (λ protocol. OfHeld (λ text. IsCause protocol text number) (left_too old_too)) (left old))
-      (has_failed new || (has_failed_too new_too || has_failed_last new_last))
-      (TookAtMost (longest + 1) (left old) (left new) × TookAtMost (longest + 1) (left_too old_too) (left_too new_too)
-      × TookAtMost (most_bytes + 1) (left_last old_last) (left_last new_last))
-
 -- no worker is asked, so none gives no answer
 abbrev pub NoCause : List ℕ → ℕ → Type 0
 NoCause text number = ⊥
@@ -138,13 +112,6 @@ OfReply IsReply text r = IsReply text (string_bytes r.text) r.value
 -- the bytes were read at the front of a source, no more than one past so many
 abbrev pub IsFront : ℕ → Option (List ℕ) → List ℕ → Type 0
 IsFront most held bytes = IfSome held (λ h. bytes ≡ take (most + 1) h)
-
--- and where a text is asked for, so it is with its bytes, and else there are none
-abbrev pub IsFrontOf : Bool → ℕ → Option (List ℕ) → Option (List ℕ) → Type 0
-IsFrontOf false most held None = Unit {0}
-IsFrontOf false most held (Some bytes) = ⊥
-IsFrontOf true most held None = ⊥
-IsFrontOf true most held (Some bytes) = IsFront most held bytes
 
 -- a reply that was made was written, or a part of it, or nothing
 abbrev pub WasWritten : {X W : Type 0} → (W → Option (List ℕ)) → (W → Bool) → Reply X → W → W → Result X BytesFault → Type 0

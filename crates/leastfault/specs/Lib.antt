@@ -9,4 +9,5 @@ pub mod Delayed
 pub mod Engines
 pub mod Protocols
 pub mod Commands
+pub mod Places
 pub mod Checks

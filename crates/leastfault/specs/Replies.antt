@@ -5,6 +5,7 @@ use Rattle.lf_certificate.specs.Accepted.{IsAccepted}
 use Rattle.lf_certificate.specs.Faults.{IsFirstFault}
 use Rattle.lf_certificate.specs.Grown.{IsTreeOf}
 use Rattle.lf_alone.specs.Ends.{IsFull, IsNeverFull}
+use Rattle.lf_book.specs.declared.book.Book.{Book}
 use Rattle.lf_faults.specs.declared.fault.Parts.{Parts}
 use Rattle.lf_faults.specs.Allowed.{IsAllowed}
 use Rattle.lf_faults.specs.declared.spec.Bounds.{Bounds}
@@ -15,7 +16,7 @@ use Rattle.lf_protocols.specs.declared.protocol.Kind.{Kind}
 use Rattle.lf_protocols.specs.declared.state.State.{State}
 use Rattle.lf_sim.specs.Runs.{World}
 use Rattle.lf_sim.specs.Settings.{world_of}
-use Rattle.lf_pool.specs.Solved.{AreWorkers}
+use Rattle.lf_pool.specs.Solved.{AreWorkers, IsSpentBook}
 use Rattle.lf_scenario.specs.declared.error.ScenarioError.{ScenarioError}
 use Rattle.lf_scenario.specs.declared.scenario.Scenario.{Scenario}
 use Rattle.lf_trace.specs.Namings.{Names}
@@ -122,13 +123,15 @@ IsShared known = IsSharedWith known RepliesReport
 abbrev pub IsSharedAll : Option Declared → ℕ → List ℕ → List ℕ → Searched → Type 0
 IsSharedAll known = IsSharedWith known RepliesAll
 
--- why so many workers give no answer: 1 exactly where so many may not search, and else 3 or 4
-abbrev pub IsCauseOf : ℕ → ℕ → Type 0
-IsCauseOf workers number = ((number ≡ 1) × (¬ AreWorkers workers)) ⊎ (((number ≡ 3) ⊎ (number ≡ 4)) × AreWorkers workers)
+-- why so many workers give no answer for a scenario: 1 exactly where so many may not search, and else 4, where they leave a book of it in which
+-- all tickets were given and a set is open
+abbrev pub IsCauseOf : ℕ → Scenario → ℕ → Type 0
+IsCauseOf workers s number =
+    ((number ≡ 1) × (¬ AreWorkers workers)) ⊎ ((number ≡ 4) × AreWorkers workers × ((book : Book) × IsSpentBook s book))
 
 -- and they are asked where the text is a scenario's
 abbrev pub IsPoolCause : Option Declared → ℕ → List ℕ → ℕ → Type 0
-IsPoolCause known workers text number = ((s : Scenario) × IsTextOf known s text) × IsCauseOf workers number
+IsPoolCause known workers text number = (s : Scenario) × IsTextOf known s text × IsCauseOf workers s number
 
 -- the line that no allowed set has this name, where the words name none, or none that the scenario allows, with status 2
 abbrev pub RepliesNoSet : List ℕ → Scenario → List ℕ → ℕ → Type 0
@@ -197,3 +200,7 @@ IsCheckReply known text certificate reply status =
 -- there is one reply at most, with one status
 abbrev pub HasOneReply : (List ℕ → ℕ → Type 0) → Type 0
 HasOneReply IsReply = (one other : List ℕ) (m n : ℕ) → IsReply one m → IsReply other n → (one ≡ other) × (m ≡ n)
+
+-- there is one status at most, and with the status 2 one reply: so it is of replies whose text no contract tells
+abbrev pub HasOneStatus : (List ℕ → ℕ → Type 0) → Type 0
+HasOneStatus IsReply = (one other : List ℕ) (m n : ℕ) → IsReply one m → IsReply other n → (m ≡ n) × (m ≡ 2 → one ≡ other)

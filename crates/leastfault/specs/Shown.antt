@@ -16,7 +16,7 @@ use Rattle.leastfault.specs.declared.shown.Told.TheVariants as told
 use Rattle.leastfault.specs.Answers.{reaches_in}
 use Rattle.leastfault.specs.Known.{IsTextOf}
 use Rattle.leastfault.specs.Delayed.{IsDelayedReply}
-use Rattle.leastfault.specs.Replies.{IsRunReply, RepliesNoSet, RepliesRefusal, RepliesTrace, tells_rules}
+use Rattle.leastfault.specs.Replies.{HasOneReply, HasOneStatus, IsRunReply, RepliesNoSet, RepliesRefusal, RepliesTrace, tells_rules}
 use Rattle.leastfault.specs.Reports.{run_status}
 
 -- what is told of the run of a set. No contract says which text a JSON document or a picture is
@@ -86,3 +86,19 @@ IsShownReply known how (Some delays) words = IsDelayedReply known delays (Replie
 abbrev pub IsDrawnReply : Option Declared → Option (List ℕ) → List ℕ → List ℕ → List ℕ → ℕ → Type 0
 IsDrawnReply known None words = IsToldReply told.Picture known words
 IsDrawnReply known (Some delays) words = IsDelayedReply known delays (RepliesNamed told.Picture words)
+
+-- there is one reply at most, with one status; of a JSON document the status and the refusals are one
+abbrev pub HasOneShown : Shown → (List ℕ → ℕ → Type 0) → Type 0
+HasOneShown shown.Whole = HasOneReply
+HasOneShown shown.Rules = HasOneReply
+HasOneShown shown.Changes = HasOneReply
+HasOneShown shown.Json = HasOneStatus
+HasOneShown (shown.Beside other) = HasOneReply
+
+-- the words for the set beside it name one set at most
+abbrev pub NamesOnce : Shown → Type 0
+NamesOnce shown.Whole = ⊤
+NamesOnce shown.Rules = ⊤
+NamesOnce shown.Changes = ⊤
+NamesOnce shown.Json = ⊤
+NamesOnce (shown.Beside words) = (one other : List Parts) → Names (string_bytes words) one → Names (string_bytes words) other → one ≡ other

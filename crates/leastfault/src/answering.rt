@@ -16,11 +16,13 @@ ghost use Rattle.leastfault.specs.Searches.{IsFoundFor};
 ghost use Rattle.leastfault.specs.Reports.{full_line, no_set_line, refusal, run_status, search_status};
 
 use crate::known::read_known;
+use crate::replies::full_line;
 use crate::reply::{Reply, Searched, without_tree};
-use crate::{all_report, full_line, merged_watched, refusal, report};
+use crate::{all_report, refusal, report};
 use lf_alone::{Ended, solve_watched};
 use lf_book::Book;
 use lf_faults::{FaultSet, admits};
+use lf_merged::answer_watched;
 use lf_outcome::holds;
 use lf_scenario::{Scenario, ScenarioError};
 use lf_sim::run;
@@ -176,7 +178,7 @@ fn answered<V: Watch>(
 ) -> Result<Reply<u8>, AllocError>
     ensures { IfOk result (λ reply. RepliesAnswer scenario.now (string_bytes reply.text) reply.value) }
 {
-    let answer = merged_watched(alloc, scenario, watch)?;
+    let answer = answer_watched(alloc, scenario, watch)?;
     Ok(Reply {
         text: report(alloc, scenario.setting().spec.budget(), &answer)?,
         value: search_status(&answer),

@@ -1,19 +1,16 @@
 //! Searches with the certificate of their answer.
 
-ghost use Rattle.std.specs.Prelude.{◌≡◌, false, string_bytes, IfOk, None};
+ghost use Rattle.std.specs.Prelude.{string_bytes, IfOk};
 ghost use Rattle.leastfault.specs.Commands.{GetsCertified, IsCauseAt, IsCertifiedBy, IsWritten};
-ghost use Rattle.leastfault.specs.Engines.{IsMadeHere, IsMadeOfOne, OfReply, Remakes};
+ghost use Rattle.leastfault.specs.Engines.{IsMadeHere, OfReply, Remakes};
 ghost use Rattle.leastfault.specs.Known.{known_of};
 ghost use Rattle.leastfault.specs.Replies.{IsSharedWith, reports_of};
 
 use crate::answering::{Wanted, search_reply};
 use crate::checking::tree_refused;
 use crate::fault::BytesFault;
-use crate::reading::read_text;
 use crate::reply::{Certified, Reply, Searched, without_certificate};
 use crate::workers::shared_reply;
-use lf_scenario::LONGEST;
-use lf_streams::Source;
 use lf_tree::{Tree, to_text, types_are_kept};
 use lf_watch::Watch;
 use lf_written::ProtocolFile;
@@ -22,45 +19,12 @@ use std::rt::Clock;
 use std::sync::Wait;
 use std::thread::Threads;
 
-/// Reads a scenario and searches it by so many workers at once, 1..=32. It answers the reply, its status and, where there is an answer,
-/// the certificate's text. Where that text would be longer than `LONGEST_TREE` bytes the reply is `refused tree 1`, the status 2, and
-/// there is no certificate.
+/// The reply of a search by so many workers at once, 1..=32, to a scenario's text, with its status and, where there is an answer, the
+/// certificate's text. Where that text would be longer than `LONGEST_TREE` bytes the reply is `refused tree 1`, the status 2, and there is
+/// no certificate.
 ///
 /// One worker searches in this thread, and waits for nobody. For a scenario that isn't refused a number of workers out of range is
-/// `Pool(1)`. The fault is never `Write`.
-pub fn search_certified<T: Threads + Wait + Clock + Sync, R: Source, V: Watch>(
-    rt: &T,
-    alloc: Global,
-    wanted: Wanted,
-    workers: u32,
-    reader: &mut R,
-    watch: &V,
-) -> Result<Reply<Certified>, BytesFault>
-    requires { R.has_failed reader.old ≡ false }
-    ensures { IsMadeOfOne R.left R.has_failed (OfReply (IsCertifiedBy None wanted workers)) (IsCauseAt None workers) reader.old reader.new result }
-{
-    certified_known(rt, alloc, None, wanted, workers, reader, watch)
-}
-
-/// The same as `search_certified`, where the protocol of a file may be known.
-pub fn certified_known<T: Threads + Wait + Clock + Sync, R: Source, V: Watch>(
-    rt: &T,
-    alloc: Global,
-    known: Option<&ProtocolFile>,
-    wanted: Wanted,
-    workers: u32,
-    reader: &mut R,
-    watch: &V,
-) -> Result<Reply<Certified>, BytesFault>
-    requires { R.has_failed reader.old ≡ false }
-    ensures { IsMadeOfOne R.left R.has_failed (OfReply (IsCertifiedBy (known_of known.entry) wanted workers)) (IsCauseAt (known_of known.entry) workers)
-        reader.old reader.new result }
-{
-    let text = read_text(alloc, reader, LONGEST)?;
-    certified_reply(rt, alloc, known, wanted, workers, text.as_slice(), watch)
-}
-
-/// The reply of a search by so many workers to a scenario's text, with the certificate's text.
+/// `Pool(1)`. The fault is `Memory` or `Pool`.
 pub(crate) fn certified_reply<T: Threads + Wait + Clock + Sync, V: Watch>(
     rt: &T,
     alloc: Global,

@@ -13,12 +13,12 @@ ghost use Rattle.leastfault.specs.Reports.{check_status, judgement, tree_refusal
 use crate::answering::refused;
 use crate::fault::BytesFault;
 use crate::known::read_known;
+use crate::replies::{judgement, tree_refusal};
 use crate::reply::Reply;
-use crate::{judgement, tree_refusal};
 use lf_check::{Verdict, check, check_rows_watched};
 use lf_scenario::Scenario;
 use lf_tree::{Tree, TreeFault, read_tree, types_are_kept};
-use lf_watch::Watch;
+use lf_watch::{NoWatch, Watch};
 use lf_written::ProtocolFile;
 use std::alloc::{AllocError, Global};
 use std::thread::Threads;
@@ -82,15 +82,14 @@ pub(crate) fn judged_alone(
 }
 
 /// The reply to what is given, judged in as many threads as there are processors.
-pub(crate) fn judged_in_rows<T: Threads + Sync, V: Watch>(
+pub(crate) fn judged_in_rows<T: Threads + Sync>(
     rt: &T,
     alloc: Global,
     given: Result<Given, BytesFault>,
-    watch: &V,
 ) -> Result<Reply<u8>, BytesFault>
     ensures { Remakes IsReplyTo given result }
 {
-    Ok(replied_in_rows(rt, alloc, given?, watch)?)
+    Ok(replied_in_rows(rt, alloc, given?, &NoWatch)?)
 }
 
 /// The same of what is given.

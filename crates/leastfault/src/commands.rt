@@ -1,24 +1,25 @@
 //! What the words of a command line ask for, done.
 
-ghost use Rattle.std.specs.Prelude.{◌≡◌, false, true, None, IfOk, is_some, string_bytes};
+ghost use Rattle.std.specs.Prelude.{◌≡◌, false, true, IfOk, is_some, string_bytes};
 ghost use Rattle.std.specs.Option.{option_map};
 ghost use Rattle.leastfault.specs.Commands.{IsAlone, IsCause, IsCauseFor, IsCheckOf, IsDone, IsDoneFor, tree_file, wanted_of};
-ghost use Rattle.lf_words.specs.Words.{protocol_file, written_to};
-ghost use Rattle.leastfault.specs.Engines.{IsMadeHere, IsMadeOfAll, Remakes};
+ghost use Rattle.leastfault.specs.Engines.{IsMadeHere, Remakes};
 ghost use Rattle.leastfault.specs.Known.{known_of};
+ghost use Rattle.leastfault.specs.Places.{IsExecuted, writes_of};
 
 use crate::answering::Wanted;
 use crate::certified::{certified_reply, reply_by};
 use crate::checking::check_reply;
 use crate::delayed::answer_asked;
+use crate::delivering::deliver;
 use crate::fault::BytesFault;
+use crate::named::{CommandTexts, read_command};
 use crate::protocol::{protocol_refused, protocol_reply};
-use crate::reading::{CommandTexts, read_command};
 use crate::reply::{Certified, Reply, Searched, without_certificate};
 use crate::shown::{drawn_reply, shown_reply};
 use crate::why::why_reply;
 use lf_protocol_file::read_protocol;
-use lf_streams::Source;
+use lf_streams::Files;
 use lf_watch::Watch;
 use lf_words::Asked;
 use lf_written::ProtocolFile;
@@ -30,98 +31,42 @@ use std::thread::Threads;
 // Words may ask for as many workers as may search.
 const _: () = prove!(lf_words::MOST_WORKERS == lf_pool::MOST_WORKERS);
 
-/// The file of the certificate that is to be judged, where one is; `-` is standard input.
-pub fn tree_file(asked: &Asked) -> Option<&str>
-    ensures { option_map (λ name. name.now) result ≡ tree_file asked.now }
-{
-    match asked {
-        Asked::Check { tree, .. } => Some(tree.as_str()),
-        Asked::Search { .. }
-        | Asked::Run { .. }
-        | Asked::Draw { .. }
-        | Asked::Answer { .. }
-        | Asked::Why { .. }
-        | Asked::Protocol { .. } => None,
-    }
+/// What a command came to, once it is written, and the texts that it read.
+#[derive(Debug, Drop)]
+pub struct Executed {
+    /// The reply and its status, and the certificate where one was to be written and there is an answer.
+    pub reply: Reply<Certified>,
+    /// The texts that the words name.
+    pub texts: CommandTexts,
 }
 
-/// The file into which the certificate of the answer is to be written, where one is named. `-` is a file of that name.
-pub fn certificate_file(asked: &Asked) -> Option<&str>
-    ensures { option_map (λ name. name.now) result ≡ written_to asked.now }
-{
-    match asked {
-        Asked::Search {
-            tree: Some(tree),
-            ..
-        } => Some(tree.as_str()),
-        Asked::Search { .. }
-        | Asked::Run { .. }
-        | Asked::Draw { .. }
-        | Asked::Check { .. }
-        | Asked::Answer { .. }
-        | Asked::Why { .. }
-        | Asked::Protocol { .. } => None,
-    }
-}
-
-/// Does what is asked, and answers the reply, its status, and the certificate where one is to be written and there is an answer.
+/// Does what is asked, and writes what it comes to: first the certificate into the file that is named for it, where one is to be written and
+/// there is an answer, and then the reply to standard output.
 ///
-/// The protocol's file, where one is named, is read from the first source, the scenario, or the file that `protocol` checks, from the
-/// second, and the certificate that is to be judged from the third. A source that isn't asked for is left alone. All are read before
-/// anything is refused; then the protocol's refusal comes first, the scenario's second, and last that of the delays, the faults or the
-/// certificate.
+/// The protocol's file is read first, where one is named, then the scenario, or the file that `protocol` checks, and last the certificate
+/// that is to be judged: of each at most one byte past its limit. All are read before anything is refused; then the protocol's refusal comes
+/// first, the scenario's second, and last that of the delays, the faults or the certificate.
 ///
-/// A search by one worker and an answer are made in this thread, and a search by several and a check in several threads. The fault is
-/// never `Write`.
-pub fn execute<T: Threads + Wait + Clock + Sync, P: Source, R: Source, S: Source, V: Watch>(
+/// A search by one worker and an answer are made in this thread, and a search by several and a check in several threads. After `Read`,
+/// `Memory` and `Pool` nothing was written; after `Write` a part of what there is to write, from its front and not the whole. No read or
+/// write of the files may have failed.
+pub fn execute<T: Threads + Wait + Clock + Sync, F: Files, V: Watch>(
     rt: &T,
     alloc: Global,
     asked: &Asked,
-    protocol_reader: &mut P,
-    scenario_reader: &mut R,
-    tree_reader: &mut S,
+    files: &mut F,
     watch: &V,
-) -> Result<Reply<Certified>, BytesFault>
-    requires protocol { P.has_failed protocol_reader.old ≡ false }
-    requires scenario { R.has_failed scenario_reader.old ≡ false }
-    requires tree { S.has_failed tree_reader.old ≡ false }
-    ensures done { IsMadeOfAll P.left P.has_failed R.left R.has_failed S.left S.has_failed (is_some (protocol_file asked.now)) (is_some (tree_file asked.now))
-        (λ protocol text certificate r. IsDone asked.now protocol text certificate (string_bytes r.text) r.value) (IsCause asked.now)
-        protocol_reader.old protocol_reader.new scenario_reader.old scenario_reader.new tree_reader.old tree_reader.new result }
-    ensures unnamed { protocol_file asked.now ≡ None → protocol_reader.new ≡ protocol_reader.old }
-    ensures unread { tree_file asked.now ≡ None → tree_reader.new ≡ tree_reader.old }
+) -> Result<Executed, BytesFault>
+    requires read { (F.desk files.old).read_failed ≡ false }
+    requires write { (F.desk files.old).write_failed ≡ false }
+    ensures { IsExecuted asked.now (λ protocol text certificate done.
+        IsDone asked.now protocol text certificate (string_bytes done.reply.text) done.reply.value) (IsCause asked.now)
+        (λ done. writes_of asked.now (string_bytes done.reply.text) done.reply.value) (F.desk files.old) (F.desk files.new) result }
 {
-    let texts = read_command(
-        alloc,
-        names_protocol(asked),
-        protocol_reader,
-        scenario_reader,
-        judges_tree(asked),
-        tree_reader,
-    )?;
-    reply_to(rt, alloc, asked, &texts, watch)
-}
-
-/// Whether the file of a protocol is named.
-fn names_protocol(asked: &Asked) -> bool
-    ensures { result ≡ is_some (protocol_file asked.now) }
-{
-    match asked {
-        Asked::Search { protocol, .. }
-        | Asked::Run { protocol, .. }
-        | Asked::Draw { protocol, .. }
-        | Asked::Check { protocol, .. }
-        | Asked::Answer { protocol, .. }
-        | Asked::Why { protocol, .. } => protocol.is_some(),
-        Asked::Protocol { .. } => false,
-    }
-}
-
-/// Whether a certificate is to be judged.
-fn judges_tree(asked: &Asked) -> bool
-    ensures { result ≡ is_some (tree_file asked.now) }
-{
-    matches!(asked, Asked::Check { .. })
+    let texts = read_command(alloc, asked, files)?;
+    let reply = reply_to(rt, alloc, asked, &texts, watch)?;
+    deliver(asked, files, &reply)?;
+    Ok(Executed { reply, texts })
 }
 
 /// What is asked for, done with these texts.

@@ -2,20 +2,16 @@
 
 ghost use Rattle.std.specs.Prelude.{◌≡◌, false, None};
 ghost use Rattle.leastfault.specs.Engines.{IsEngine, IsEngineOfBoth, NoCause};
-ghost use Rattle.leastfault.specs.Protocols.{IsProtocolReply};
-ghost use Rattle.leastfault.specs.Replies.{IsAnswerReply, IsCheckReply, IsPoolCause, IsRunReply};
+ghost use Rattle.leastfault.specs.Replies.{IsCheckReply, IsPoolCause, IsRunReply};
 ghost use Rattle.leastfault.specs.Replies.{IsSearched, IsSearchedAll, IsShared, IsSharedAll};
 
 use crate::answering::Wanted;
-use crate::checking::judged_alone;
+use crate::checking::{judged_alone, judged_in_rows};
 use crate::fault::BytesFault;
-use crate::known::run_known;
-use crate::made::{given_made, protocol_made};
+use crate::made::{given_made, run_made, search_made, shared_made};
 use crate::reply::Searched;
 use crate::sending::send;
-use crate::watched::{answer_watched, check_watched, search_watched, shared_watched};
 use lf_streams::{Sink, Source};
-use lf_watch::NoWatch;
 use std::alloc::Global;
 use std::rt::Clock;
 use std::sync::Wait;
@@ -36,7 +32,8 @@ pub fn search_bytes<R: Source, W: Sink>(
     requires writer { W.has_failed writer.old ≡ false }
     ensures { IsEngine R.left R.has_failed (IsSearched None) NoCause reader.old reader.new W.written W.has_failed writer.old writer.new result }
 {
-    search_watched(alloc, Wanted::Answer, reader, writer, &NoWatch)
+    let made = search_made(alloc, Wanted::Answer, reader);
+    send(writer, made)
 }
 
 /// The same as `search_bytes`, but where there is an answer the reply reports all least sets: `all K M`, and the M allowed sets of K
@@ -51,7 +48,8 @@ pub fn all_bytes<R: Source, W: Sink>(
     requires writer { W.has_failed writer.old ≡ false }
     ensures { IsEngine R.left R.has_failed (IsSearchedAll None) NoCause reader.old reader.new W.written W.has_failed writer.old writer.new result }
 {
-    search_watched(alloc, Wanted::AllLeast, reader, writer, &NoWatch)
+    let made = search_made(alloc, Wanted::AllLeast, reader);
+    send(writer, made)
 }
 
 /// The same as `search_bytes`, but the search is made by so many workers at once, 1..=32: the reply, the tree and the status are the
@@ -69,7 +67,8 @@ pub fn search_shared<T: Threads + Wait + Clock + Sync, R: Source, W: Sink>(
     ensures { IsEngine R.left R.has_failed (IsShared None workers) (IsPoolCause None workers) reader.old reader.new W.written W.has_failed writer.old
         writer.new result }
 {
-    shared_watched(rt, alloc, Wanted::Answer, workers, reader, writer, &NoWatch)
+    let made = shared_made(rt, alloc, Wanted::Answer, workers, reader);
+    send(writer, made)
 }
 
 /// The same as `all_bytes`, by so many workers, as `search_shared`.
@@ -85,35 +84,8 @@ pub fn all_shared<T: Threads + Wait + Clock + Sync, R: Source, W: Sink>(
     ensures { IsEngine R.left R.has_failed (IsSharedAll None workers) (IsPoolCause None workers) reader.old reader.new
         W.written W.has_failed writer.old writer.new result }
 {
-    shared_watched(
-        rt,
-        alloc,
-        Wanted::AllLeast,
-        workers,
-        reader,
-        writer,
-        &NoWatch,
-    )
-}
-
-/// Reads a scenario, and writes the report of its answer, or the line of its refusal. It answers the status: 0 where no allowed set of
-/// faults defeats the outcome, 1 where one does, 2 where the scenario is refused.
-///
-/// The report is that of `search_bytes`, where no level of that search is too full. `max_sets` plays no part here, and no certificate
-/// comes with the answer. It takes memory as the cluster has configurations to be told apart.
-///
-/// It takes and writes as `search_bytes` does: at most `LONGEST + 1` bytes of the source, and nothing before the whole
-/// reply is there.
-pub fn answer_bytes<R: Source, W: Sink>(
-    alloc: Global,
-    reader: &mut R,
-    writer: &mut W,
-) -> Result<u8, BytesFault>
-    requires reader { R.has_failed reader.old ≡ false }
-    requires writer { W.has_failed writer.old ≡ false }
-    ensures { IsEngine R.left R.has_failed (IsAnswerReply None) NoCause reader.old reader.new W.written W.has_failed writer.old writer.new result }
-{
-    answer_watched(alloc, reader, writer, &NoWatch)
+    let made = shared_made(rt, alloc, Wanted::AllLeast, workers, reader);
+    send(writer, made)
 }
 
 /// Reads a scenario, runs it under the set of faults that `faults` names, and writes the trace of that run. It answers the
@@ -136,7 +108,8 @@ pub fn run_bytes<R: Source, W: Sink>(
     ensures { IsEngine R.left R.has_failed (IsRunReply None false faults.now) NoCause reader.old reader.new W.written W.has_failed writer.old writer.new
         result }
 {
-    run_known(alloc, None, reader, faults, writer)
+    let made = run_made(alloc, reader, faults);
+    send(writer, made)
 }
 
 /// Reads a scenario and the text of a tree, judges the tree for the scenario, and writes the line of the verdict: `yes`, or
@@ -160,7 +133,7 @@ pub fn check_bytes<R: Source, S: Source, W: Sink>(
     ensures { IsEngineOfBoth R.left R.has_failed S.left S.has_failed (IsCheckReply None) NoCause
         scenario_reader.old scenario_reader.new tree_reader.old tree_reader.new W.written W.has_failed writer.old writer.new result }
 {
-    let given = given_made(alloc, None, scenario_reader, tree_reader);
+    let given = given_made(alloc, scenario_reader, tree_reader);
     send(writer, judged_alone(alloc, given))
 }
 
@@ -178,23 +151,6 @@ pub fn check_bytes_rows<R: Source, S: Source, W: Sink>(
     ensures { IsEngineOfBoth R.left R.has_failed S.left S.has_failed (IsCheckReply None) NoCause
         scenario_reader.old scenario_reader.new tree_reader.old tree_reader.new W.written W.has_failed writer.old writer.new result }
 {
-    check_watched(rt, alloc, scenario_reader, tree_reader, writer, &NoWatch)
-}
-
-/// Reads a protocol file, and writes `ok` where it is one, or else the line of its refusal: `refused protocol NUMBER PLACE`, without
-/// ` PLACE` where the file as a whole is refused. It answers the status: 0 for a protocol file, 2 where it is refused.
-///
-/// It takes and writes as `search_bytes` does: at most `LONGEST + 1` bytes of the source, and nothing before the whole
-/// reply is there.
-pub fn protocol_bytes<R: Source, W: Sink>(
-    alloc: Global,
-    reader: &mut R,
-    writer: &mut W,
-) -> Result<u8, BytesFault>
-    requires reader { R.has_failed reader.old ≡ false }
-    requires writer { W.has_failed writer.old ≡ false }
-    ensures { IsEngine R.left R.has_failed IsProtocolReply NoCause reader.old reader.new W.written W.has_failed writer.old writer.new result }
-{
-    let made = protocol_made(alloc, reader);
-    send(writer, made)
+    let given = given_made(alloc, scenario_reader, tree_reader);
+    send(writer, judged_in_rows(rt, alloc, given))
 }

@@ -17,8 +17,8 @@ pub enum BytesFault {
     /// Memory ran out. Nothing was written.
     #[error("out of memory")]
     Memory,
-    /// The workers of a search gave no answer, for the cause with this number: 1 where their number is out of range, 3 where a book of
-    /// another scenario came back, 4 where all tickets were given and a set is open. Nothing was written.
+    /// The workers of a search gave no answer, for the cause with this number: 1 where their number is out of 1..=32, 4 where all tickets
+    /// were given and a set is open. Nothing was written.
     #[error("the workers gave no answer: {0}")]
     Pool(u32),
 }

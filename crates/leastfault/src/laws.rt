@@ -13,14 +13,16 @@ ghost use Rattle.leastfault.specs.Answers.{AreLeastSets, IsAnswer, IsLeast};
 ghost use Rattle.leastfault.specs.Commands.{HasOneEnd, IsCertified};
 ghost use Rattle.leastfault.specs.Protocols.{IsProtocolReply};
 ghost use Rattle.leastfault.specs.Replies.{RepliesAll, RepliesReport};
-ghost use Rattle.leastfault.specs.Replies.{HandsOut, HasOneReply, IsAllReply, IsAnswerReply, IsCheckReply, IsRunReply, IsSearchReply, IsTreeText};
+ghost use Rattle.leastfault.specs.Replies.{HandsOut, HasOneReply, HasOneStatus, IsAllReply, IsAnswerReply, IsCheckReply, IsRunReply, IsSearchReply, IsTreeText};
 ghost use Rattle.leastfault.specs.Reports.{yes_line};
+ghost use Rattle.leastfault.specs.Shown.{HasOneShown, IsDrawnReply, IsShownReply, NamesOnce};
 ghost use Rattle.leastfault.specs.Why.{IsWhyReply};
 
 use lf_faults::{FaultSpec, orders_are_total};
 use lf_protocol_file::refusals_are_one;
 use lf_trace::names_are_one;
 use lf_tree::texts_are_json;
+use lf_words::Shown;
 
 /// A scenario has at most one answer. Every allowed set with fewer faults than the answer reaches the outcome; where the answer is none,
 /// every allowed set does.
@@ -63,6 +65,28 @@ pub fn replies_are_one(faults: &str)
 {
     orders_are_total();
     names_are_one(faults);
+}
+
+/// A text has at most one reply of a run that is told as it is asked, by the seed or where notes arrive as words say: its trace, with rules or
+/// without, what changes in it, and the lines in which it differs from another run. Of a JSON document and of a picture, whose texts no
+/// contract tells, the status is one, and so are the refusals. So it is whichever protocol is known besides the shipped ones.
+pub fn shown_replies_are_one(shown: &Shown, faults: &str)
+    ensures shown { (known : Option Declared) (delays : Option (List ℕ)) (text : List ℕ) →
+        HasOneShown shown.now (IsShownReply known shown.now delays faults.now text) }
+    ensures drawn { (known : Option Declared) (delays : Option (List ℕ)) (text : List ℕ) → HasOneStatus (IsDrawnReply known delays faults.now text) }
+{
+    names_are_one(faults);
+    names_once(shown);
+}
+
+/// The words for the set beside a run name one set at most.
+fn names_once(shown: &Shown)
+    ensures { NamesOnce shown.now }
+{
+    match shown {
+        Shown::Beside(words) => names_are_one(words.as_str()),
+        Shown::Whole | Shown::Rules | Shown::Changes | Shown::Json => (),
+    }
 }
 
 /// The texts of a scenario and of a tree have at most one reply of a check, with one status.

@@ -11,12 +11,15 @@ mod certified;
 mod checking;
 mod commands;
 mod delayed;
+mod delivering;
 mod engine;
 mod fault;
 mod known;
 mod laws;
 mod least;
 mod made;
+mod named;
+mod places;
 mod protocol;
 mod reading;
 mod replies;
@@ -25,38 +28,32 @@ mod ruled;
 mod sending;
 mod shown;
 mod telling;
-mod watched;
 mod why;
 mod workers;
 
-pub use answer::{merged_answer, merged_watched, plain_answer};
+pub use answer::plain_answer;
 pub use answering::{Wanted, answer_reply, search_reply};
-pub use certified::{certified_known, search_certified};
-pub use commands::{certificate_file, execute, tree_file};
-pub use delayed::every_delay_reply;
+pub use commands::{Executed, execute};
 pub use engine::{
-    all_bytes, all_shared, answer_bytes, check_bytes, check_bytes_rows, protocol_bytes, run_bytes,
-    search_bytes, search_shared,
+    all_bytes, all_shared, check_bytes, check_bytes_rows, run_bytes, search_bytes, search_shared,
 };
 pub use fault::BytesFault;
-pub use known::{
-    answer_known, check_known, read_known, run_known, run_rules, search_known, shared_known,
-    why_known,
-};
+pub use known::read_known;
 pub use laws::{
     answers_are_one, check_replies_are_one, least_sets_are_one, protocol_replies_are_one,
-    replies_are_one, yes_is_the_answer,
+    replies_are_one, shown_replies_are_one, yes_is_the_answer,
 };
 pub use least::plain_all;
 pub use lf_check::{Reason, Verdict, check};
 pub use lf_faults::{Fault, FaultSet, Parts};
 pub use lf_protocol_file::{ProtocolError, ProtocolFile, read_protocol};
 pub use lf_scenario::{Key, LONGEST, Scenario, ScenarioError, read};
-pub use lf_streams::{Failed, FromRead, Sink, Source, ToWrite};
+pub use lf_streams::{Failed, Files, FromRead, Place, Sink, Source, ToWrite};
 pub use lf_tree::{LONGEST_TREE, Tree, TreeFault, read_tree, to_text};
 pub use lf_watch::{NoWatch, Progress, Watch};
 pub use lf_words::{Asked, Shown, Unasked, asked};
+pub use named::CommandTexts;
+pub use places::{certificate_file, place_of, tree_file};
 pub use protocol::protocol_refusal;
-pub use replies::{all_report, full_line, judgement, refusal, report, tree_refusal};
+pub use replies::{all_report, refusal, report};
 pub use reply::{Certified, Reply, Searched};
-pub use watched::{answer_watched, check_watched, search_watched, shared_watched};

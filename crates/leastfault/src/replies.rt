@@ -87,7 +87,7 @@ fn push_fault(alloc: Global, fault: &Fault, text: &mut String) -> Result<(), All
 }
 
 /// The line of a level that is too full: `full LEVEL COUNT`, with the number of faults of its sets and the number of these.
-pub fn full_line(alloc: Global, level: u32, count: u64) -> Result<String, AllocError>
+pub(crate) fn full_line(alloc: Global, level: u32, count: u64) -> Result<String, AllocError>
     ensures { IfOk result (λ text. string_bytes text ≡ full_line level count) }
 {
     format!(in alloc; "full {level} {count}\n")
@@ -115,7 +115,7 @@ pub fn refusal(alloc: Global, error: ScenarioError) -> Result<String, AllocError
 }
 
 /// The line of a certificate's text that is refused: `refused tree NUMBER`.
-pub fn tree_refusal(alloc: Global, fault: TreeFault) -> Result<String, AllocError>
+pub(crate) fn tree_refusal(alloc: Global, fault: TreeFault) -> Result<String, AllocError>
     ensures { IfOk result (λ text. string_bytes text ≡ tree_refusal fault) }
 {
     tree_line(alloc, fault.number())
@@ -130,7 +130,7 @@ fn tree_line(alloc: Global, number: u32) -> Result<String, AllocError>
 
 /// The line of a verdict: `yes`, or `no REASON PATH` with the reason's number and the way from the root to the place that is
 /// wrong.
-pub fn judgement(alloc: Global, verdict: &Verdict) -> Result<String, AllocError>
+pub(crate) fn judgement(alloc: Global, verdict: &Verdict) -> Result<String, AllocError>
     ensures { IfOk result (λ text. string_bytes text ≡ judgement verdict.now) }
 {
     match verdict {

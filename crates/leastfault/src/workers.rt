@@ -1,13 +1,11 @@
 //! The replies of searches by several workers, before they are written.
 
-ghost use Rattle.std.specs.Prelude.{ℕ, IfOk};
+ghost use Rattle.std.specs.Prelude.{◌≡◌, ℕ, IfOk};
 ghost use Rattle.std.specs.Arc.{arc_value};
-ghost use Rattle.lf_pool.specs.Solved.{AreFoundIn, IsFoundIn, IsFullBook, IsRefused};
-ghost use Rattle.lf_scenario.specs.declared.scenario.Scenario.{Scenario};
-ghost use Rattle.leastfault.specs.declared.answering.Wanted.{Wanted};
+ghost use Rattle.lf_pool.specs.Solved.{AreFoundIn, IsFoundIn, IsFullBook};
 ghost use Rattle.leastfault.specs.declared.answering.Wanted.TheVariants as wanted;
 ghost use Rattle.leastfault.specs.Known.{known_of};
-ghost use Rattle.leastfault.specs.Searches.{IsEndFor, IsEndIn, IsFoundFor};
+ghost use Rattle.leastfault.specs.Searches.{IsEndFor, IsEndIn, IsFoundFor, fault_of};
 
 use crate::answering::{Wanted, full, refused, search_status};
 use crate::fault::BytesFault;
@@ -166,9 +164,9 @@ fn full_found(
     Ok(without_tree(told.text, told.value))
 }
 
-/// Why a search by several workers gives no reply.
+/// Why a search by several workers gives no reply: want of memory, or a cause with its number.
 fn fault_of(error: &PoolError) -> BytesFault
-    ensures { (wanted : Wanted) (s : Scenario) (workers : ℕ) → IsRefused s workers error.now → IsEndFor wanted workers s (Err result) }
+    ensures { result ≡ fault_of error.now }
 {
     match error {
         PoolError::Memory => BytesFault::Memory,

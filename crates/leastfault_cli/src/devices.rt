@@ -45,7 +45,7 @@ pub(crate) fn opened(rt: &HostRuntime, file: Option<&str>) -> Result<Text, Stop>
     let input = match file {
         None => Input::Nothing,
         Some("-") => Input::Standard(rt.stdin()),
-        Some(file) => file_opened(rt, file)?,
+        Some(file) => opened_input(rt, file)?,
     };
     Ok(Kept::new(rt.alloc(), FromRead::new(input)))
 }
@@ -56,13 +56,13 @@ pub(crate) fn opened_by_name(rt: &HostRuntime, file: Option<&str>) -> Result<Tex
 {
     let input = match file {
         None => Input::Nothing,
-        Some(file) => file_opened(rt, file)?,
+        Some(file) => opened_input(rt, file)?,
     };
     Ok(Kept::new(rt.alloc(), FromRead::new(input)))
 }
 
 /// A file that can be read.
-fn file_opened(rt: &HostRuntime, file: &str) -> Result<Input, Stop> {
+pub(crate) fn opened_input(rt: &HostRuntime, file: &str) -> Result<Input, Stop> {
     match File::open(rt, file) {
         Ok(file) => Ok(Input::File(file)),
         Err(error) => Err(Stop::at(rt.alloc(), BytesFault::Read, file, &error)),
@@ -70,15 +70,7 @@ fn file_opened(rt: &HostRuntime, file: &str) -> Result<Input, Stop> {
 }
 
 /// Makes a file that has these bytes and no others.
-pub(crate) fn put(rt: &HostRuntime, file: &str, bytes: &[u8]) -> Result<(), Stop> {
-    match write_file(rt, file, bytes) {
-        Ok(()) => Ok(()),
-        Err(error) => Err(Stop::at(rt.alloc(), BytesFault::Write, file, &error)),
-    }
-}
-
-/// Makes a file that has these bytes and no others.
-fn write_file(rt: &HostRuntime, file: &str, bytes: &[u8]) -> io::Result<()> {
+pub(crate) fn write_file(rt: &HostRuntime, file: &str, bytes: &[u8]) -> io::Result<()> {
     File::create(rt, file)?.write_all(bytes)
 }
 

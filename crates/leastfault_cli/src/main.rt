@@ -42,28 +42,31 @@
 //! with the device on the next line, or `pool NUMBER`.
 //!
 //! Where the status is 2, standard error says in words what is wrong with what was refused. Where a protocol file is one, it says what the
-//! file has, and what in it looks like a slip. Of a search, `why` and a run with `--protocol` it says where the run without faults passes a range or
-//! replaces a note, and of an answer over every delay that a seed plays no part. Else it stays empty where all is well. But where it is a terminal, a search, an answer, `why` or a
-//! check that takes longer than a second says on one line there how far it has come, and erases that line before it replies. With
-//! `--quiet` it doesn't.
+//! file has, and what in it looks like a slip. Of a search, `why` and a run with `--protocol` it says which rules no node has, and where the
+//! run without faults passes a range or replaces a note, and of an answer over every delay that a seed plays no part. Else it stays empty where
+//! all is well. But where it is a terminal, a search, an answer, `why` or a check that takes longer than a second says on one line there how far
+//! it has come, and erases that line before it replies. With `--quiet` it doesn't.
 #![tactic(auto)]
 
 mod combination;
 mod devices;
+mod disk;
 mod json_line;
 mod kept;
 mod line;
 mod report;
+mod same_file;
 mod stop;
 mod sweep_words;
 mod sweeping;
 mod tally;
 mod varying;
 
-use devices::{Text, name_of, opened, opened_by_name, print, put};
+use devices::print;
+use disk::Disk;
 use leastfault::{
-    Asked, BytesFault, Certified, ProtocolFile, Reply, Scenario, Shown, TreeFault, Unasked, asked,
-    certificate_file, execute, read_known, read_protocol, tree_file,
+    Asked, BytesFault, Certified, Executed, ProtocolFile, Reply, Scenario, Shown, TreeFault,
+    Unasked, asked, certificate_file, execute, read_known, read_protocol,
 };
 use lf_hints::{
     Wanted, all_hint, certificate_hint, check_hint, delays_hint, judged_hint, late_hint,
@@ -74,6 +77,7 @@ use lf_own_hints::{own_hint, run_notes};
 use lf_protocol_hints::{protocol_hint, protocol_notes};
 use lf_words::shell_word;
 use line::Line;
+use same_file::is_same_file;
 use std::alloc::{AllocError, Global};
 use std::env;
 use std::io::{ErrorKind, IsTerminal};
@@ -139,49 +143,39 @@ fn told(rt: &HostRuntime, unasked: &Unasked) -> Result<u8, Stop> {
     Ok(unasked.status())
 }
 
-/// The files that a command reads.
-#[derive(Drop)]
-struct Files {
-    /// That of the protocol besides the shipped ones.
-    protocol: Text,
-    scenario: Text,
-    /// That of the certificate.
-    tree: Text,
-}
-
 /// Does what is asked with the files that are named. The answer is the status.
 fn done(
     rt: &HostRuntime,
     threads: &(impl Threads + Wait + Clock + Sync),
     asked: &Asked,
 ) -> Result<u8, Stop> {
-    let mut protocol = opened_by_name(rt, asked.protocol_file())?;
-    let mut scenario = opened(rt, Some(asked.file()))?;
-    let mut tree = opened(rt, tree_file(asked))?;
-    let line = Line::new(rt, is_quiet(asked));
-    let ended = execute(
-        threads,
-        rt.alloc(),
-        asked,
-        &mut protocol,
-        &mut scenario,
-        &mut tree,
-        &line,
-    );
-    line.erase();
-    let files = Files {
-        protocol,
-        scenario,
-        tree,
-    };
-    match ended {
-        Ok(reply) => {
-            written(rt, asked, &reply)?;
-            hint(rt, asked, &reply, &files);
-            Ok(reply.value.status)
-        }
-        Err(fault) => Err(stopped(rt.alloc(), fault, asked, &files)),
+    if let Some(unasked) = overwriting(rt, asked) {
+        return told(rt, &unasked);
     }
+    let line = Line::new(rt, is_quiet(asked));
+    let mut disk = Disk::new(rt, &line);
+    let ended = execute(threads, rt.alloc(), asked, &mut disk, &line);
+    line.erase();
+    match ended {
+        Ok(done) => {
+            hint(rt, asked, &done);
+            Ok(done.reply.value.status)
+        }
+        Err(fault) => Err(disk.stopped(fault)),
+    }
+}
+
+/// The refusal of a certificate that would be written over the scenario or the protocol, by another name of the same file.
+fn overwriting(rt: &HostRuntime, asked: &Asked) -> Option<Unasked> {
+    let tree = certificate_file(asked)?;
+    if asked.file() != "-" && is_same_file(rt, tree, asked.file()) {
+        return Some(Unasked::overwriting(rt.alloc(), tree, "scenario"));
+    }
+    let protocol = asked.protocol_file()?;
+    if is_same_file(rt, tree, protocol) {
+        return Some(Unasked::overwriting(rt.alloc(), tree, "protocol"));
+    }
+    None
 }
 
 /// Whether nothing is to be told on the way.
@@ -195,48 +189,26 @@ fn is_quiet(asked: &Asked) -> bool {
     }
 }
 
-/// Why what was asked for wasn't done: a fault, and the file that couldn't be read with the system's reason, where one couldn't.
-fn stopped(alloc: Global, fault: BytesFault, asked: &Asked, files: &Files) -> Stop {
-    let named = asked.protocol_file().unwrap_or("-");
-    let judged = tree_file(asked).unwrap_or("-");
-    if let Some(error) = files.protocol.device().error() {
-        Stop::at(alloc, fault, named, error)
-    } else if let Some(error) = files.scenario.device().error() {
-        Stop::at(alloc, fault, name_of(asked.file()), error)
-    } else if let Some(error) = files.tree.device().error() {
-        Stop::at(alloc, fault, name_of(judged), error)
-    } else {
-        Stop::from(fault)
-    }
-}
-
-/// Writes the certificate into its file, where there is one, and then the reply to standard output.
-fn written(rt: &HostRuntime, asked: &Asked, reply: &Reply<Certified>) -> Result<(), Stop> {
-    if let (Some(file), Some(text)) = (certificate_file(asked), &reply.value.certificate) {
-        put(rt, file, text.as_slice())?;
-    }
-    print(rt, reply.text.as_str())
-}
-
 /// Says on standard error what is wrong with what was refused, or with a certificate, what a protocol file has, and on a terminal how to see
 /// what a set does that was found: as far as there is memory for it.
-fn hint(rt: &HostRuntime, asked: &Asked, reply: &Reply<Certified>, files: &Files) {
-    let (Some(protocol), Some(text), Some(certificate)) = (
-        files.protocol.bytes(),
-        files.scenario.bytes(),
-        files.tree.bytes(),
-    ) else {
-        return;
-    };
+fn hint(rt: &HostRuntime, asked: &Asked, done: &Executed) {
     let texts = Texts {
-        protocol,
-        scenario: text,
-        certificate,
+        protocol: bytes_of(&done.texts.protocol),
+        scenario: done.texts.scenario.as_slice(),
+        certificate: bytes_of(&done.texts.tree),
     };
-    if let Ok(words) = words_of(rt, asked, reply, &texts) {
+    if let Ok(words) = words_of(rt, asked, &done.reply, &texts) {
         if !words.is_empty() {
             let _told = eprintln!(rt; "{words}").is_ok();
         }
+    }
+}
+
+/// The bytes of a text, and none where there is none.
+fn bytes_of(text: &Option<Vec<u8>>) -> &[u8] {
+    match text {
+        Some(bytes) => bytes.as_slice(),
+        None => &[],
     }
 }
 
@@ -284,8 +256,8 @@ fn with_notes(
     Ok(notes)
 }
 
-/// Where the run without faults passes a range or replaces a note: of a search, a run or a picture of a protocol file's scenario, by its
-/// seed. Of an answer over every delay, that a seed plays no part.
+/// Which rules no node has, and where the run without faults passes a range or replaces a note: of a search, a run or a picture of a
+/// protocol file's scenario, by its seed. Of an answer over every delay, that a seed plays no part.
 fn notes_of(alloc: Global, asked: &Asked, texts: &Texts<'_>) -> Result<String, AllocError> {
     if let Asked::Answer {
         every_delay: true,

@@ -1,6 +1,7 @@
 //! Why the program ends without a whole reply.
 
 use leastfault::BytesFault;
+use lf_words::MOST_WORKERS;
 use std::alloc::Global;
 use std::io;
 use std::io::ErrorKind;
@@ -34,12 +35,20 @@ impl Stop {
         }
     }
 
+    /// Whether memory ran out.
+    pub(crate) fn is_memory(&self) -> bool {
+        self.fault == BytesFault::Memory
+    }
+
     /// Tells on standard error the word of the fault, and then the device.
     pub(crate) fn tell(&self, rt: &impl Eprint) {
         let printed = match self.fault {
             BytesFault::Read => eprintln!(rt; "read"),
             BytesFault::Write => eprintln!(rt; "write"),
             BytesFault::Memory => eprintln!(rt; "memory"),
+            BytesFault::Pool(1) => {
+                eprintln!(rt; "pool 1\nthe number of workers must be from 1 to {MOST_WORKERS}")
+            }
             BytesFault::Pool(number) => eprintln!(rt; "pool {number}"),
         };
         let _printed = printed.is_ok();

@@ -1,3 +1,4 @@
 pub mod Beside
 pub mod Changes
+pub mod Elsewhere
 pub mod First

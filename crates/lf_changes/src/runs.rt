@@ -172,7 +172,7 @@ impl<M: Worded> Comparing<'_, M> {
     }
 
     /// Adds how the note of a slot differs.
-    fn push_slot(
+    pub(crate) fn push_slot(
         &self,
         number: u32,
         from: u32,

@@ -1,7 +1,7 @@
 -- What the told delays of a run are.
-use Rattle.std.proofs.Common.{◌≡◌, ◌≢◌, ℕ, zero, suc, ◌+◌, ◌-◌, ◌<◌, ◌≤◌, Bool, true, false, ◌||◌, nat_eq, nat_lt, List, [], ◌∷◌, ◌++◌, length, refl, sym, ap, ◌∙◌, subst, arith, inl, inr, eq-eqb, ltb-true, lt-ltb}
+use Rattle.std.proofs.Common.{◌≡◌, ◌≢◌, ℕ, zero, suc, ◌-◌, ◌<◌, ◌≤◌, Bool, true, false, ◌||◌, nat_eq, nat_lt, List, [], ◌∷◌, ◌++◌, refl, sym, ap, ◌∙◌, subst, arith, inl, inr, eq-eqb, ltb-true, lt-ltb}
 use Rattle.std.specs.Prelude.{◌⊎◌, Option, Some, None, if◌then◌else◌}
-use Rattle.std.specs.List.{AllByRecursion, Contains}
+use Rattle.std.specs.List.{Contains}
 use Rattle.std.specs.Option.{option_to_list}
 use Rattle.std.proofs.lemmas.Bool.{cases_Bool, cases_eq, false_from_ne_true, eqb-true}
 use Rattle.lf_faults.specs.declared.fault.Parts.{Parts}
@@ -12,11 +12,11 @@ use Rattle.lf_latency.specs.Arrivals.{earliest}
 use Rattle.lf_list.proofs.Laws.{Contains-first, Contains-more, cases_in, each-from, each-in, none-in}
 use Rattle.lf_sim.specs.Runs.{World, each_below, sent}
 use Rattle.lf_delays.specs.declared.delay.Delay.{Delay}
-use Rattle.lf_delays.specs.Delays.{AreApart, IsNew}
+use Rattle.lf_delays.specs.Delays.{AreApart}
 use Rattle.lf_delays.specs.Told.{IsLate, late_note, late_sent, told, told_at, told_from, told_in}
 
 -- members of two lists, one after the other
-cases_append : {A : Type 0} (xs ys : List A) (x : A) → Contains (xs ++ ys) x → Contains xs x ⊎ Contains ys x
+pub cases_append : {A : Type 0} (xs ys : List A) (x : A) → Contains (xs ++ ys) x → Contains xs x ⊎ Contains ys x
 cases_append [] ys x h = inr h
 cases_append (y ∷ xs) ys x h = elim (cases_in y (xs ++ ys) x h) [
   | inl same ↦ inl (subst (Contains (y ∷ xs)) same (Contains-first y xs))
@@ -26,11 +26,11 @@ cases_append (y ∷ xs) ys x h = elim (cases_in y (xs ++ ys) x h) [
   ]
 ]
 
-append-right : {A : Type 0} (xs ys : List A) (x : A) → Contains ys x → Contains (xs ++ ys) x
+pub append-right : {A : Type 0} (xs ys : List A) (x : A) → Contains ys x → Contains (xs ++ ys) x
 append-right [] ys x h = h
 append-right (y ∷ xs) ys x h = Contains-more y (xs ++ ys) x (append-right xs ys x h)
 
-append-left : {A : Type 0} (xs ys : List A) (x : A) → Contains xs x → Contains (xs ++ ys) x
+pub append-left : {A : Type 0} (xs ys : List A) (x : A) → Contains xs x → Contains (xs ++ ys) x
 append-left [] ys x h = absurd (none-in x h)
 append-left (y ∷ xs) ys x h = elim (cases_in y xs x h) [
   | inl same ↦ subst (Contains (y ∷ xs ++ ys)) same (Contains-first y (xs ++ ys))

@@ -1,5 +1,5 @@
 -- A list of delays, read piece by piece.
-use Rattle.std.proofs.Common.{◌≡◌, ◌≢◌, ℕ, ◌+◌, ◌<◌, ◌≤◌, true, false, eqb, List, [], ◌∷◌, ◌++◌, length, map, Option, Some, None}
+use Rattle.std.proofs.Common.{◌≡◌, ◌≢◌, ℕ, ◌<◌, eqb, List, [], ◌∷◌, ◌++◌, length, map, Option, Some, None}
 use Rattle.std.proofs.Common.{append_assoc, length-append, refl, sym, ap, ◌∙◌, subst, arith}
 use Rattle.std.specs.Prelude.{MatchOption}
 use Rattle.std.specs.List.{AllByRecursion, Contains, join_with_byte, slice_split}
@@ -13,7 +13,7 @@ use Rattle.lf_latency.specs.declared.arrivals.Arrivals.{Arrivals}
 use Rattle.lf_latency.specs.declared.network.Timing.{Timing}
 use Rattle.lf_latency.specs.Arrivals.{IsTiming}
 use Rattle.lf_delays.specs.declared.delay.Delay.{Delay}
-use Rattle.lf_delays.specs.Delays.{AreApart, AreDelays, IsDelay, IsNew, IsRead, IsShort, Names, delay_text, delayed, list_text}
+use Rattle.lf_delays.specs.Delays.{AreDelays, IsDelay, IsNew, IsRead, IsShort, delay_text, delayed, list_text}
 use Rattle.lf_delays.proofs.Lists.{apart-push, each-push}
 use Rattle.lf_delays.proofs.Texts.{delay-short, no_comma, same_text}
 

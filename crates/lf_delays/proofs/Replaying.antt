@@ -1,7 +1,7 @@
 -- The told delays of a run make it again.
-use Rattle.std.proofs.Common.{◌≡◌, ◌≢◌, ℕ, ◌+◌, ◌<◌, ◌≤◌, true, false, List, [], ◌∷◌, refl, sym, ap, ◌∙◌, subst, arith, inl, inr}
+use Rattle.std.proofs.Common.{◌≡◌, ◌≢◌, ℕ, ◌<◌, ◌≤◌, true, false, List, [], ◌∷◌, refl, sym, ap, ◌∙◌, arith, inl, inr}
 use Rattle.std.specs.Prelude.{Some, if◌then◌else◌}
-use Rattle.std.specs.List.{AllByRecursion, Contains}
+use Rattle.std.specs.List.{Contains}
 use Rattle.std.proofs.lemmas.Bool.{cases_lt, false_from_ne_true}
 use Rattle.lf_arrivals.specs.Answers.{IsOn}
 use Rattle.lf_arrivals.specs.Windows.{AgreeUpTo, under}
@@ -19,13 +19,13 @@ use Rattle.lf_sim.specs.Outs.{note_to}
 use Rattle.lf_sim.specs.Runs.{World, did, sent, view}
 use Rattle.lf_delays.specs.declared.delay.Delay.{Delay}
 use Rattle.lf_delays.specs.Delays.{AreApart, AreDelays, IsDelay, delayed, is_of, named_or}
-use Rattle.lf_delays.specs.Told.{IsLate, told}
+use Rattle.lf_delays.specs.Told.{told}
 use Rattle.lf_delays.proofs.Late.{late_in, told-late, told_apart}
 use Rattle.lf_delays.proofs.Tables.{is_of-at, is_of-is, slot_same}
 
 module _ (others : ℕ → ℕ → ℕ → ℕ) where
   -- what a member names, where no slot stands twice
-  named-member : (ds : List Delay) (d : Delay) → AreApart ds → Contains ds d → named_or others ds d.slot.from d.slot.to d.slot.step ≡ d.at
+  pub named-member : (ds : List Delay) (d : Delay) → AreApart ds → Contains ds d → named_or others ds d.slot.from d.slot.to d.slot.step ≡ d.at
   named-member [] d apart h = absurd (none-in d h)
   named-member (x ∷ xs) d apart h = elim (cases_in x xs d h) [
     | inl same ↦
@@ -41,7 +41,7 @@ module _ (others : ℕ → ℕ → ℕ → ℕ) where
   ]
 
   -- and what is named of a slot that no member is of
-  named-none : (ds : List Delay) (n m t : ℕ) → ((d : Delay) → Contains ds d → is_of n m t d ≡ true → ⊥) → named_or others ds n m t ≡ others n m t
+  pub named-none : (ds : List Delay) (n m t : ℕ) → ((d : Delay) → Contains ds d → is_of n m t d ≡ true → ⊥) → named_or others ds n m t ≡ others n m t
   named-none [] n m t none = refl
   named-none (x ∷ xs) n m t none =
       ap (λ b. if b then x.at else named_or others xs n m t) (false_from_ne_true (is_of n m t x) (none x (Contains-first x xs)))

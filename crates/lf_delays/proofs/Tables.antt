@@ -1,5 +1,5 @@
 -- Tables of arrivals, one step changed.
-use Rattle.std.proofs.Common.{◌≡◌, ◌≢◌, ℕ, ◌+◌, ◌-◌, ◌*◌, ◌/◌, ◌%◌, ◌<◌, ◌≤◌, Bool, true, false, ◌&&◌, nat_le, nat_eq, List, [], ◌∷◌, ◌++◌, length, get_or, take, slice_set}
+use Rattle.std.proofs.Common.{◌≡◌, ℕ, ◌+◌, ◌/◌, ◌%◌, ◌<◌, ◌≤◌, true, false, ◌&&◌, nat_le, nat_eq, List, [], ◌∷◌, ◌++◌, length, get_or, take, slice_set}
 use Rattle.std.proofs.Common.{refl, sym, ap, ◌∙◌, subst, arith, inl, inr, eq-eqb}
 use Rattle.std.specs.Prelude.{if◌then◌else◌}
 use Rattle.std.specs.List.{AllByRecursion}
@@ -10,7 +10,7 @@ use Rattle.lf_faults.specs.declared.text.Slot.{Slot}
 use Rattle.lf_latency.specs.declared.arrivals.Arrivals.{Arrivals}
 use Rattle.lf_latency.specs.declared.links.Links.{Links}
 use Rattle.lf_latency.specs.declared.network.Timing.{Timing}
-use Rattle.lf_latency.specs.Arrivals.{IsSlot, IsArrivals, IsAssignment, IsInWindow, arrival_in, earliest, place_of, with_arrival}
+use Rattle.lf_latency.specs.Arrivals.{IsSlot, IsArrivals, IsAssignment, IsInWindow, earliest, place_of, with_arrival}
 use Rattle.lf_latency.specs.Links.{is_pair}
 use Rattle.lf_latency.specs.Table.{arrivals_by, entry_of, table_by}
 use Rattle.lf_latency.proofs.Laws.{earliest_is, table_at, table_is}

@@ -1,11 +1,12 @@
 //! What the definitions of this crate promise, for every world: calls that compute nothing, whose contracts are the laws.
 
-ghost use Rattle.std.specs.Prelude.{◌≡◌, ◌↔◌, ◌≤◌, ℕ, List};
+ghost use Rattle.std.specs.Prelude.{◌≡◌, ◌↔◌, ◌≤◌, ℕ, false, List};
 ghost use Rattle.std.specs.List.{Contains};
 ghost use Rattle.lf_arrivals.specs.Answers.{IsOn};
 ghost use Rattle.lf_arrivals.specs.Windows.{under};
 ghost use Rattle.lf_delays.specs.declared.delay.Delay.{Delay};
 ghost use Rattle.lf_delays.specs.Delays.{AreDelays, delayed, list_text};
+ghost use Rattle.lf_delays.specs.Tight.{AreNeeded, IsTight, reaches_by};
 ghost use Rattle.lf_delays.specs.Told.{IsLate, told};
 ghost use Rattle.lf_faults.specs.declared.fault.Parts.{Parts};
 ghost use Rattle.lf_latency.specs.declared.links.Links.{Links};
@@ -41,4 +42,14 @@ pub fn told_delays_replay<State, Note, Fact>()
     ensures notes { (timing : Timing) (w : World State Note Fact) (faults : List Parts) (n m t : ℕ) →
         IsOn timing w → IsAssignment timing w.arrival → t ≤ w.horizon →
         sent (under w (arrival_in (delayed timing (told w faults timing.links)))) faults n m t ≡ sent w faults n m t }
+{}
+
+/// Delays of a network by which the set misses, and of which none can be spared, are the late notes of the run that they make, which is tight.
+pub fn needed_delays_are_late<State, Note, Fact>()
+    ensures late { (timing : Timing) (w : World State Note Fact) (faults : List Parts) (formula : Formula Fact) (ds : List Delay) →
+        IsOn timing w → AreDelays timing ds → reaches_by timing w faults formula ds ≡ false → AreNeeded timing w faults formula ds →
+        (d : Delay) → (Contains (told (under w (arrival_in (delayed timing ds))) faults timing.links) d ↔ Contains ds d) }
+    ensures tight { (timing : Timing) (w : World State Note Fact) (faults : List Parts) (formula : Formula Fact) (ds : List Delay) →
+        IsOn timing w → AreDelays timing ds → reaches_by timing w faults formula ds ≡ false → AreNeeded timing w faults formula ds →
+        IsTight timing (under w (arrival_in (delayed timing ds))) faults formula }
 {}

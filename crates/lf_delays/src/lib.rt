@@ -10,6 +10,6 @@ mod reading;
 mod telling;
 
 pub use delay::{Delay, push_delays};
-pub use facts::{delays_are_one, told_delays_are_late, told_delays_replay};
-pub use reading::read_delays;
+pub use facts::{delays_are_one, needed_delays_are_late, told_delays_are_late, told_delays_replay};
+pub use reading::{arrivals_of, read_delays};
 pub use telling::told_delays;

@@ -119,8 +119,8 @@ fn is_new(delays: &[Delay], delay: &Delay) -> bool
     true
 }
 
-/// Each note as early as it can be, but for these.
-fn arrivals_of(network: &Network, delays: &[Delay]) -> Arrivals
+/// The arrivals by these delays of the network: each note as early as it can be, but for these.
+pub fn arrivals_of(network: &Network, delays: &[Delay]) -> Arrivals
     requires { AreDelays network.now delays.now }
     ensures value { result ≡ delayed network.now delays.now }
     ensures arrivals { IsArrivals network.now result }

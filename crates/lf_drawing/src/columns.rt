@@ -3,9 +3,10 @@
 ghost use Rattle.std.specs.Prelude.{◌<◌, ◌≤◌};
 ghost use Rattle.lf_sim.specs.Settings.{IsRun, horizon_of, nodes_of, world_of};
 
-use crate::escape::push_words;
+use crate::escape::push_label;
 use crate::layout::Layout;
 use crate::marks::{Mark, Marks};
+use crate::style::Look;
 use lf_outcome::Reach;
 use lf_sim::{Run, Setting};
 use lf_trace::Worded;
@@ -22,37 +23,29 @@ pub(crate) struct Column<'a, M: Worded> {
 }
 
 impl<M: Worded> Column<'_, M> {
-    /// Adds the ground of the column: what the outcome rests on, and when the node is down.
-    pub(crate) fn push_ground(
-        &self,
-        reach: &Option<Reach>,
-        text: &mut String,
-    ) -> Result<(), AllocError> {
-        if let Some(reach) = reach {
-            self.push_block("rest", 0, reach.at(self.node), text)?;
-        }
+    /// Adds a block beside the steps on which the outcome rests.
+    pub(crate) fn push_rest(&self, reach: &Reach, text: &mut String) -> Result<(), AllocError> {
+        self.push_block(0, reach.at(self.node), text)
+    }
+
+    /// Adds a block beside each step at which the node is down.
+    pub(crate) fn push_downs(&self, text: &mut String) -> Result<(), AllocError> {
         for past in 0..self.run.horizon() {
             if !self.run.up(self.node, past + 1) {
-                self.push_block("down", past + 1, past + 1, text)?;
+                self.push_block(past + 1, past + 1, text)?;
             }
         }
         Ok(())
     }
 
-    /// Adds a block of a class from one step to another.
-    fn push_block(
-        &self,
-        class: &str,
-        first: u32,
-        last: u32,
-        text: &mut String,
-    ) -> Result<(), AllocError> {
+    /// Adds a block from one step to another.
+    fn push_block(&self, first: u32, last: u32, text: &mut String) -> Result<(), AllocError> {
         let half = self.layout.row() / 2;
         let top = self.layout.place(self.node, first);
         let end = self.layout.place(self.node, last);
         writeln!(
             text,
-            "<rect class='{class}' x='{}' y='{}' width='{}' height='{}'/>",
+            "<rect x='{}' y='{}' width='{}' height='{}'/>",
             top.x.saturating_sub(14),
             top.y.saturating_sub(half),
             self.layout.pitch().saturating_sub(8),
@@ -62,61 +55,68 @@ impl<M: Worded> Column<'_, M> {
         )
     }
 
-    /// Adds the line of the node's life, and its head.
+    /// Adds the line of the node's life.
     pub(crate) fn push_life(&self, text: &mut String) -> Result<(), AllocError> {
         let top = self.layout.place(self.node, 0);
         writeln!(
             text,
-            "<path class='life' d='M{} {}V{}'/>",
+            "<path d='M{} {}V{}'/>",
             top.x,
             top.y,
             self.layout.floor()
-        )?;
+        )
+    }
+
+    /// Adds the head of the column.
+    pub(crate) fn push_head(&self, text: &mut String) -> Result<(), AllocError> {
+        let top = self.layout.place(self.node, 0);
         writeln!(
             text,
-            "<text class='head' x='{}' y='{}'>node {}</text>",
+            "<text x='{}' y='{}'>node {}</text>",
             top.x,
             top.y.saturating_sub(18),
             self.node
         )
     }
 
-    /// Adds the marks of the points at which the outcome looks.
-    pub(crate) fn push_marks(&self, marks: &Marks, text: &mut String) -> Result<(), AllocError> {
+    /// Adds a ring around each point that has this mark.
+    pub(crate) fn push_rings(
+        &self,
+        marks: &Marks,
+        mark: Mark,
+        text: &mut String,
+    ) -> Result<(), AllocError> {
         for step in 0..=self.run.horizon() {
-            match marks.at(self.node, step) {
-                Mark::Passed => (),
-                Mark::Asked => self.push_ring("asked", step, text)?,
-                Mark::Fails => self.push_ring("fails", step, text)?,
+            if marks.at(self.node, step) == mark {
+                let place = self.layout.place(self.node, step);
+                writeln!(text, "<circle cx='{}' cy='{}' r='6'/>", place.x, place.y)?;
             }
         }
         Ok(())
     }
 
-    /// Adds a ring around a point.
-    fn push_ring(&self, class: &str, step: u32, text: &mut String) -> Result<(), AllocError> {
-        let place = self.layout.place(self.node, step);
-        writeln!(
-            text,
-            "<circle class='{class}' cx='{}' cy='{}' r='6'/>",
-            place.x, place.y
-        )
-    }
-
-    /// Adds the node's states, each where it differs in words from the one before.
-    pub(crate) fn push_states(&self, alloc: Global, text: &mut String) -> Result<(), AllocError> {
+    /// Adds what has this look of the node's states: each stands where it differs in words from the one before, and where the node stops or goes on.
+    pub(crate) fn push_states(
+        &self,
+        alloc: Global,
+        look: Look,
+        text: &mut String,
+    ) -> Result<(), AllocError> {
         let mut before = String::new(alloc);
+        let mut was_down = false;
         for step in 0..=self.run.horizon() {
             let words = self.words_at(alloc, step)?;
-            if words.as_str() != before.as_str() {
-                self.push_state(words.as_str(), step, text)?;
+            let is_down = self.is_down(step);
+            if is_down != was_down || words.as_str() != before.as_str() {
+                self.push_state(words.as_str(), step, look, text)?;
                 before = words;
+                was_down = is_down;
             }
         }
         Ok(())
     }
 
-    /// The words of the node's state after a step.
+    /// The words of the node's state after a step, or what has stopped it.
     fn words_at(&self, alloc: Global, step: u32) -> Result<String, AllocError>
         requires { step ≤ horizon_of self.now.run.now }
     {
@@ -139,19 +139,28 @@ impl<M: Worded> Column<'_, M> {
         step != 0 && !self.run.up(self.node, step)
     }
 
-    /// Adds the words of a state, and a dot where it begins.
-    fn push_state(&self, words: &str, step: u32, text: &mut String) -> Result<(), AllocError> {
+    /// Adds of a state that begins at a step what has this look: a dot, or its words or their rim.
+    fn push_state(
+        &self,
+        words: &str,
+        step: u32,
+        look: Look,
+        text: &mut String,
+    ) -> Result<(), AllocError> {
         let place = self.layout.place(self.node, step);
-        let class = if self.is_down(step) { "fault" } else { "state" };
-        write!(
-            text,
-            "<circle class='dot' cx='{}' cy='{}' r='2.5'/><text class='{class}' x='{}' y='{}'>",
-            place.x,
-            place.y,
-            place.x.saturating_add(9),
-            place.y.saturating_sub(2)
-        )?;
-        push_words(words, self.layout.room(), text)?;
-        text.push_str("</text>\n")
+        if look == Look::Dot {
+            writeln!(text, "<circle cx='{}' cy='{}' r='2.5'/>", place.x, place.y)
+        } else if look == Look::Rim || (look == Look::Stopped) == self.is_down(step) {
+            write!(
+                text,
+                "<text x='{}' y='{}'>",
+                place.x.saturating_add(9),
+                place.y.saturating_sub(2)
+            )?;
+            push_label(words, self.layout.room(), text)?;
+            text.push_str("</text>\n")
+        } else {
+            Ok(())
+        }
     }
 }

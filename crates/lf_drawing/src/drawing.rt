@@ -8,14 +8,17 @@ use crate::columns::Column;
 use crate::escape::push_words;
 use crate::labels::Saying;
 use crate::layout::Layout;
-use crate::marks::Marks;
-use crate::style::STYLE;
+use crate::marks::{Mark, Marks};
+use crate::style::{Look, STYLE, close};
+use crate::title::{lines_of, push_title, title};
 use lf_cone::sharp;
-use lf_faults::{FaultSet, fault_text};
 use lf_outcome::{Formula, Reach, evidence, holds};
 use lf_sim::{Run, Setting};
 use lf_trace::Worded;
 use std::alloc::{AllocError, Global};
+
+/// How many lines the legend has.
+const LEGEND_LINES: u32 = 3;
 
 /// A run of a setting, to be drawn.
 #[derive(Drop)]
@@ -36,13 +39,15 @@ pub fn picture<M: Worded>(
     requires { IsRun (world_of setting.now) run.now }
 {
     let longest = longest_label(alloc, setting, run)?;
+    let columns = Layout::new(run.nodes(), run.horizon(), longest);
+    let reaches = holds(setting, formula, run);
+    let title = title(alloc, &run.set(), reaches, columns.title_room())?;
     let drawing = Drawing {
         setting,
         run,
-        layout: Layout::new(run.nodes(), run.horizon(), longest),
+        layout: columns.with_title(lines_of(title.as_str())),
     };
     let reach = rest(alloc, setting, formula, run)?;
-    let title = title(alloc, &run.set(), holds(setting, formula, run))?;
     let mut text = String::new(alloc);
     drawing.push_head(title.as_str(), &mut text)?;
     drawing.push_grounds(&reach, &mut text)?;
@@ -54,9 +59,16 @@ pub fn picture<M: Worded>(
         layout: drawing.layout,
     };
     arrows.push(&mut text)?;
-    drawing.push_columns(alloc, &Marks::of(setting, formula, run), &mut text)?;
-    drawing.push_sayings(alloc, &mut text)?;
-    drawing.push_legend(&mut text)?;
+    let marks = Marks::of(setting, formula, run);
+    drawing.push_rings(&marks, Mark::Asked, Look::Asked, &mut text)?;
+    drawing.push_rings(&marks, Mark::Fails, Look::Fails, &mut text)?;
+    drawing.push_states(alloc, Look::Dot, &mut text)?;
+    drawing.push_states(alloc, Look::Rim, &mut text)?;
+    drawing.push_sayings(alloc, Look::Rim, &mut text)?;
+    drawing.push_states(alloc, Look::State, &mut text)?;
+    drawing.push_states(alloc, Look::Stopped, &mut text)?;
+    drawing.push_sayings(alloc, Look::Say, &mut text)?;
+    drawing.push_legend(reaches, &mut text)?;
     text.push_str("</svg>\n")?;
     Ok(text)
 }
@@ -74,22 +86,6 @@ fn rest<M: Worded>(
         Some(points) => Ok(Some(sharp(setting, run, points.as_slice()))),
         None => Ok(None),
     }
-}
-
-/// The title: the faults, and what comes of them.
-fn title(alloc: Global, set: &FaultSet, reaches: bool) -> Result<String, AllocError> {
-    let mut title = String::new(alloc);
-    for (i, fault) in set.items().iter().enumerate() {
-        if i > 0 {
-            title.push_str(", ")?;
-        }
-        title.push_str(fault_text(alloc, fault)?.as_str())?;
-    }
-    if set.is_empty() {
-        title.push_str("no fault")?;
-    }
-    title.push_str(if reaches { ": reaches" } else { ": misses" })?;
-    Ok(title)
 }
 
 /// How many bytes the longest label has.
@@ -136,66 +132,110 @@ impl<M: Worded> Drawing<'_, M> {
     /// Adds what stands before all else: the size, the looks, the ground and the title.
     fn push_head(&self, title: &str, text: &mut String) -> Result<(), AllocError> {
         let width = self.layout.width();
-        let height = self.layout.height();
+        let height = self.layout.height(LEGEND_LINES);
         writeln!(
             text,
-            "<svg xmlns='http://www.w3.org/2000/svg' width='{width}' height='{height}' viewBox='0 0 {width} {height}' role='img'>"
+            "<svg xmlns='http://www.w3.org/2000/svg' width='{width}' height='{height}' viewBox='0 0 {width} {height}' role='img'",
         )?;
+        text.push_str(" fill='#1c2530' font-family='ui-monospace,monospace' font-size='10'>\n")?;
         text.push_str("<title>")?;
-        push_words(title, u32::MAX, text)?;
+        push_words(title, text)?;
         text.push_str("</title>\n")?;
         text.push_str(STYLE)?;
         writeln!(
             text,
-            "<rect class='ground' width='{width}' height='{height}'/>"
+            "<rect class='ground' fill='#fff' width='{width}' height='{height}'/>"
         )?;
-        text.push_str("<text class='title' x='14' y='24'>")?;
-        push_words(title, u32::MAX, text)?;
-        text.push_str("</text>\n")
+        push_title(self.layout, title, text)
     }
 
-    /// Adds the grounds of all columns.
+    /// Adds what the outcome rests on, and when nodes are down.
     fn push_grounds(&self, reach: &Option<Reach>, text: &mut String) -> Result<(), AllocError> {
-        for node in 0..self.run.nodes() {
-            self.column(node).push_ground(reach, text)?;
+        if let Some(reach) = reach {
+            self.push_rests(reach, text)?;
         }
-        Ok(())
+        Look::Down.open(text)?;
+        for node in 0..self.run.nodes() {
+            self.column(node).push_downs(text)?;
+        }
+        close(text)
+    }
+
+    /// Adds what the outcome rests on.
+    fn push_rests(&self, reach: &Reach, text: &mut String) -> Result<(), AllocError> {
+        Look::Rest.open(text)?;
+        for node in 0..self.run.nodes() {
+            self.column(node).push_rest(reach, text)?;
+        }
+        close(text)
     }
 
     /// Adds a line and a number for each step.
     fn push_rows(&self, text: &mut String) -> Result<(), AllocError> {
+        let end = self.layout.width().saturating_sub(8);
+        Look::Row.open(text)?;
         for step in 0..=self.run.horizon() {
-            let y = self.layout.place(0, step).y;
             writeln!(
                 text,
-                "<path class='row' d='M30 {y}H{}'/><text class='step' x='26' y='{}'>{step}</text>",
-                self.layout.width().saturating_sub(8),
-                y.saturating_add(3)
+                "<path d='M30 {}H{end}'/>",
+                self.layout.place(0, step).y
             )?;
         }
-        Ok(())
+        close(text)?;
+        self.push_numbers(text)
     }
 
-    /// Adds the lines of all nodes' lives.
+    /// Adds the numbers of the steps.
+    fn push_numbers(&self, text: &mut String) -> Result<(), AllocError> {
+        Look::Step.open(text)?;
+        for step in 0..=self.run.horizon() {
+            let y = self.layout.place(0, step).y.saturating_add(3);
+            writeln!(text, "<text x='26' y='{y}'>{step}</text>")?;
+        }
+        close(text)
+    }
+
+    /// Adds the lines of all nodes' lives, and the heads of the columns.
     fn push_lives(&self, text: &mut String) -> Result<(), AllocError> {
+        Look::Life.open(text)?;
         for node in 0..self.run.nodes() {
             self.column(node).push_life(text)?;
         }
-        Ok(())
+        close(text)?;
+        self.push_heads(text)
     }
 
-    /// Adds all nodes' states, and the points at which the outcome looks.
-    fn push_columns(
+    /// Adds the heads of the columns.
+    fn push_heads(&self, text: &mut String) -> Result<(), AllocError> {
+        Look::Head.open(text)?;
+        for node in 0..self.run.nodes() {
+            self.column(node).push_head(text)?;
+        }
+        close(text)
+    }
+
+    /// Adds rings around the points that have a mark.
+    fn push_rings(
         &self,
-        alloc: Global,
         marks: &Marks,
+        mark: Mark,
+        look: Look,
         text: &mut String,
     ) -> Result<(), AllocError> {
+        look.open(text)?;
         for node in 0..self.run.nodes() {
-            self.column(node).push_marks(marks, text)?;
-            self.column(node).push_states(alloc, text)?;
+            self.column(node).push_rings(marks, mark, text)?;
         }
-        Ok(())
+        close(text)
+    }
+
+    /// Adds what has this look of all nodes' states.
+    fn push_states(&self, alloc: Global, look: Look, text: &mut String) -> Result<(), AllocError> {
+        look.open(text)?;
+        for node in 0..self.run.nodes() {
+            self.column(node).push_states(alloc, look, text)?;
+        }
+        close(text)
     }
 
     /// A node's column.
@@ -210,12 +250,13 @@ impl<M: Worded> Drawing<'_, M> {
         }
     }
 
-    /// Adds what all nodes say.
-    fn push_sayings(&self, alloc: Global, text: &mut String) -> Result<(), AllocError> {
+    /// Adds what all nodes say, with this look.
+    fn push_sayings(&self, alloc: Global, look: Look, text: &mut String) -> Result<(), AllocError> {
+        look.open(text)?;
         for past in 0..self.run.horizon() {
             self.push_sayings_at(alloc, past + 1, text)?;
         }
-        Ok(())
+        close(text)
     }
 
     /// Adds what all nodes say at a step.
@@ -235,16 +276,30 @@ impl<M: Worded> Drawing<'_, M> {
     }
 
     /// Adds what the signs stand for.
-    fn push_legend(&self, text: &mut String) -> Result<(), AllocError> {
-        let y = self.layout.height().saturating_sub(26);
-        writeln!(
+    fn push_legend(&self, reaches: bool, text: &mut String) -> Result<(), AllocError> {
+        let rings = if reaches {
+            "ring: the outcome looks there; shaded: it rests on that"
+        } else {
+            "ring: the outcome looks there; red ring: first seen to fail there"
+        };
+        Look::Legend.open(text)?;
+        self.push_told(
+            0,
+            "arrow: heard; red cross: omitted; bar at its end: nobody takes it",
             text,
-            "<text x='14' y='{y}'>arrow: heard; red cross: omitted; bar: nobody takes it; grey: down</text>"
         )?;
-        writeln!(
+        self.push_told(
+            1,
+            "dashed with no end: arrives after the last step; grey: down",
             text,
-            "<text x='14' y='{}'>ring: the outcome looks; red ring: it fails; shaded: it rests on</text>",
-            y.saturating_add(14)
-        )
+        )?;
+        self.push_told(2, rings, text)?;
+        close(text)
+    }
+
+    /// Adds a line of the legend.
+    fn push_told(&self, line: u32, words: &str, text: &mut String) -> Result<(), AllocError> {
+        let place = self.layout.legend(line);
+        writeln!(text, "<text x='{}' y='{}'>{words}</text>", place.x, place.y)
     }
 }

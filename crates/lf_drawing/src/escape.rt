@@ -2,14 +2,24 @@
 
 use std::alloc::AllocError;
 
-/// Adds words to a document, each character that has a meaning there by its name; past so many characters an ellipsis stands for the rest.
-pub(crate) fn push_words(words: &str, most: u32, text: &mut String) -> Result<(), AllocError> {
-    let mut room = most;
+/// Adds words to a document, each character that has a meaning there by its name, and a blank for one that is none to be seen.
+pub(crate) fn push_words(words: &str, text: &mut String) -> Result<(), AllocError> {
     for character in words.chars() {
-        if room == 0 {
-            return text.push('…');
+        push_character(character, text)?;
+    }
+    Ok(())
+}
+
+/// Adds words that have room for so many characters: past these an ellipsis stands for the rest, and a browser tells all of them where one points at it.
+pub(crate) fn push_label(words: &str, room: u32, text: &mut String) -> Result<(), AllocError> {
+    let mut left = room;
+    for character in words.chars() {
+        if left == 0 {
+            text.push_str("…<title>")?;
+            push_words(words, text)?;
+            return text.push_str("</title>");
         }
-        room -= 1;
+        left -= 1;
         push_character(character, text)?;
     }
     Ok(())

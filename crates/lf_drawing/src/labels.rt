@@ -3,7 +3,7 @@
 ghost use Rattle.std.specs.Prelude.{◌<◌, ◌≤◌};
 ghost use Rattle.lf_sim.specs.Settings.{horizon_of, nodes_of};
 
-use crate::escape::push_words;
+use crate::escape::push_label;
 use crate::layout::Layout;
 use lf_sim::{Run, Setting};
 use lf_trace::Worded;
@@ -35,11 +35,11 @@ impl<M: Worded> Saying<'_, M> {
         let place = layout.place(self.from, self.step);
         write!(
             text,
-            "<text class='say' x='{}' y='{}'>",
+            "<text x='{}' y='{}'>",
             place.x.saturating_add(9),
             place.y.saturating_add(9)
         )?;
-        push_words(words.as_str(), layout.room(), text)?;
+        push_label(words.as_str(), layout.room(), text)?;
         text.push_str("</text>\n")
     }
 

@@ -2,8 +2,10 @@
 //!
 //! States stand where they change, and notes are arrows from the step at which they are sent to the one at which they arrive: one that
 //! the faults omit is broken off with a cross, and one that nobody takes ends in a bar. Times at which a node is down are grey. A ring
-//! marks each point at which the outcome looks, a red one where it fails, and what the outcome rests on is shaded. The picture has no
-//! script and no font of its own, and is readable on light and on dark ground.
+//! marks each point at which the outcome looks, a red one each by which it is first seen to fail, and what the outcome rests on is shaded.
+//!
+//! The picture has no script and no font of its own. Its colours are attributes, so whatever draws SVG documents shows it; browsers take others on
+//! dark ground.
 #![tactic(auto)]
 
 mod arrows;
@@ -14,5 +16,6 @@ mod labels;
 mod layout;
 mod marks;
 mod style;
+mod title;
 
 pub use drawing::picture;

@@ -2,7 +2,8 @@
 
 ghost use Rattle.lf_sim.specs.Settings.{IsRun, world_of};
 
-use lf_outcome::{Formula, holds};
+use lf_failing::first_failing;
+use lf_outcome::Formula;
 use lf_sim::{Machine, Run, Setting};
 
 /// What an outcome makes of a point.
@@ -12,7 +13,7 @@ pub(crate) enum Mark {
     Passed,
     /// It looks there.
     Asked,
-    /// It looks there, and what it finds is among what makes it fail.
+    /// It looks there, and by what it finds it is first seen to fail.
     Fails,
 }
 
@@ -35,8 +36,8 @@ impl Marks {
             marks: [[Mark::Passed; 49]; 8],
         };
         marks.ask(formula);
-        if !holds(setting, formula, run) {
-            marks.blame(setting, formula, run);
+        if let Some(first) = first_failing(setting, formula, run) {
+            marks.blame(setting, formula, run, first);
         }
         marks
     }
@@ -77,14 +78,21 @@ impl Marks {
         }
     }
 
-    /// Marks the points at which a formula that is false fails: of all false parts.
+    /// Marks the points by which a formula is seen to fail that is first seen so by this step: of an `All` those of the parts that are seen to fail by then,
+    /// and of an `Any` those of all parts, as all are.
     #[cycle(blame)]
-    fn blame<M: Machine>(&mut self, setting: &Setting<M>, formula: &Formula<M::Fact>, run: &Run<M>)
+    fn blame<M: Machine>(
+        &mut self,
+        setting: &Setting<M>,
+        formula: &Formula<M::Fact>,
+        run: &Run<M>,
+        first: u32,
+    )
         requires { IsRun (world_of setting.now) run.now }
     {
         match formula {
             Formula::All(parts) | Formula::Any(parts) => {
-                self.blame_all(setting, parts.as_slice(), run);
+                self.blame_all(setting, parts.as_slice(), run, first);
             }
             Formula::Down { node, step } | Formula::Shows { node, step, .. } => {
                 self.put(*node, *step, Mark::Fails);
@@ -92,19 +100,22 @@ impl Marks {
         }
     }
 
-    /// The same of each part that is false.
+    /// The same of each part that is seen to fail by this step, by its own first step.
     #[cycle(blame)]
     fn blame_all<M: Machine>(
         &mut self,
         setting: &Setting<M>,
         parts: &[Formula<M::Fact>],
         run: &Run<M>,
+        last: u32,
     )
         requires { IsRun (world_of setting.now) run.now }
     {
         for part in parts {
-            if !holds(setting, part, run) {
-                self.blame(setting, part, run);
+            if let Some(first) = first_failing(setting, part, run) {
+                if first <= last {
+                    self.blame(setting, part, run, first);
+                }
             }
         }
     }

@@ -1,7 +1,9 @@
-//! Where a run without faults passes a range or replaces a note.
+//! What looks like a slip in a scenario of a protocol file.
 
 ghost use Rattle.lf_sim.specs.Settings.{IsRun, world_of};
 
+use crate::idle::idle_words;
+use crate::replaced::replaced_words;
 use lf_faults::FaultSet;
 use lf_outcome::{Formula, holds};
 use lf_protocols::{Fact, Protocol};
@@ -9,29 +11,38 @@ use lf_scenario::Scenario;
 use lf_sim::{Run, Setting, run};
 use std::alloc::{AllocError, Global};
 
-/// Where, in the run without faults, a value first went past its range, and where a note first took another one's place, each on a line of
-/// its own, without the last line feed. Nothing where neither happened, or where the protocol is none of rules. The error, also below, is
-/// that memory has run out.
+/// Which rules no node of the scenario has, and where, in the run without faults, a value first went past its range, and where a note first
+/// took another one's place, and which rules sent the two, each on a line of its own, without the last line feed. Nothing where there is
+/// none of this, or where the protocol is none of rules. The error, also below, is that memory has run out.
 pub fn run_notes(alloc: Global, scenario: &Scenario) -> Result<String, AllocError> {
     let setting = scenario.setting();
     let played = run(alloc, setting, &FaultSet::empty())?;
-    let mut text = String::new(alloc);
+    let mut text = idle_words(alloc, &setting.machine)?;
     if let Some((step, node)) = first_shown(setting, &played, "clamped") {
+        end_line(&mut text)?;
         write!(
             &mut text,
             "without faults, at step {step} node {node} has set a variable or a field past its range, and it was cut to the range (`clamped`)"
         )?;
     }
     if let Some((step, node)) = first_shown(setting, &played, "replaced") {
-        if !text.is_empty() {
-            text.push('\n')?;
-        }
+        let words = replaced_words(alloc, setting, &played, node, step)?;
+        end_line(&mut text)?;
         write!(
             &mut text,
-            "without faults, at step {step} node {node} has sent two notes to one node in one step: the first was lost (`replaced`)"
+            "without faults, at step {step} node {node} has sent {words} (`replaced`)"
         )?;
     }
     Ok(text)
+}
+
+/// Ends a line, where there is one.
+fn end_line(text: &mut String) -> Result<(), AllocError> {
+    if text.is_empty() {
+        Ok(())
+    } else {
+        text.push('\n')
+    }
 }
 
 /// The first step, and its first node, at which a node shows the fact of this name.

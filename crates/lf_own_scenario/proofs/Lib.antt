@@ -4,3 +4,8 @@ mod Counts
 mod ZerosLemmas
 mod ReadingLemmas
 mod FittingLemmas
+mod OneLemmas
+mod ToldLemmas
+mod KeptLemmas
+mod ViewLemmas
+mod PromisedLemmas

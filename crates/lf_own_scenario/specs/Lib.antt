@@ -5,3 +5,4 @@ pub mod Constants
 pub mod Machines
 pub mod Outcomes
 pub mod Scenarios
+pub mod Kept

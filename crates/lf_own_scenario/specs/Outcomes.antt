@@ -1,12 +1,15 @@
 -- The outcome of a scenario of a protocol file: a text in the protocol's words, or a formula as a list.
-use Rattle.std.specs.Prelude.{ℕ, if◌then◌else◌, find, List, Option, None, Some, Result, Ok, Err}
+use Rattle.std.specs.Prelude.{ℕ, if◌then◌else◌, find, List, [], ◌∷◌, Option, None, Some, Result, Ok, Err}
 use Rattle.std.specs.Borrow.{Bor}
 use Rattle.std.specs.Str.{bytes_eq}
 use Rattle.toml.specs.Data.{Data, string, array}
 use Rattle.lf_faults.specs.declared.spec.Bounds.{Bounds}
+use Rattle.lf_rules.specs.declared.definition.Constant.{Constant}
+use Rattle.lf_rules.specs.declared.definition.Definition.{Definition}
 use Rattle.lf_rules.specs.declared.definition.Given.{Given}
 use Rattle.lf_rules.specs.declared.sort.Scope.TheVariants as scopes
 use Rattle.lf_ruled.specs.Constants.{given_table}
+use Rattle.lf_grammar.specs.Places.{Context}
 use Rattle.lf_texts.specs.declared.error.TextError.{TextError}
 use Rattle.lf_texts.specs.declared.error.TextError.TheVariants as faults
 use Rattle.lf_texts.specs.Fronts.{text_in}
@@ -25,7 +28,6 @@ use Rattle.lf_scenario.specs.declared.error.ScenarioError.TheVariants as refusal
 use Rattle.lf_scenario.specs.Values.{Reading, ◌>>=◌}
 use Rattle.lf_scenario.specs.Outcomes.{list_formula}
 use Rattle.lf_own_scenario.specs.Machines.{kind_of}
-use Rattle.lf_own_scenario.specs.Values.{place_of}
 use Rattle.lf_own_scenario.specs.Zeros.{promise_divides}
 
 abbrev pub seen_promise : Option (Bor Promise) → Option Promise
@@ -54,11 +56,24 @@ abbrev pub wanted : {A : Type 0} → Option A → Reading A
 wanted None = Err refusals.Outcome
 wanted (Some x) = Ok x
 
--- the promise that a text is
-unfoldable pub promise_in : Declared → List ℕ → Reading Promise
-promise_in file text = do
+-- constants with what they are in a scenario
+abbrev pub with_values : List Constant → List Given → List Constant
+with_values [] vs = []
+with_values (x ∷ xs) [] = []
+with_values (x ∷ xs) (v ∷ vs) = record { name = x.name; sort = x.sort; value = v } ∷ with_values xs vs
+
+-- what the text of an outcome may name of a protocol: its variables and facts, and its constants, which are what they are in the scenario
+abbrev pub told_in : Definition → List Given → Definition
+told_in d given = record { variables = d.variables; notes = []; given = with_values d.given given; lets = []; facts = d.facts; chains = []; trace = [] }
+
+abbrev pub told_place : Declared → Definition → Context
+told_place file d = record { definition = d; fields = []; names = file.names; scope = scopes.Who }
+
+-- the promise that a text is in a scenario with these constants
+unfoldable pub promise_in : Declared → List Given → List ℕ → Reading Promise
+promise_in file given text = do
   ts ← as_outcome (text_in text)
-  wanted (promise_of (place_of file scopes.Who) ts)
+  wanted (promise_of (told_place file (told_in file.definition given)) ts)
 
 -- what a promise depends on
 abbrev pub scene_of : Bounds → List Given → Scene
@@ -73,12 +88,12 @@ unfoldable pub formula_of : Bounds → List Given → Promise → Reading (Formu
 formula_of b given promise = if promise_divides given promise then Err refusals.Outcome else unfolded_to (unfolded (scene_of b given) promise)
 
 -- a text is the name of an outcome, or a promise itself
-abbrev pub said : Declared → List ℕ → Option Promise → Reading Promise
-said file text (Some promise) = Ok promise
-said file text None = promise_in file text
+abbrev pub said : Declared → List Given → List ℕ → Option Promise → Reading Promise
+said file given text (Some promise) = Ok promise
+said file given text None = promise_in file given text
 
 abbrev pub text_formula : Declared → List Given → Bounds → List ℕ → Reading (Formula Fact)
-text_formula file given b text = said file text (named text file.outcomes) >>= formula_of b given
+text_formula file given b text = said file given text (named text file.outcomes) >>= formula_of b given
 
 -- what the key `outcome` takes
 abbrev pub outcome_in : Declared → List Given → Bounds → Key → Data → Reading (Formula Fact)

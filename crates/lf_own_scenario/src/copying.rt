@@ -1,10 +1,10 @@
-//! Copies of constants.
+//! Copies of constants, variables and named guards.
 
 ghost use Rattle.std.specs.Prelude.{◌≡◌, IfOk};
 ghost use Rattle.lf_rules.specs.Terms.{term_of};
 
 use lf_list::Listed;
-use lf_rules::{Expr, Given, Tree, Value};
+use lf_rules::{Expr, Given, Guard, Name, Tree, Value, Variable};
 use std::alloc::{AllocError, Global};
 
 /// A copy of a tree.
@@ -67,4 +67,82 @@ pub(crate) fn copied(alloc: Global, given: &Given) -> Result<Given, AllocError>
         Given::One(value) => Ok(Given::One(copied_value(alloc, value)?)),
         Given::Each(values) => Ok(Given::Each(copied_values(alloc, values.as_slice())?)),
     }
+}
+
+/// A copy of a name.
+pub(crate) fn copied_name(alloc: Global, name: &Name) -> Result<Name, AllocError>
+    ensures { IfOk result (λ copy. copy ≡ name.now) }
+{
+    let text = String::from_str(alloc, name.as_str())?;
+    Ok(Name::new(text))
+}
+
+/// Copies of names.
+fn copied_names(alloc: Global, names: &[Name]) -> Result<Listed<Name>, AllocError>
+    ensures { IfOk result (λ copies. copies ≡ names.now) }
+{
+    let mut copies = Vec::new(alloc);
+    'names: for name in names {
+        let copy = copied_name(alloc, name)?;
+        match copies.push(copy) {
+            Ok(()) => {}
+            Err(_) => return Err(AllocError),
+        }
+    }
+    Ok(Listed::from_vec(copies))
+}
+
+/// A copy of a variable.
+fn copied_variable(alloc: Global, variable: &Variable) -> Result<Variable, AllocError>
+    ensures { IfOk result (λ copy. copy ≡ variable.now) }
+{
+    let name = copied_name(alloc, &variable.name)?;
+    let words = copied_names(alloc, variable.words.as_slice())?;
+    Ok(Variable {
+        name,
+        kind: variable.kind,
+        words,
+    })
+}
+
+/// Copies of variables.
+pub(crate) fn copied_variables(
+    alloc: Global,
+    variables: &[Variable],
+) -> Result<Listed<Variable>, AllocError>
+    ensures { IfOk result (λ copies. copies ≡ variables.now) }
+{
+    let mut copies = Vec::new(alloc);
+    'variables: for variable in variables {
+        let copy = copied_variable(alloc, variable)?;
+        match copies.push(copy) {
+            Ok(()) => {}
+            Err(_) => return Err(AllocError),
+        }
+    }
+    Ok(Listed::from_vec(copies))
+}
+
+/// A copy of a named guard.
+fn copied_fact(alloc: Global, fact: &Guard) -> Result<Guard, AllocError>
+    ensures { IfOk result (λ copy. copy ≡ fact.now) }
+{
+    let name = copied_name(alloc, &fact.name)?;
+    let value = copied_expr(alloc, &fact.value)?;
+    Ok(Guard { name, value })
+}
+
+/// Copies of named guards.
+pub(crate) fn copied_facts(alloc: Global, facts: &[Guard]) -> Result<Listed<Guard>, AllocError>
+    ensures { IfOk result (λ copies. copies ≡ facts.now) }
+{
+    let mut copies = Vec::new(alloc);
+    'facts: for fact in facts {
+        let copy = copied_fact(alloc, fact)?;
+        match copies.push(copy) {
+            Ok(()) => {}
+            Err(_) => return Err(AllocError),
+        }
+    }
+    Ok(Listed::from_vec(copies))
 }

@@ -6,12 +6,17 @@
 
 mod constants;
 mod copying;
+mod kept;
 mod keys;
 mod laws;
 mod outcomes;
 mod reader;
+mod telling;
+mod uniqueness;
 mod values;
 mod zeros;
 
+pub use kept::outcomes_are_kept;
 pub use laws::{constants_fit, promises_are_formulas};
 pub use reader::read_with;
+pub use uniqueness::{refusals_are_one, scenarios_are_one};

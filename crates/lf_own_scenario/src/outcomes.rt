@@ -10,8 +10,11 @@ ghost use Rattle.lf_scenario.specs.Ranges.{IsInRange};
 ghost use Rattle.lf_scenario.specs.Values.{required};
 ghost use Rattle.lf_own_scenario.specs.Machines.{kind_of};
 ghost use Rattle.lf_own_scenario.specs.Values.{Gives};
-ghost use Rattle.lf_own_scenario.specs.Outcomes.{seen_promise, named, text_refusal, promise_in, scene_of, unfolded_to, formula_of, text_formula, outcome_in};
+ghost use Rattle.lf_promises.specs.Promises.{promise_of};
+ghost use Rattle.lf_own_scenario.specs.Outcomes.{seen_promise, named, text_refusal, wanted, told_place, promise_in, scene_of, unfolded_to, formula_of};
+ghost use Rattle.lf_own_scenario.specs.Outcomes.{text_formula, outcome_in};
 
+use crate::telling::told_in;
 use crate::zeros::promise_divides;
 use lf_faults::FaultSpec;
 use lf_grammar::Place;
@@ -19,9 +22,10 @@ use lf_outcome::Formula;
 use lf_promises::{Promise, PromiseError, read_promise};
 use lf_protocols::Fact;
 use lf_ruled::given_table;
-use lf_rules::{Given, Scope};
+use lf_rules::{Definition, Given, Scope};
 use lf_scenario::{Described, Key, ScenarioError, at, list_formula};
 use lf_texts::{TextError, text_tokens};
+use lf_tokens::Token;
 use lf_unfolding::{Scene, UnfoldError, unfold};
 use lf_written::ProtocolFile;
 use std::alloc::Global;
@@ -51,20 +55,41 @@ fn text_refusal(fault: TextError) -> ScenarioError
     }
 }
 
-/// The promise that a text is.
+/// The promise that a text is in a scenario with these constants.
 #[tactic(auto, unfolding(crate::specs::Outcomes::promise_in))]
-fn promise_in(alloc: Global, file: &ProtocolFile, text: &str) -> Result<Promise, ScenarioError>
-    ensures value { Gives (λ p. p) (promise_in file.now text.now) result }
+fn promise_in(
+    alloc: Global,
+    file: &ProtocolFile,
+    given: &[Given],
+    text: &str,
+) -> Result<Promise, ScenarioError>
+    ensures value { Gives (λ p. p) (promise_in file.now given.now text.now) result }
     ensures facts { IfOk result (λ p. names_facts file.now.definition p ≡ true) }
 {
     let tokens = text_tokens(alloc, text).map_err(text_refusal)?;
+    match told_in(alloc, file.definition(), given) {
+        Ok(definition) => told_promise(alloc, file, &definition, tokens.as_slice()),
+        Err(_) => Err(ScenarioError::Memory),
+    }
+}
+
+/// The promise that tokens are, where these are the names of a file and what they may name.
+fn told_promise(
+    alloc: Global,
+    file: &ProtocolFile,
+    definition: &Definition,
+    tokens: &[Token],
+) -> Result<Promise, ScenarioError>
+    ensures value { Gives (λ p. p) (wanted (promise_of (told_place file.now definition.now) tokens.now)) result }
+    ensures facts { IfOk result (λ p. names_facts definition.now p ≡ true) }
+{
     let place = Place {
-        definition: file.definition(),
+        definition,
         names: file.names(),
         fields: &[],
         scope: Scope::Who,
     };
-    match read_promise(alloc, &place, tokens.as_slice()) {
+    match read_promise(alloc, &place, tokens) {
         Ok(promise) => Ok(promise),
         Err(PromiseError::Unfit) => Err(ScenarioError::Outcome),
         Err(PromiseError::Memory) => Err(ScenarioError::Memory),
@@ -135,7 +160,7 @@ fn text_formula(
     match named(file, text) {
         Some(promise) => formula_of(alloc, file, given, bounds, promise),
         None => {
-            let promise = promise_in(alloc, file, text)?;
+            let promise = promise_in(alloc, file, given, text)?;
             formula_of(alloc, file, given, bounds, &promise)
         }
     }

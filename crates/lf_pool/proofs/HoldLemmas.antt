@@ -3,7 +3,7 @@ use mathlib.Core.Logic.{∥∥₁_elim, ∥∥₁_prop}
 use Rattle.std.proofs.Common.{◌≡◌, ℕ, ◌+◌, refl, sym, ap, ◌∙◌, subst, arith, true, false, Bool, List, [], ◌∷◌, ◌++◌, inl, inr}
 use Rattle.std.specs.Arc.{arc_value}
 use Rattle.std.proofs.lemmas.List.{append_assoc}
-use Rattle.std.specs.Prelude.{Result, Ok, Err, IfOk, IfErr, OnOk, OnErr, MatchBool, is_err}
+use Rattle.std.specs.Prelude.{Option, Some, Result, Ok, Err, IfOk, IfErr, OnOk, OnErr, MatchBool, is_err}
 use Rattle.lf_marks.specs.Steps.{IsAnswer}
 use Rattle.lf_marks.specs.Answers.{mark_for}
 use Rattle.lf_marks.specs.Counting.{OfKind}
@@ -19,7 +19,11 @@ use Rattle.lf_book.specs.declared.deepening.Deepened.{Deepened}
 use Rattle.lf_book.specs.declared.deepening.Deepened.TheVariants as deepened
 use Rattle.lf_work.specs.declared.finding.Finding.{Finding}
 use Rattle.lf_work.specs.declared.job.Job.{Job}
-use Rattle.lf_pool.specs.Holds.{AreFiled, AreGivenBack, AreTaken, IsAnsweredCount, IsBusy, IsFindingClaimed, IsJobClaimed}
+use Rattle.lf_pool.specs.declared.locked.hand.Claim.{Claim}
+use Rattle.lf_pool.specs.declared.locked.hand.Found.{Found}
+use Rattle.lf_pool.specs.Holds.{AreFiled, AreGivenBack, AreTaken, IsAnsweredCount, IsBegun, IsBusy, IsFindingClaimed, IsJobClaimed, WasBegun}
+use Rattle.lf_pool.specs.declared.locked.Begun.{Begun}
+use Rattle.lf_scenario.specs.declared.scenario.Scenario.{Scenario}
 use Rattle.lf_book.proofs.Laws.{count_one}
 use Rattle.lf_pool.proofs.CountLemmas.{same-counted, took-counted, back-counted, down-counted, filed-counted}
 
@@ -100,22 +104,28 @@ pub one-off : {A : Type 0} (whole old new done : List A) (x : A) → whole ≡ o
 one-off whole old new done x h e = h ∙ ap (λ l. l ++ done) e ∙ append_assoc new (x ∷ []) done
 
 -- one job more is taken,
-pub taken-more : (jobs : List Job) (job : Job) (old mid new : Book) → AreTaken jobs old mid → IsTaken mid new (taken.Job job)
+pub taken-more : (jobs : List Claim) (job : Claim) (old mid new : Book) → AreTaken jobs old mid → IsTaken mid new (taken.Job job.job)
     → AreTaken (jobs ++ job ∷ []) old new
-taken-more [] job old mid new h e = (new, subst (λ b. IsTaken b new (taken.Job job)) h e, refl)
+taken-more [] job old mid new h e = (new, subst (λ b. IsTaken b new (taken.Job job.job)) h e, refl)
 taken-more (j ∷ jobs) job old mid new h e = (h.0, h.1, taken-more jobs job h.0 mid new h.2 e)
 
 -- one finding more is filed or refused,
-pub filed-more : (filed : Bool) (finding : Finding) (done : List Finding) (n start was is : ℕ) (old mid new : Book) → AreFiled done n old mid
-    → MatchBool filed (IsFiled finding mid new × (is ≡ was + 1)) ((¬ IsFindingClaimed mid finding) × (new ≡ mid) × (is ≡ was)) → was ≡ start + n
-    → (m : ℕ) × AreFiled (finding ∷ done) m old new × (is ≡ start + m)
-filed-more true finding done n start was is old mid new h e same =
+pub filed-more : (filed : Bool) (found : Found) (done : List Found) (n start was is : ℕ) (old mid new : Book) → AreFiled done n old mid
+    → MatchBool filed (IsFiled found.finding mid new × (is ≡ was + 1)) ((¬ IsFindingClaimed mid found.finding) × (new ≡ mid) × (is ≡ was))
+    → was ≡ start + n → (m : ℕ) × AreFiled (found ∷ done) m old new × (is ≡ start + m)
+filed-more true found done n start was is old mid new h e same =
     (n + 1, (n, mid, h, inl (e.0, refl)), omega (arith, e.1, same))
-filed-more false finding done n start was is old mid new h e same =
+filed-more false found done n start was is old mid new h e same =
     (n, (n, mid, h, inr (e.0, e.1, refl)), omega (arith, e.2, same))
 
 -- and one job more is given back or has no claim
-pub given-more : (given : Bool) (job : Job) (done : List Job) (old mid new : Book) → AreGivenBack done old mid
-    → MatchBool given (IsGivenBack job mid new) ((¬ IsJobClaimed mid job) × (new ≡ mid)) → AreGivenBack (job ∷ done) old new
-given-more true job done old mid new h e = (mid, h, inl e)
-given-more false job done old mid new h e = (mid, h, inr e)
+pub given-more : (given : Bool) (claim : Claim) (done : List Claim) (old mid new : Book) → AreGivenBack done old mid
+    → MatchBool given (IsGivenBack claim.job mid new) ((¬ IsJobClaimed mid claim.job) × (new ≡ mid)) → AreGivenBack (claim ∷ done) old new
+given-more true claim done old mid new h e = (mid, h, inl e)
+given-more false claim done old mid new h e = (mid, h, inr e)
+
+-- what a hold did to a book of the scenario
+pub was-begun : {Failed : Type 0} (o : Option Scenario) (old new : Book) (r : Result Begun Failed) → o ≡ Some (scenario_of old)
+    → IfOk r (IsBegun old new) → IfOk r (WasBegun o)
+was-begun o old new (Ok b) searches h = (old, new, searches, h)
+was-begun o old new (Err e) searches h = tt

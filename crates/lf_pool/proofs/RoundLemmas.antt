@@ -8,11 +8,11 @@ use Rattle.std.specs.Option.{option_to_list}
 use Rattle.lf_scenario.specs.declared.scenario.Scenario.{Scenario}
 use Rattle.lf_work.specs.Jobs.{IsOfJob}
 use Rattle.lf_work.specs.Scratches.{IsScratchFor}
-use Rattle.lf_work.specs.declared.finding.Finding.{Finding}
-use Rattle.lf_work.specs.declared.job.Job.{Job}
 use Rattle.lf_work.specs.declared.scratch.Scratch.{Scratch}
 use Rattle.lf_pool.specs.Holds.{AreFindingsIn, AreJobsIn, AreJobsOf, IsAtWork, IsFoundFor, IsJobOf}
 use Rattle.lf_pool.specs.declared.handful.TheConstants.{HANDFUL}
+use Rattle.lf_pool.specs.declared.locked.hand.Claim.{Claim}
+use Rattle.lf_pool.specs.declared.locked.hand.Found.{Found}
 use Rattle.lf_pool.proofs.ScenarioLemmas.{back, found-for, front, last-got, last-of, off-end, some-one}
 
 -- an empty list has no items
@@ -34,28 +34,28 @@ on-ok (Err e) h p = absurd cc
 
 module _ (o : Option Scenario) where
   -- a job is taken off the list,
-  pub suited : (old new next : List Job) (fs : List Finding) (x : Scratch) (job : Job) → IsAtWork o old next fs x → old ≡ new ++ job ∷ []
-      → IsScratchFor (arc_value job.scenario) x
+  pub suited : (old new next : List Claim) (fs : List Found) (x : Scratch) (job : Claim) → IsAtWork o old next fs x → old ≡ new ++ job ∷ []
+      → IsScratchFor (arc_value job.job.scenario) x
   suited old new next fs x job h off = subst (λ r. IsScratchFor r x) (sym (last-of h.0 old new job off h.2)) h.5
 
   -- worked, and what was found of it put onto the other,
-  pub worked-one : (old new next : List Job) (fs gs : List Finding) (x y : Scratch) (job : Job) (finding : Finding) (s : Scenario) → IsAtWork o old next fs x
-      → old ≡ new ++ job ∷ [] → gs ≡ fs ++ finding ∷ [] → IsOfJob job finding → s ≡ arc_value job.scenario → IsScratchFor s y
+  pub worked-one : (old new next : List Claim) (fs gs : List Found) (x y : Scratch) (job : Claim) (found : Found) (s : Scenario) → IsAtWork o old next fs x
+      → old ≡ new ++ job ∷ [] → gs ≡ fs ++ found ∷ [] → IsOfJob job.job found.finding → s ≡ arc_value job.job.scenario → IsScratchFor s y
       → IsAtWork o new next gs y
-  worked-one old new next fs gs x y job finding s h off on of same kept =
+  worked-one old new next fs gs x y job found s h off on of same kept =
       let all : AreJobsOf h.0 (new ++ job ∷ []) = subst (AreJobsOf h.0) off h.2 in
       let own : IsJobOf h.0 job = All-head (IsJobOf h.0) job [] (back (IsJobOf h.0) new (job ∷ []) all) in (
         h.0,
         h.1,
         front (IsJobOf h.0) new (job ∷ []) all,
         h.3,
-        subst (All (IsFoundFor h.0)) (sym on) (All-push (IsFoundFor h.0) fs finding h.4 (found-for h.0 job finding of own)),
+        subst (All (IsFoundFor h.0)) (sym on) (All-push (IsFoundFor h.0) fs found h.4 (found-for h.0 job found of own)),
         subst (λ r. IsScratchFor r y) (same ∙ own.0) kept,
       )
 
   -- or put back where memory has run out
-  pub put-again : (old new again next : List Job) (fs : List Finding) (x y : Scratch) (job : Job) → IsAtWork o old next fs x → old ≡ new ++ job ∷ []
-      → again ≡ new ++ job ∷ [] → IsScratchFor (arc_value job.scenario) y → IsAtWork o again next fs y
+  pub put-again : (old new again next : List Claim) (fs : List Found) (x y : Scratch) (job : Claim) → IsAtWork o old next fs x → old ≡ new ++ job ∷ []
+      → again ≡ new ++ job ∷ [] → IsScratchFor (arc_value job.job.scenario) y → IsAtWork o again next fs y
   put-again old new again next fs x y job h off put suits = (
     h.0,
     h.1,
@@ -66,17 +66,17 @@ module _ (o : Option Scenario) where
   )
 
   -- where none is left to be taken off, nothing changes
-  pub none-left : (old new next : List Job) (fs : List Finding) (x : Scratch) (last : Option Job) → IsAtWork o old next fs x
+  pub none-left : (old new next : List Claim) (fs : List Found) (x : Scratch) (last : Option Claim) → IsAtWork o old next fs x
       → old ≡ new ++ option_to_list last → IsAtWork o new next fs x
   none-left old new next fs x last h off = (h.0, h.1, (off-end (IsJobOf h.0) old new last off h.2).0, h.3, h.4, h.5)
 
   -- the next handful is taken, and what was found is filed
-  still-found : (s : Scenario) (taken : List Job) (fs gs : List Finding) → ((taken ≡ []) × (gs ≡ fs)) ⊎ (gs ≡ []) → All (IsFoundFor s) fs
+  still-found : (s : Scenario) (taken : List Claim) (fs gs : List Found) → ((taken ≡ []) × (gs ≡ fs)) ⊎ (gs ≡ []) → All (IsFoundFor s) fs
       → All (IsFoundFor s) gs
   still-found s taken fs gs (inl kept) h = subst (All (IsFoundFor s)) (sym kept.1) h
   still-found s taken fs gs (inr none) h = subst (All (IsFoundFor s)) (sym none) (All-nil (IsFoundFor s))
 
-  pub gone-on : (jobs next taken : List Job) (fs gs : List Finding) (x y : Scratch) → IsAtWork o jobs next fs x → AreJobsIn o taken
+  pub gone-on : (jobs next taken : List Claim) (fs gs : List Found) (x y : Scratch) → IsAtWork o jobs next fs x → AreJobsIn o taken
       → ((taken ≡ []) × (gs ≡ fs)) ⊎ (gs ≡ []) → y ≡ x → IsAtWork o jobs taken gs y
   gone-on jobs next taken fs gs x y h t done same =
       let own : t.0 ≡ h.0 = some-one t.0 h.0 (sym t.1 ∙ h.1) in (
@@ -89,12 +89,12 @@ module _ (o : Option Scenario) where
       )
 
   -- what was found is of the scenario
-  pub found-at-work : (jobs next : List Job) (fs : List Finding) (x : Scratch) → IsAtWork o jobs next fs x → AreFindingsIn o fs
+  pub found-at-work : (jobs next : List Claim) (fs : List Found) (x : Scratch) → IsAtWork o jobs next fs x → AreFindingsIn o fs
   found-at-work jobs next fs x h = (h.0, h.1, h.4)
 
   -- a worker begins with a handful, and goes on with the next
-  pub begun : (jobs next : List Job) (fs : List Finding) (x : Scratch) (job : Job) → AreJobsIn o jobs → next ≡ [] → fs ≡ []
-      → slice_get jobs (length jobs - 1) ≡ Some job → IsScratchFor (arc_value job.scenario) x → IsAtWork o jobs next fs x
+  pub begun : (jobs next : List Claim) (fs : List Found) (x : Scratch) (job : Claim) → AreJobsIn o jobs → next ≡ [] → fs ≡ []
+      → slice_get jobs (length jobs - 1) ≡ Some job → IsScratchFor (arc_value job.job.scenario) x → IsAtWork o jobs next fs x
   begun jobs next fs x job t no-jobs none got suits = (
     t.0,
     t.1,
@@ -104,23 +104,23 @@ module _ (o : Option Scenario) where
     subst (λ r. IsScratchFor r x) (last-got t.0 jobs job t.2 got) suits,
   )
 
-  pub swapped : (jobs next : List Job) (fs : List Finding) (x : Scratch) → IsAtWork o jobs next fs x → IsAtWork o next jobs fs x
+  pub swapped : (jobs next : List Claim) (fs : List Found) (x : Scratch) → IsAtWork o jobs next fs x → IsAtWork o next jobs fs x
   swapped jobs next fs x h = (h.0, h.1, h.3, h.2, h.4, h.5)
 
 -- the lists have room for what is found of two handfuls
-pub room-on : (jobs taken : List Job) (fs gs : List Finding) → ((taken ≡ []) × (gs ≡ fs)) ⊎ (gs ≡ []) → length jobs ≤ HANDFUL
+pub room-on : (jobs taken : List Claim) (fs gs : List Found) → ((taken ≡ []) × (gs ≡ fs)) ⊎ (gs ≡ []) → length jobs ≤ HANDFUL
     → length jobs + length fs ≤ HANDFUL + HANDFUL → length jobs + length gs ≤ HANDFUL + HANDFUL
 room-on jobs taken fs gs (inl kept) few room = subst (λ l. length jobs + length l ≤ HANDFUL + HANDFUL) (sym kept.1) room
 room-on jobs taken fs gs (inr none) few room =
-    subst (λ (l : List Finding). length jobs + length l ≤ HANDFUL + HANDFUL) (sym none) (omega (arith, few))
+    subst (λ (l : List Found). length jobs + length l ≤ HANDFUL + HANDFUL) (sym none) (omega (arith, few))
 
-pub ahead-on : (jobs taken : List Job) (fs gs : List Finding) → ((taken ≡ []) × (gs ≡ fs)) ⊎ (gs ≡ []) → length jobs ≤ HANDFUL
+pub ahead-on : (jobs taken : List Claim) (fs gs : List Found) → ((taken ≡ []) × (gs ≡ fs)) ⊎ (gs ≡ []) → length jobs ≤ HANDFUL
     → length taken ≤ HANDFUL → (taken ≡ []) ⊎ ((length jobs + length gs ≤ HANDFUL) × (length taken ≤ HANDFUL))
 ahead-on jobs taken fs gs (inl kept) few next = inl kept.0
 ahead-on jobs taken fs gs (inr none) few next =
-    inr (subst (λ (l : List Finding). length jobs + length l ≤ HANDFUL) (sym none) (omega (arith, few)), next)
+    inr (subst (λ (l : List Found). length jobs + length l ≤ HANDFUL) (sym none) (omega (arith, few)), next)
 
-pub still-ahead : (next : List Job) (before now : ℕ) → (next ≡ []) ⊎ ((before ≤ HANDFUL) × (length next ≤ HANDFUL)) → now ≡ before
+pub still-ahead : (next : List Claim) (before now : ℕ) → (next ≡ []) ⊎ ((before ≤ HANDFUL) × (length next ≤ HANDFUL)) → now ≡ before
     → (next ≡ []) ⊎ ((now ≤ HANDFUL) × (length next ≤ HANDFUL))
 still-ahead next before now (inl none) same = inl none
 still-ahead next before now (inr few) same = inr (subst (λ n. n ≤ HANDFUL) (sym same) few.0, few.1)

@@ -7,8 +7,6 @@ use Rattle.std.specs.Prelude.{Option, IfSome, IsTrue}
 use Rattle.std.specs.Option.{option_to_list}
 use Rattle.std.specs.List.{All, slice_get}
 use Rattle.lf_scenario.specs.declared.scenario.Scenario.{Scenario}
-use Rattle.lf_work.specs.declared.finding.Finding.{Finding}
-use Rattle.lf_work.specs.declared.job.Job.{Job}
 use Rattle.lf_scenario.specs.Sameness.{AreSame}
 use Rattle.lf_book.specs.Books.{scenario_of, task_of_finding, IsGivenFor}
 use Rattle.lf_book.specs.declared.book.Book.{Book}
@@ -16,6 +14,8 @@ use Rattle.lf_faults.specs.declared.fault.Parts.{Parts}
 use Rattle.lf_work.specs.Jobs.{IsOfJob, IsSpentOf}
 use Rattle.lf_work.specs.declared.spent.Spent.{Spent}
 use Rattle.lf_pool.specs.Holds.{AreFindingsIn, AreJobsIn, AreJobsOf, IsFindingIn, IsFoundFor, IsJobOf, IsLeftIn, IsOfBook}
+use Rattle.lf_pool.specs.declared.locked.hand.Claim.{Claim}
+use Rattle.lf_pool.specs.declared.locked.hand.Found.{Found}
 use Rattle.lf_pool.proofs.SolvedLemmas.{same-itself}
 
 -- of a list what is so of all is so of its first part,
@@ -43,7 +43,7 @@ off-end P old new (Some x) h all =
     (front P new (x ∷ []) whole, All-head P x [] (back P new (x ∷ []) whole))
 
 -- the last job of jobs of a scenario is of that scenario,
-pub last-of : (s : Scenario) (old new : List Job) (job : Job) → old ≡ new ++ job ∷ [] → AreJobsOf s old → arc_value job.scenario ≡ s
+pub last-of : (s : Scenario) (old new : List Claim) (job : Claim) → old ≡ new ++ job ∷ [] → AreJobsOf s old → arc_value job.job.scenario ≡ s
 last-of s old new job e all =
     (All-head (IsJobOf s) job [] (back (IsJobOf s) new (job ∷ []) (subst (AreJobsOf s) e all))).0
 
@@ -52,37 +52,40 @@ same-given : (s : Scenario) (p q : List ℕ) (fs gs es ds : List Parts) → q �
     → IsGivenFor s p (record { faults = fs; excluded = es }) → IsGivenFor s q (record { faults = gs; excluded = ds })
 same-given s p q fs gs es ds paths sets excluded h = rw (paths, sets, excluded) h
 
-pub found-for : (s : Scenario) (job : Job) (finding : Finding) → IsOfJob job finding → IsJobOf s job → IsFoundFor s finding
-found-for s job finding of h = (
-  of.scenario ∙ h.0,
-  same-given s job.path.items finding.job.path.items job.set finding.job.set job.excluded.items finding.job.excluded.items of.path of.set of.excluded h.1,
-)
+pub found-for : (s : Scenario) (claim : Claim) (found : Found) → IsOfJob claim.job found.finding → IsJobOf s claim → IsFoundFor s found
+found-for s claim found of h =
+    let job = claim.job in
+    let own = found.finding.job in (
+      of.scenario ∙ h.0,
+      same-given s job.path.items own.path.items job.set own.set job.excluded.items own.excluded.items of.path of.set of.excluded h.1,
+    )
 
 -- the job that stands last of jobs of a scenario is of it
-pub last-got : (s : Scenario) (jobs : List Job) (job : Job) → AreJobsOf s jobs → slice_get jobs (length jobs - 1) ≡ Some job
-    → arc_value job.scenario ≡ s
+pub last-got : (s : Scenario) (jobs : List Claim) (job : Claim) → AreJobsOf s jobs → slice_get jobs (length jobs - 1) ≡ Some job
+    → arc_value job.job.scenario ≡ s
 last-got s jobs job all got = elim ((slice_get_cases jobs (length jobs - 1)).1) [
   | inl found ↦
       let same : found.0 ≡ job = (let e : Some found.0 ≡ Some job = sym found.2 ∙ got in cc) in
-      let there : arc_value found.0.scenario ≡ s =
+      let there : arc_value found.0.job.scenario ≡ s =
       (subst (IsJobOf s) found.3 (all (length jobs - 1) found.0 found.1)).0 in
-      subst (λ (j : Job). arc_value j.scenario ≡ s) same there
+      subst (λ (j : Claim). arc_value j.job.scenario ≡ s) same there
   | inr none ↦ let never : None ≡ Some job = sym none.1 ∙ got in absurd cc
 ]
 
 -- where nothing is left of what was found, that is of it too, and so is what wasn't taken
-pub none-found : (o : Option Scenario) (old new : List Finding) → AreFindingsIn o old → new ≡ [] → AreFindingsIn o new
+pub none-found : (o : Option Scenario) (old new : List Found) → AreFindingsIn o old → new ≡ [] → AreFindingsIn o new
 none-found o old new h none = (h.0, h.1, subst (All (IsFoundFor h.0)) (sym none) (All-nil (IsFoundFor h.0)))
 
-pub none-taken : (o : Option Scenario) (findings : List Finding) (jobs : List Job) → AreFindingsIn o findings → jobs ≡ [] → AreJobsIn o jobs
+pub none-taken : (o : Option Scenario) (findings : List Found) (jobs : List Claim) → AreFindingsIn o findings → jobs ≡ [] → AreJobsIn o jobs
 none-taken o findings jobs h none = (h.0, h.1, subst (AreJobsOf h.0) (sym none) (All-nil (IsJobOf h.0)))
 
 -- and of a book that searches it
 pub some-one : (s r : Scenario) → Some s ≡ Some r → s ≡ r
 some-one s r e = cc
 
-pub finding-of : (o : Option Scenario) (book : Book) (finding : Finding) → o ≡ Some (scenario_of book) → IsFindingIn o finding → IsOfBook book finding
-finding-of o book finding searches h =
+pub finding-of : (o : Option Scenario) (book : Book) (found : Found) → o ≡ Some (scenario_of book) → IsFindingIn o found → IsOfBook book found.finding
+finding-of o book found searches h =
+    let finding = found.finding in
     let r = arc_value finding.job.scenario in
     let own : r ≡ scenario_of book = h.2.0 ∙ some-one h.0 (scenario_of book) (sym h.1 ∙ searches) in (
       subst (λ (s : Scenario). AreSame s r) own (same-itself r),
@@ -90,12 +93,12 @@ finding-of o book finding searches h =
     )
 
 -- what its job leaves is too,
-pub left-in : (o : Option Scenario) (finding : Finding) (given : Bool) (left : Option Spent) → (IsTrue given → IsFindingIn o finding)
-    → IfSome left (λ spent. IsTrue given × IsSpentOf (arc_value finding.job.scenario) spent) → IfSome left (IsLeftIn o)
-left-in o finding given None of h = h
-left-in o finding given (Some spent) of h =
-    let found = of h.0 in
-    found.1 ∙ ap Some (sym (h.1 ∙ found.2.0))
+pub left-in : (o : Option Scenario) (found : Found) (given : Bool) (left : Option Spent) → (IsTrue given → IsFindingIn o found)
+    → IfSome left (λ spent. IsTrue given × IsSpentOf (arc_value found.finding.job.scenario) spent) → IfSome left (IsLeftIn o)
+left-in o found given None of h = h
+left-in o found given (Some spent) of h =
+    let own = of h.0 in
+    own.1 ∙ ap Some (sym (h.1 ∙ own.2.0))
 
 -- and is what a job of the book is made of
 pub left-spent : (o : Option Scenario) (s : Scenario) (left : Option Spent) → o ≡ Some s → IfSome left (IsLeftIn o) → IfSome left (IsSpentOf s)

@@ -20,6 +20,8 @@ use Rattle.lf_marks.specs.contracts.grown.Answer as answer
 use Rattle.lf_marks.specs.contracts.marks.Marks as marks
 use Rattle.lf_outcome.proofs.Laws.{formulas_cross}
 use Rattle.lf_pool.specs.contracts.hands.Hands as hands
+use Rattle.lf_pool.specs.contracts.locked.hand.Claim as claim
+use Rattle.lf_pool.specs.contracts.locked.hand.Found as found
 use Rattle.lf_pool.specs.contracts.locked.Locked as locked
 use Rattle.lf_pool.specs.contracts.share.Share as share
 use Rattle.lf_pool.specs.contracts.shared.SharedBook as shared
@@ -55,8 +57,14 @@ answer_send = search (crosses, nodes_cross, sendable) depth 60 fits 20000
 finding_send : IsSend (finding.the_field).row
 finding_send = search (job_send, answer_send, crosses, sendable) depth 60 fits 20000
 
+claim_send : IsSend (claim.the_field).row
+claim_send = search (job_send, crosses, sendable) depth 60 fits 20000
+
+found_send : IsSend (found.the_field).row
+found_send = search (finding_send, crosses, sendable) depth 60 fits 20000
+
 hands_send : IsSend hands.the_row
-hands_send = search (job_send, finding_send, crosses, sendable) depth 60 fits 20000
+hands_send = search (claim_send, found_send, crosses, sendable) depth 60 fits 20000
 
 scratch_send : IsSend (scratch.the_field).row
 scratch_send = search (spent_send, scenario_send, scenario_sync, protocols_cross, crosses, sendable) depth 60 fits 20000
@@ -68,7 +76,7 @@ module _ (T : RattleType) (s : searched.Ghosts T.Denot) (l : ledger.Ghosts T.Den
 
   pub shared_sync : IsSync (shared.the_row T s l)
   shared_sync = recorded_sync (shared.the_field T s l).row _ _ (shared.the_type T s l).to_one
-      (struct_sync (shape (shared.the_type T s l)) (mutex.the_sync (locked.the_row T s l) locked_send, (condvar.the_field_sync, tt)))
+      (struct_sync (shape (shared.the_type T s l)) (mutex.the_sync (locked.the_row T s l) locked_send, (condvar.the_field_sync, (search (crosses, sendable), tt))))
 
   pub share_send : IsSend (share.the_row T s l)
   share_send = recorded_send (share.the_field T s l).row _ _ (share.the_type T s l).to_one

@@ -4,16 +4,16 @@ ghost use Rattle.std.specs.Prelude.{◌≡◌, ◌+◌, ◌≤◌, [], vec_capac
 ghost use Rattle.lf_pool.specs.declared.handful.TheConstants.{HANDFUL};
 
 use crate::handful::HANDFUL;
-use lf_work::{Finding, Job};
+use crate::locked::{Claim, Found};
 use std::alloc::{AllocError, Global};
 
 /// A worker's lists: a handful of jobs that it works, the next handful, and what it found of two. They are made once, and are empty where it takes
 /// sets one by one.
 #[derive(Drop)]
 pub(crate) struct Hands {
-    pub(crate) jobs: Vec<Job>,
-    pub(crate) next: Vec<Job>,
-    pub(crate) findings: Vec<Finding>,
+    pub(crate) jobs: Vec<Claim>,
+    pub(crate) next: Vec<Claim>,
+    pub(crate) findings: Vec<Found>,
     ghost empty: { (jobs.items ≡ []) × (next.items ≡ []) × (findings.items ≡ []) },
     ghost room: { (HANDFUL ≤ vec_capacity jobs) × (HANDFUL ≤ vec_capacity next) × (HANDFUL + HANDFUL ≤ vec_capacity findings) },
 }

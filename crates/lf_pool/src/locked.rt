@@ -1,6 +1,6 @@
 //! What lies under the lock.
 
-ghost use Rattle.std.specs.Prelude.{◌≡◌, Some, IfOk, IfSome, OnOk, OnErr, IfErr, IsTrue};
+ghost use Rattle.std.specs.Prelude.{◌≡◌, ◌+◌, ◌<◌, ◌≤◌, ◌^◌, Some, IfOk, IfSome, OnOk, OnErr, IfErr, IsTrue, vec_len};
 ghost use Rattle.std.specs.Arc.{arc_value};
 ghost use Rattle.lf_book.specs.Books.{scenario_of, task_of_finding, IsFiled, IsRefusedFor};
 ghost use Rattle.lf_work.specs.Jobs.{IsSpentOf};
@@ -12,15 +12,21 @@ use crate::handful::handful;
 use crate::searched::Searched;
 use crate::share::Share;
 use lf_book::{Book, Deepened, Refusal, Taken};
-use lf_work::{Finding, Job, Spent};
-use std::alloc::AllocError;
-use std::sync::ledger;
+use lf_scenario::Scenario;
+use lf_work::{Finding, Spent};
+use std::alloc::{AllocError, Global};
+use std::snapshot::Snapshot;
+use std::sync::{Arc, ledger};
+
+mod hand;
+
+pub(crate) use hand::{Claim, Found, Hand};
 
 /// A book of the scenario that is searched, which is closed as every book is, and the total of the sets that were filed: as many as are answered.
 #[derive(Drop)]
 pub(crate) struct Locked<L: Searched> {
-    pub(crate) book: Book,
-    pub(crate) total: ledger::Book<L>,
+    book: Book,
+    total: ledger::Book<L>,
     ghost counted: { IsAnsweredCount book total.total },
     ghost searches: { L.scenario ≡ Some (scenario_of book) } by { searched-prop L.scenario (Some (scenario_of book)) },
 }
@@ -29,7 +35,7 @@ pub(crate) struct Locked<L: Searched> {
 #[derive(Drop)]
 pub(crate) enum Begun {
     /// A set to work, which its ticket claims now.
-    Job(Job),
+    Job(Claim),
     /// No set is open, but some are worked.
     Busy,
     /// The level was done: this comes after it.
@@ -41,25 +47,69 @@ pub(crate) enum Begun {
 }
 
 impl<L: Searched> Locked<L> {
-    ghost use Rattle.std.specs.Prelude.{◌+◌, ◌≤◌, [], length, vec_capacity, Ok, MatchBool, MatchOption};
-    ghost use Rattle.std.specs.List.{All};
-    ghost use Rattle.lf_book.specs.Books.{task_of_job, IsGivenBack, IsGivenFor, IsTaken};
+    ghost use Rattle.std.specs.Prelude.{[], length, vec_capacity, Ok, MatchBool, MatchOption};
+    ghost use Rattle.std.specs.List.{All, sum_by};
+    ghost use Rattle.lf_book.specs.Books.{state_of, task_of_job, IsGivenBack, IsGivenFor, IsTaken};
     ghost use Rattle.lf_book.specs.declared.taking.Taken.TheVariants as taken;
-    ghost use Rattle.lf_pool.specs.Holds.{AreEnded, AreFiled, AreFindingsIn, AreGivenBack, AreJobsIn, AreTaken, HasGoneOn, IsBegun, IsBusy, IsFindingClaimed, IsFindingIn, IsJobClaimed, IsLeftIn};
+    ghost use Rattle.lf_pool.specs.Holds.{AreEnded, AreFiled, AreFindingsIn, AreGivenBack, AreJobsIn, AreTaken, HasGoneOn, IsBegun, IsBusy, IsFindingClaimed, IsFindingIn, IsJobClaimed, IsLeftIn, WasBegun, WasFiled, WasRefused, given_out};
     ghost use Rattle.lf_pool.specs.declared.locked.Begun.TheVariants as begun;
     ghost use Rattle.lf_pool.specs.declared.handful.TheConstants.{HANDFUL};
+    ghost use Rattle.lf_search.specs.States.{IsStart};
+
+    /// A book of the scenario at its start, and nothing filed. The error is that memory has run out.
+    pub(crate) fn new(
+        alloc: Global,
+        scenario: Arc<Scenario>,
+        total: ledger::Book<L>,
+    ) -> Result<Locked<L>, AllocError>
+        requires scenario { L.scenario ≡ Some (arc_value scenario) }
+        requires none { total.total ≡ 0 }
+        ensures scenario { IfOk result (λ locked. scenario_of locked.book ≡ arc_value scenario) }
+        ensures start { IfOk result (λ locked. IsStart (state_of locked.book)) }
+    {
+        let book = Book::begin(alloc, scenario)?;
+        Ok(Locked { book, total })
+    }
+
+    /// The book, for clauses alone.
+    pub(crate) fn shown(&self) -> Snapshot<Book>
+        ensures { result.value ≡ self.now.book }
+    {
+        Snapshot::of(&self.book)
+    }
 
     /// Takes a set, and where the level is done deepens the book. The error is that memory has run out, and changes nothing.
-    pub(crate) fn begin(&mut self) -> Result<Begun, AllocError>
+    pub(crate) fn begin(&mut self, hand: &mut Hand) -> Result<Begun, AllocError>
+        requires none { hand.old.held ≡ 0 }
+        ensures begun { IfOk result (IsBegun self.old.book self.new.book) }
+        ensures found { IfOk result (WasBegun L.scenario) }
+        ensures busy { result ≡ Ok begun.Busy → IsBusy self.new.book }
+        ensures err { OnErr result (self.new.book ≡ self.old.book) }
+        ensures hand { IfOk result (λ begun. hand.new.held ≡ given_out begun) }
+        ensures empty { OnErr result (hand.new.held ≡ 0) }
+        ensures scenario { scenario_of self.new.book ≡ scenario_of self.old.book }
+        ensures total { self.new.total ≡ self.old.total }
+    {
+        self.take_or_deepen(hand)
+    }
+
+    /// The same.
+    fn take_or_deepen(&mut self, hand: &mut Hand) -> Result<Begun, AllocError>
+        requires none { hand.old.held ≡ 0 }
         ensures begun { IfOk result (IsBegun self.old.book self.new.book) }
         ensures busy { result ≡ Ok begun.Busy → IsBusy self.new.book }
         ensures err { OnErr result (self.new.book ≡ self.old.book) }
+        ensures hand { IfOk result (λ begun. hand.new.held ≡ given_out begun) }
+        ensures empty { OnErr result (hand.new.held ≡ 0) }
         ensures scenario { scenario_of self.new.book ≡ scenario_of self.old.book }
         ensures total { self.new.total ≡ self.old.total }
     {
         let Locked { book, total: _ } = self;
         match book.take()? {
-            Taken::Job(job) => Ok(Begun::Job(job)),
+            Taken::Job(job) => {
+                hand.held += 1;
+                Ok(Begun::Job(Claim { job }))
+            }
             Taken::Busy => Ok(Begun::Busy),
             Taken::LevelDone => Ok(Begun::Deepened(book.deepen())),
             Taken::Finished => Ok(Begun::Finished),
@@ -69,14 +119,25 @@ impl<L: Searched> Locked<L> {
 
     /// Files a finding, which may be known to be of a job that a book of the search gave out, and raises the total and the worker's share by one.
     /// Nothing changes where it is of no claim of the book.
-    pub(crate) fn file(&mut self, share: &mut Share<L>, finding: Finding, given: bool) -> bool
-        requires { IsTrue given → IsFindingIn L.scenario finding }
+    pub(crate) fn file(
+        &mut self,
+        share: &mut Share<L>,
+        hand: &mut Hand,
+        found: Found,
+        given: bool,
+    ) -> bool
+        requires given { IsTrue given → IsFindingIn L.scenario found }
+        requires held { 0 < hand.old.held }
         ensures filed { MatchBool result
-            (IsFiled finding self.old.book self.new.book × (share.new.filed ≡ share.old.filed + 1))
-            ((¬ IsFindingClaimed self.old.book finding) × (self.new.book ≡ self.old.book) × (share.new.filed ≡ share.old.filed)) }
+            (IsFiled found.finding self.old.book self.new.book × (share.new.filed ≡ share.old.filed + 1))
+            ((¬ IsFindingClaimed self.old.book found.finding) × (self.new.book ≡ self.old.book) × (share.new.filed ≡ share.old.filed)) }
+        ensures found { MatchBool result (WasFiled L.scenario) (WasRefused L.scenario) }
+        ensures hand { hand.new.held + 1 ≡ hand.old.held }
         ensures scratch { share.new.scratch ≡ share.old.scratch }
         ensures scenario { scenario_of self.new.book ≡ scenario_of self.old.book }
     {
+        hand.held -= 1;
+        let Found { finding } = found;
         let Locked { book, total } = self;
         books_are_closed(book);
         let Ok(left) = file_in(book, finding, given) else {
@@ -92,20 +153,30 @@ impl<L: Searched> Locked<L> {
     }
 
     /// Gives a job back: its set is open again. Nothing changes where no such claim stands.
-    pub(crate) fn give_back(&mut self, job: Job) -> bool
-        ensures given { MatchBool result (IsGivenBack job self.old.book self.new.book)
-            ((¬ IsJobClaimed self.old.book job) × (self.new.book ≡ self.old.book)) }
+    pub(crate) fn give_back(&mut self, hand: &mut Hand, claim: Claim) -> bool
+        requires { 0 < hand.old.held }
+        ensures given { MatchBool result (IsGivenBack claim.job self.old.book self.new.book)
+            ((¬ IsJobClaimed self.old.book claim.job) × (self.new.book ≡ self.old.book)) }
+        ensures hand { hand.new.held + 1 ≡ hand.old.held }
         ensures scenario { scenario_of self.new.book ≡ scenario_of self.old.book }
         ensures total { self.new.total ≡ self.old.total }
     {
+        hand.held -= 1;
+        let Claim { job } = claim;
         let Locked { book, total: _ } = self;
         book.give_back(job).is_ok()
     }
 
     /// Takes a handful of sets where many are open, one after another, and none where few are. The list has room for them. Each job is made of what
     /// an earlier one left, as long as there is such.
-    pub(crate) fn take_some(&mut self, jobs: &mut Vec<Job>, spent: &mut Vec<Spent>)
+    pub(crate) fn take_some(
+        &mut self,
+        hand: &mut Hand,
+        jobs: &mut Vec<Claim>,
+        spent: &mut Vec<Spent>,
+    )
         requires none { jobs.old.items ≡ [] }
+        requires held { hand.old.held < 2 ^ 32 }
         requires left { All (IsLeftIn L.scenario) spent.old.items }
         requires room { HANDFUL ≤ vec_capacity jobs.old }
         ensures taken { AreTaken jobs.new.items self.old.book self.new.book }
@@ -113,11 +184,12 @@ impl<L: Searched> Locked<L> {
         ensures left { All (IsLeftIn L.scenario) spent.new.items }
         ensures few { length jobs.new.items ≤ HANDFUL }
         ensures room { vec_capacity jobs.new ≡ vec_capacity jobs.old }
+        ensures hand { hand.new.held ≡ hand.old.held + length jobs.new.items }
         ensures scenario { scenario_of self.new.book ≡ scenario_of self.old.book }
         ensures total { self.new.total ≡ self.old.total }
     {
         'jobs: for _taken in 0..handful(self.book.counts().ready) {
-            let Some(job) = self.take_job(spent.pop()) else {
+            let Some(job) = self.take_job(hand, spent.pop()) else {
                 break;
             };
             jobs.push_reserved(job);
@@ -125,18 +197,22 @@ impl<L: Searched> Locked<L> {
     }
 
     /// Takes a set. None where there is none to take, and where memory has run out. Its job is made of what another one left, if there is such.
-    fn take_job(&mut self, spent: Option<Spent>) -> Option<Job>
-        requires { IfSome spent (IsLeftIn L.scenario) }
-        ensures taken { MatchOption result (self.new.book ≡ self.old.book)
-            (λ job. IsTaken self.old.book self.new.book (taken.Job job)) }
-        ensures given { IfSome result (λ job. IsGivenFor (scenario_of self.old.book) job.path.items (task_of_job job)) }
+    fn take_job(&mut self, hand: &mut Hand, spent: Option<Spent>) -> Option<Claim>
+        requires left { IfSome spent (IsLeftIn L.scenario) }
+        requires held { hand.old.held < 2 ^ 33 }
+        ensures taken { MatchOption result ((self.new.book ≡ self.old.book) × (hand.new.held ≡ hand.old.held))
+            (λ claim. IsTaken self.old.book self.new.book (taken.Job claim.job) × (hand.new.held ≡ hand.old.held + 1)) }
+        ensures given { IfSome result (λ claim. IsGivenFor (scenario_of self.old.book) claim.job.path.items (task_of_job claim.job)) }
         ensures scenario { scenario_of self.new.book ≡ scenario_of self.old.book }
         ensures total { self.new.total ≡ self.old.total }
     {
         let Locked { book, total: _ } = self;
         books_are_closed(book);
         match book.take_with(spent) {
-            Ok(Taken::Job(job)) => Some(job),
+            Ok(Taken::Job(job)) => {
+                hand.held += 1;
+                Some(Claim { job })
+            }
             Ok(Taken::Busy | Taken::LevelDone | Taken::Finished | Taken::Spent) | Err(_) => None,
         }
     }
@@ -145,23 +221,26 @@ impl<L: Searched> Locked<L> {
     pub(crate) fn go_on(
         &mut self,
         share: &mut Share<L>,
-        jobs: &mut Vec<Job>,
-        findings: &mut Vec<Finding>,
+        hand: &mut Hand,
+        jobs: &mut Vec<Claim>,
+        findings: &mut Vec<Found>,
     )
         requires none { jobs.old.items ≡ [] }
         requires findings { AreFindingsIn L.scenario findings.old.items }
+        requires held { (length findings.old.items ≤ hand.old.held) × (hand.old.held < 2 ^ 32) }
         requires room { HANDFUL ≤ vec_capacity jobs.old }
         ensures went { HasGoneOn findings.old.items jobs.new.items self.old.book self.new.book }
         ensures same { AreJobsIn L.scenario jobs.new.items }
         ensures few { length jobs.new.items ≤ HANDFUL }
         ensures none { findings.new.items ≡ [] }
         ensures rooms { (vec_capacity jobs.new ≡ vec_capacity jobs.old) × (vec_capacity findings.new ≡ vec_capacity findings.old) }
+        ensures hand { hand.new.held + length findings.old.items ≡ hand.old.held + length jobs.new.items }
         ensures share { share.old.filed ≤ share.new.filed }
         ensures scratch { share.new.scratch ≡ share.old.scratch }
         ensures scenario { scenario_of self.new.book ≡ scenario_of self.old.book }
     {
-        let _filed = self.file_all(share, findings);
-        self.take_some(jobs, &mut share.spent);
+        let _filed = self.file_all(share, hand, findings);
+        self.take_some(hand, jobs, &mut share.spent);
     }
 
     /// Ends a handful: files what was found, then gives back the jobs that are left. Both lists are empty then, with their room. It answers how
@@ -169,50 +248,86 @@ impl<L: Searched> Locked<L> {
     pub(crate) fn end_some(
         &mut self,
         share: &mut Share<L>,
-        jobs: &mut Vec<Job>,
-        findings: &mut Vec<Finding>,
+        hand: &mut Hand,
+        jobs: &mut Vec<Claim>,
+        findings: &mut Vec<Found>,
     ) -> u64
-        requires { AreFindingsIn L.scenario findings.old.items }
+        requires findings { AreFindingsIn L.scenario findings.old.items }
+        requires held { length findings.old.items + length jobs.old.items ≤ hand.old.held }
         ensures ended { AreEnded findings.old.items jobs.old.items result self.old.book self.new.book }
         ensures none { (jobs.new.items ≡ []) × (findings.new.items ≡ []) }
         ensures room { (vec_capacity jobs.new ≡ vec_capacity jobs.old) × (vec_capacity findings.new ≡ vec_capacity findings.old) }
+        ensures hand { hand.new.held + (length findings.old.items + length jobs.old.items) ≡ hand.old.held }
         ensures share { share.new.filed ≡ share.old.filed + result }
         ensures scenario { scenario_of self.new.book ≡ scenario_of self.old.book }
     {
-        let filed = self.file_all(share, findings);
-        self.give_back_all(jobs);
+        let filed = self.file_all(share, hand, findings);
+        self.give_back_all(hand, jobs);
         filed
     }
 
     /// Files findings of the search, the last one first, and tells how many the book didn't refuse. By so many the total and the worker's share are
     /// raised. No set and no exclusions are compared: they are those of the claim.
-    fn file_all(&mut self, share: &mut Share<L>, findings: &mut Vec<Finding>) -> u64
-        requires { AreFindingsIn L.scenario findings.old.items }
+    fn file_all(&mut self, share: &mut Share<L>, hand: &mut Hand, findings: &mut Vec<Found>) -> u64
+        requires findings { AreFindingsIn L.scenario findings.old.items }
+        requires held { length findings.old.items ≤ hand.old.held }
         ensures filed { AreFiled findings.old.items result self.old.book self.new.book }
         ensures none { findings.new.items ≡ [] }
         ensures room { vec_capacity findings.new ≡ vec_capacity findings.old }
+        ensures hand { hand.new.held + length findings.old.items ≡ hand.old.held }
         ensures share { share.new.filed ≡ share.old.filed + result }
         ensures scratch { share.new.scratch ≡ share.old.scratch }
         ensures scenario { scenario_of self.new.book ≡ scenario_of self.old.book }
     {
         let before = share.filed;
         'findings: while let Some(finding) = findings.pop() {
-            let _filed = self.file(share, finding, true);
+            let _filed = self.file(share, hand, finding, true);
         }
         share.filed - before
     }
 
     /// Gives jobs back, the last one first: their sets are open again.
-    fn give_back_all(&mut self, jobs: &mut Vec<Job>)
+    fn give_back_all(&mut self, hand: &mut Hand, jobs: &mut Vec<Claim>)
+        requires { length jobs.old.items ≤ hand.old.held }
         ensures given { AreGivenBack jobs.old.items self.old.book self.new.book }
         ensures none { jobs.new.items ≡ [] }
         ensures room { vec_capacity jobs.new ≡ vec_capacity jobs.old }
+        ensures hand { hand.new.held + length jobs.old.items ≡ hand.old.held }
         ensures scenario { scenario_of self.new.book ≡ scenario_of self.old.book }
         ensures total { self.new.total ≡ self.old.total }
     {
         'jobs: while let Some(job) = jobs.pop() {
-            let _given = self.give_back(job);
+            let _given = self.give_back(hand, job);
         }
+    }
+
+    /// The book, and the sum of all shares.
+    pub(crate) fn gather(self, shares: Vec<Share<L>>) -> (Book, u64)
+        requires all { vec_len shares ≡ L.parts }
+        requires some { 0 < L.parts }
+        ensures book { result.0 ≡ self.book }
+        ensures counted { IsAnsweredCount result.0 result.1 }
+        ensures sum { result.1 ≡ sum_by (λ share. share.filed) shares.items }
+    {
+        books_are_closed(&self.book);
+        let Locked { book, mut total } = self;
+        let mut shares = shares;
+        let Some(last) = shares.pop() else {
+            unreachable!()
+        };
+        let Share {
+            filed: mut sum,
+            part: mut all,
+            ..
+        } = last;
+        'shares: while let Some(share) = shares.pop() {
+            let Share { filed, part, .. } = share;
+            all.merge(part);
+            total.audit(&mut all);
+            sum += filed;
+        }
+        total.audit(&mut all);
+        (book, sum)
     }
 }
 

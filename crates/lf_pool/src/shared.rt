@@ -3,12 +3,12 @@
 ghost use Rattle.std.specs.Prelude.{◌≡◌, ◌+◌, ◌<◌, Some, IfOk, IfErr, OnOk, vec_len};
 ghost use Rattle.std.specs.Arc.{arc_value};
 ghost use Rattle.std.specs.List.{All, sum_by};
-ghost use Rattle.lf_book.specs.Books.{scenario_of};
+ghost use Rattle.lf_book.specs.Books.{scenario_of, state_of};
 ghost use Rattle.lf_pool.specs.Holds.{IsAnsweredCount};
 ghost use Rattle.lf_pool.specs.Solved.{AreWorkers, IsNotBegun};
+ghost use Rattle.lf_search.specs.States.{IsStart};
 
 use crate::error::PoolError;
-use crate::facts::books_are_closed;
 use crate::locked::Locked;
 use crate::searched::Searched;
 use crate::share::Share;
@@ -16,6 +16,7 @@ use crate::solving::are_workers;
 use lf_book::Book;
 use lf_scenario::Scenario;
 use std::alloc::{AllocError, Global};
+use std::snapshot::Snapshot;
 use std::sync::ledger::Blank;
 use std::sync::{Arc, Condvar, Mutex, ledger};
 
@@ -26,11 +27,13 @@ pub struct SharedBook<L: Searched> {
     pub(crate) lock: Mutex<Locked<L>>,
     /// Told whenever there may be more to do than before.
     pub(crate) changed: Condvar,
+    /// The book as it was put under the lock, for clauses alone.
+    pub(crate) begun: Snapshot<Book>,
 }
 
 impl<L: Searched> SharedBook<L> {
-    /// A book of the scenario at its start, and a share of nothing for each worker and for whoever gathers them. The errors are `Workers` and
-    /// `Memory`.
+    /// A book of the scenario at its start, where the empty set is open and no ticket was given yet, and a share of nothing for each worker and for
+    /// whoever gathers them. The errors are `Workers` and `Memory`.
     pub fn begin(
         alloc: Global,
         blank: Blank,
@@ -41,6 +44,8 @@ impl<L: Searched> SharedBook<L> {
         requires parts { blank.parts ≡ L.parts }
         requires enough { blank.parts ≡ workers + 1 }
         requires scenario { L.scenario ≡ Some (arc_value scenario) }
+        ensures start { IfOk result (λ begun. IsStart (state_of begun.0.begun.value)) }
+        ensures scenario { IfOk result (λ begun. scenario_of begun.0.begun.value ≡ arc_value scenario) }
         ensures shares { IfOk result (λ begun. vec_len begun.1 ≡ workers + 1) }
         ensures none { IfOk result (λ begun. All (λ share. share.filed ≡ 0) begun.1.items) }
         ensures workers { OnOk result (AreWorkers workers) }
@@ -53,14 +58,22 @@ impl<L: Searched> SharedBook<L> {
         let Ok(shares) = cut(alloc, whole, workers) else {
             return Err(PoolError::Memory);
         };
-        let Ok(book) = Book::begin(alloc, scenario) else {
+        let Ok(locked) = Locked::new(alloc, scenario, total) else {
             return Err(PoolError::Memory);
         };
-        let shared = SharedBook {
-            lock: Mutex::new(Locked { book, total }),
+        Ok((SharedBook::of(locked), shares))
+    }
+
+    /// A lock with this book under it.
+    fn of(locked: Locked<L>) -> SharedBook<L>
+        ensures { result.begun.value ≡ locked.book }
+    {
+        let begun = locked.shown();
+        SharedBook {
+            lock: Mutex::new(locked),
             changed: Condvar::new(),
-        };
-        Ok((shared, shares))
+            begun,
+        }
     }
 
     /// The book, which is of the scenario that is searched, and the sum of all shares: so many of its sets are answered. It takes no memory.
@@ -71,39 +84,8 @@ impl<L: Searched> SharedBook<L> {
         ensures counted { IsAnsweredCount result.0 result.1 }
         ensures sum { result.1 ≡ sum_by (λ share. share.filed) shares.items }
     {
-        let SharedBook { lock, changed: _ } = self;
+        let SharedBook { lock, .. } = self;
         lock.into_inner().gather(shares)
-    }
-}
-
-impl<L: Searched> Locked<L> {
-    /// The book, and the sum of all shares.
-    fn gather(self, shares: Vec<Share<L>>) -> (Book, u64)
-        requires all { vec_len shares ≡ L.parts }
-        requires some { 0 < L.parts }
-        ensures book { result.0 ≡ self.book }
-        ensures counted { IsAnsweredCount result.0 result.1 }
-        ensures sum { result.1 ≡ sum_by (λ share. share.filed) shares.items }
-    {
-        books_are_closed(&self.book);
-        let Locked { book, mut total } = self;
-        let mut shares = shares;
-        let Some(last) = shares.pop() else {
-            unreachable!()
-        };
-        let Share {
-            filed: mut sum,
-            part: mut all,
-            ..
-        } = last;
-        'shares: while let Some(share) = shares.pop() {
-            let Share { filed, part, .. } = share;
-            all.merge(part);
-            total.audit(&mut all);
-            sum += filed;
-        }
-        total.audit(&mut all);
-        (book, sum)
     }
 }
 

@@ -3,6 +3,7 @@
 ghost use Rattle.std.specs.Prelude.{◌≡◌, ◌↔◌, ◌+◌, ◌≤◌, Some, IsTrue, IfOk, IfErr, OnOk};
 ghost use Rattle.std.specs.Arc.{arc_value};
 ghost use denote.Param.Send.{IsSend, IsSync};
+ghost use Rattle.lf_pool.specs.Holds.{IsLastTurn};
 ghost use Rattle.lf_pool.specs.Solved.{AreSolved, AreWorkers, IsEnded, IsRefused, IsSolved, number_of};
 
 use crate::answers::{all_of, answer_of};
@@ -13,12 +14,12 @@ use crate::gate::Gate;
 use crate::searched::Searched;
 use crate::share::Share;
 use crate::shared::SharedBook;
-use crate::turning::Turn;
+use crate::turning::{Turn, is_last};
 use lf_book::Book;
 use lf_faults::FaultSet;
 use lf_scenario::Scenario;
 use lf_tree::Tree;
-use std::alloc::Global;
+use std::alloc::{AllocError, Global};
 use std::marker::Brand;
 use std::rt::Clock;
 use std::sync::ledger::Blank;
@@ -149,32 +150,35 @@ fn work_all<L: Searched + Send + Sync, R: Threads + Wait + Clock + Sync, G: Gate
             requires { IsSend L.row × IsSync L.row × IsSync R.row × IsSync G.row }
         {
             for share in shares.iter_mut() {
-                let _started = scope.spawn(move || work(rt, shared, share, gate)).is_ok();
+                let _started = scope
+                    .spawn(move || {
+                        let _ended = work(rt, shared, share, gate);
+                    })
+                    .is_ok();
             }
         },
     );
 }
 
-/// A worker's turns, several at once where many sets are open, until there is no more to do or no memory for it.
+/// A worker's turns, several at once where many sets are open, until there is no more to do: its last turn is answered, which found that in a book of the
+/// scenario. The error is that memory has run out.
 fn work<L: Searched, R: Wait + Clock, G: Gate>(
     rt: &R,
     shared: &SharedBook<L>,
     share: &mut Share<L>,
     gate: &G,
-) {
+) -> Result<Turn, AllocError>
+    ensures { IfOk result (IsLastTurn L.scenario) }
+{
     fetch_memory(*share.spent.allocator());
     for _ in rt.forever() {
-        let Ok(filed) = shared.work_some(rt, share, gate) else {
-            break;
-        };
-        if filed > 0 {
+        if shared.work_some(rt, share, gate)? > 0 {
             continue;
         }
-        let Ok(turn) = shared.work_one(rt, share, gate) else {
-            break;
-        };
-        if matches!(turn, Turn::Finished | Turn::Full { .. } | Turn::Spent) {
-            break;
+        let turn = shared.work_one(rt, share, gate)?;
+        if is_last(&turn) {
+            return Ok(turn);
         }
     }
+    unreachable!()
 }

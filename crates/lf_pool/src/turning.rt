@@ -1,17 +1,18 @@
 //! The turns of a worker.
 
-ghost use Rattle.std.specs.Prelude.{◌≡◌, ◌≢◌, ◌+◌, Ok};
-ghost use Rattle.lf_pool.specs.Holds.{IsBusy};
+ghost use Rattle.std.specs.Prelude.{◌≡◌, ◌≢◌, ◌+◌, Option, Ok, IfOk, IsTrue};
+ghost use Rattle.lf_pool.specs.Holds.{IsBusy, IsLastTurn, IsTurn, WasBegun};
+ghost use Rattle.lf_scenario.specs.declared.scenario.Scenario.{Scenario};
 ghost use Rattle.std.specs.Sync.Mutex.{mutex_guard_value};
+ghost use Rattle.lf_pool.specs.declared.locked.Begun.TheVariants as begun;
 ghost use Rattle.lf_pool.specs.declared.turning.Turn.TheVariants as turn;
 
 use crate::gate::Gate;
-use crate::locked::{Begun, Locked};
+use crate::locked::{Begun, Claim, Found, Hand, Locked};
 use crate::searched::Searched;
 use crate::share::Share;
 use crate::shared::SharedBook;
 use lf_book::Deepened;
-use lf_work::{Finding, Job};
 use std::alloc::AllocError;
 use std::rt::Clock;
 use std::sync::{MutexGuard, Wait};
@@ -41,19 +42,41 @@ pub enum Turn {
 impl<L: Searched> SharedBook<L> {
     /// One turn of a worker: it takes a set, works it by the gate outside the lock, and files what it found. Where the level is done it
     /// deepens the book, and where all open sets are worked by others it waits once for a change. The error is that memory has run
-    /// out: the set was given back. The share is raised by one where a finding was filed, and is else as it was.
+    /// out: the set was given back. The share is raised by one where a finding was filed, and is else as it was. What it answers is what a hold did to a
+    /// book of the scenario, or found.
     pub fn work_one<R: Wait + Clock, G: Gate>(
         &self,
         rt: &R,
         share: &mut Share<L>,
         gate: &G,
     ) -> Result<Turn, AllocError>
+        ensures turn { IfOk result (IsTurn L.scenario) }
         ensures filed { result ≡ Ok turn.Filed → share.new.filed ≡ share.old.filed + 1 }
         ensures other { result ≢ Ok turn.Filed → share.new.filed ≡ share.old.filed }
     {
+        let mut hand = Hand::new();
+        let turn = self.turn(rt, share, gate, &mut hand);
+        hand.close();
+        turn
+    }
+
+    /// The same. No set is in hand before it, nor after it.
+    fn turn<R: Wait + Clock, G: Gate>(
+        &self,
+        rt: &R,
+        share: &mut Share<L>,
+        gate: &G,
+        hand: &mut Hand,
+    ) -> Result<Turn, AllocError>
+        requires { hand.old.held ≡ 0 }
+        ensures turn { IfOk result (IsTurn L.scenario) }
+        ensures filed { result ≡ Ok turn.Filed → share.new.filed ≡ share.old.filed + 1 }
+        ensures other { result ≢ Ok turn.Filed → share.new.filed ≡ share.old.filed }
+        ensures hand { hand.new.held ≡ 0 }
+    {
         let mut guard = self.lock.lock(rt);
-        let job = match guard.begin()? {
-            Begun::Job(job) => job,
+        let claim = match guard.begin(hand)? {
+            Begun::Job(claim) => claim,
             Begun::Busy => {
                 self.wait_once(rt, guard);
                 return Ok(Turn::Waited);
@@ -67,11 +90,11 @@ impl<L: Searched> SharedBook<L> {
             Begun::Spent => return Ok(Turn::Spent),
         };
         drop(guard);
-        share.scratch.suit(&job);
-        match gate.run(rt, &job, &mut share.scratch) {
-            Ok(finding) => Ok(self.file(rt, share, finding)),
-            Err(error) => {
-                self.give_back(rt, job);
+        share.scratch.suit(claim.job());
+        match claim.work(rt, gate, &mut share.scratch) {
+            Ok(found) => Ok(self.file(rt, share, hand, found)),
+            Err((error, claim)) => {
+                self.give_back(rt, hand, claim);
                 Err(error)
             }
         }
@@ -85,28 +108,45 @@ impl<L: Searched> SharedBook<L> {
     }
 
     /// Files what was found, and wakes all that wait.
-    fn file<R: Wait>(&self, rt: &R, share: &mut Share<L>, finding: Finding) -> Turn
+    fn file<R: Wait>(&self, rt: &R, share: &mut Share<L>, hand: &mut Hand, found: Found) -> Turn
+        requires { hand.old.held ≡ 1 }
+        ensures turn { IsTurn L.scenario result }
+        ensures hand { hand.new.held ≡ 0 }
         ensures filed { result ≡ turn.Filed → share.new.filed ≡ share.old.filed + 1 }
         ensures other { result ≢ turn.Filed → share.new.filed ≡ share.old.filed }
     {
-        let filed = self.lock.lock(rt).file(share, finding, false);
+        let filed = self.lock.lock(rt).file(share, hand, found, false);
         self.changed.notify_all();
         if filed { Turn::Filed } else { Turn::Refused }
     }
 
     /// Gives a job back, and wakes all that wait.
-    fn give_back<R: Wait>(&self, rt: &R, job: Job) {
-        let _given = self.lock.lock(rt).give_back(job);
+    fn give_back<R: Wait>(&self, rt: &R, hand: &mut Hand, claim: Claim)
+        requires { hand.old.held ≡ 1 }
+        ensures { hand.new.held ≡ 0 }
+    {
+        let _given = self.lock.lock(rt).give_back(hand, claim);
         self.changed.notify_all();
     }
 }
 
 /// The turn that deepened a book.
 fn turn_of(deepened: Deepened) -> Turn
-    ensures { result ≢ turn.Filed }
+    ensures turn { (s : Option Scenario) → WasBegun s (begun.Deepened deepened) → IsTurn s result }
+    ensures other { result ≢ turn.Filed }
 {
     match deepened {
         Deepened::Full { count } => Turn::Full { count },
         other => Turn::Deepened(other),
+    }
+}
+
+/// Whether a worker has no more to do after such a turn.
+pub(crate) fn is_last(turn: &Turn) -> bool
+    ensures { IsTrue result → (s : Option Scenario) → IsTurn s turn.now → IsLastTurn s turn.now }
+{
+    match turn {
+        Turn::Finished | Turn::Full { .. } | Turn::Spent => true,
+        Turn::Filed | Turn::Refused | Turn::Waited | Turn::Deepened(_) => false,
     }
 }

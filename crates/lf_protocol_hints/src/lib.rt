@@ -9,6 +9,7 @@ mod chains;
 mod counts;
 mod keys;
 mod limits;
+mod nobody;
 mod notes;
 mod refusals;
 mod title;

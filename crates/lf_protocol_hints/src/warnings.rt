@@ -1,9 +1,10 @@
 //! What looks like a slip in a protocol file.
 
+use crate::nobody::why_nobody;
 use crate::used::{is_word_given, notes_used, used_by};
 use crate::uses::{Uses, has_bit};
 use lf_protocol_file::Outcome;
-use lf_rules::{Chain, Definition, Event, Leaf, Name, Rule, Tree, Unary, Variable};
+use lf_rules::{Definition, Event, Leaf, Name, Rule, Tree, Unary, Variable};
 use std::alloc::AllocError;
 
 /// Puts the warnings behind a text, each on a line of its own. The error, also below, is that memory has run out.
@@ -117,11 +118,8 @@ fn warn_of_rules(text: &mut String, definition: &Definition) -> Result<(), Alloc
     for chain in definition.chains.as_slice() {
         for rule in chain.rules.as_slice() {
             number = number.saturating_add(1);
-            if is_of_nobody(chain) {
-                write!(
-                    text,
-                    "\nwarning: rule {number} is no node's: its who is the empty set"
-                )?;
+            if let Some(why) = why_nobody(definition, chain) {
+                write!(text, "\nwarning: rule {number} is no node's: {why}")?;
             }
             warn_of_sends(text, definition, number, rule)?;
         }
@@ -141,11 +139,6 @@ fn has_wake(definition: &Definition) -> bool {
         }
     }
     false
-}
-
-/// Whether rules are of the set without nodes, as it is written.
-fn is_of_nobody(chain: &Chain) -> bool {
-    matches!(chain.who.tree(), Tree::Leaf(Leaf::Empty))
 }
 
 /// Of notes that the rule with a number sends to the node itself alone.

@@ -6,6 +6,8 @@
 
 mod device;
 mod error;
+mod files;
+pub mod in_memory;
 mod reader;
 mod reading;
 pub mod testing;
@@ -14,6 +16,7 @@ mod writing;
 
 pub use device::{Sink, Source};
 pub use error::{Failed, ReadFault};
+pub use files::{Files, Place};
 pub use reader::FromRead;
 pub use reading::read_up_to;
 pub use writer::ToWrite;

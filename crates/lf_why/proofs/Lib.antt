@@ -1,4 +1,5 @@
 mod Counted
+mod Differences
 mod IdleLemmas
 pub mod Laws
 mod NoneLemmas

@@ -44,12 +44,22 @@ const SETS: &str = concat!(
     "step 3\n- 1 empty not_done backup unclaimed\n+ 1 empty not_done primary unclaimed\n",
     "without omit 0>1 @2: reaches\n",
     "step 3\n- 1 holds not_done backup unclaimed\n+ 1 empty not_done primary unclaimed\n",
-    // A node that isn't up differs at once, and of two nodes the first is told.
+    // A node that is down sends nothing, here until it wakes; the last step after which another differs is told, with all nodes.
     "#redundant 2 1|3 1 0 2 1 1 1 0 0|delivered|pause 0 @1\n",
-    "without pause 0 @1: reaches\nstep 1\n- 0 has\n+ 0 down\n",
+    "without pause 0 @1: reaches\nstep 1\n- 0>1 data 2\nstep 2\n- 1 has\n+ 1 lacks\n",
     "#retry 3 1|3 1 0 2 1 1 1 0 0|delivered|pause 0 @1\n",
-    "without pause 0 @1: reaches\nstep 1\n- 0 has\n+ 0 down\n",
-    // A fault without which the run misses, and one that changes nothing.
+    "without pause 0 @1: reaches\nstep 1\n- 0>1 data 2\n- 0>2 data 2\nstep 3\n- 1 has\n+ 1 lacks\n- 2 has\n+ 2 lacks\n",
+    // That votes to a node that is down are lost isn't told.
+    "#two_phase 3 3|5 0 1 1 0 1 1 0 0|unblocked|crash 0 @2\n",
+    "without crash 0 @2: reaches\nstep 3\n- 0>1 commit 4\n- 0>2 commit 4\n",
+    "step 5\n- 1 committed\n+ 1 prepared\n- 2 committed\n+ 2 prepared\n",
+    // Nor is a note that arrives after the end, or one to a node that is down, too.
+    "#retry 2 1|3 0 2 2 0 1 3 0 0|delivered|crash 0 @1\n",
+    "without crash 0 @1: misses\nstep 1\n- 0 has\n+ 0 down\n",
+    "#retry 2 1|3 0 2 2 0 1 1 0 0|delivered|crash 0 @1,crash 1 @2\n",
+    "without crash 0 @1: reaches\nstep 1\n- 0 has\n+ 0 down\n",
+    "without crash 1 @2: reaches\nstep 2\n- 1 lacks\n+ 1 down\n",
+    // A fault without which the run misses, a pause that has nothing but its node down, and an omission that changes nothing.
     "#retry 2 1|3 1 1 2 1 2 1 0 0|delivered|omit 0>1 @1,pause 0 @3\n",
     "without omit 0>1 @1: reaches\nstep 2\n- 1 has\n+ 1 lacks\n",
     "without pause 0 @3: misses\nstep 3\n- 0 has\n+ 0 down\n",

@@ -1,8 +1,9 @@
 //! What is told of protocol files that are read.
 
+use crate::rows::columns;
 use lf_protocol_file::read_protocol;
 use lf_protocol_hints::protocol_notes;
-use std::alloc::Global;
+use std::alloc::{AllocError, Global};
 
 /// A file with much in it that looks like a slip.
 const FILE: &str = concat!(
@@ -38,9 +39,59 @@ const NOTES: &str = concat!(
     "warning: phase never becomes done\n",
     "warning: nothing in the file reads the variable since\n",
     "warning: rule 1 sends ASK to me alone, and a node hears nothing from itself\n",
-    "warning: rule 2 is no node's: its who is the empty set\n",
+    "warning: rule 2 is no node's: its who is empty, however many nodes there are\n",
     "warning: since is set to t, and no rule is on wake: time goes on while a node sleeps",
 );
+
+/// The front and the end of a file, with the text of a rule's `who` between.
+const FRONT: &str = concat!(
+    "name = \"roles\"\n",
+    "given = { nobody = \"{}\", group = \"{1..2}\", last = [9, 9, 2], far = 8 }\n",
+    "state = { heard = \"flag\" }\n",
+    "notes = []\n",
+    "rules = [{ on = \"begin\", set = \"heard = true\" }, { who = \"",
+);
+
+const END: &str = "\", on = \"end\", when = \"heard\" }]\n";
+
+/// What `who` says, and why the rule is no node's, with `~` between.
+const WHO: &str = concat!(
+    "{}~its who is empty, however many nodes there are\n",
+    "{0} - 0~its who is empty, however many nodes there are\n",
+    "{1..} - all~its who is empty, however many nodes there are\n",
+    "{5..3}~its who is empty, however many nodes there are\n",
+    "{nodes..}~its who is empty, however many nodes there are\n",
+    "nodes~its who is empty, however many nodes there are\n",
+    "8~its who is empty, however many nodes there are\n",
+    "highest({})~its who is empty, however many nodes there are\n",
+    "nobody~its who is empty, unless a scenario gives its constants anew\n",
+    "group - {0..2}~its who is empty, unless a scenario gives its constants anew\n",
+    "far~its who is empty, unless a scenario gives its constants anew\n",
+    "7~\n",
+    "nodes - 1~\n",
+    "group~\n",
+    // Node 2 of three has the rule.
+    "last~\n",
+    "{last}~\n",
+);
+
+/// Whether what is told of the `who` of a row is what the row says.
+fn is_said(alloc: Global, row: &str) -> Result<bool, AllocError> {
+    let (who, why) = columns(row);
+    let text = format!(in alloc; "{FRONT}{who}{END}")?;
+    let warning = format!(in alloc; "\nwarning: rule 2 is no node's: {why}")?;
+    match read_protocol(alloc, text.as_bytes()) {
+        Ok(file) => {
+            let told = protocol_notes(alloc, &file)?;
+            Ok(if why.is_empty() {
+                !told.contains("is no node's")
+            } else {
+                told.as_str().ends_with(warning.as_str())
+            })
+        }
+        Err(_) => Ok(false),
+    }
+}
 
 /// Whether a file is read and this is told of it.
 fn is_told(alloc: Global, text: &str, expected: &str) -> bool {
@@ -57,4 +108,12 @@ fn is_told(alloc: Global, text: &str, expected: &str) -> bool {
 fn slips_are_told(rt: HostRuntime) {
     let is_told = is_told(rt.alloc(), FILE, NOTES);
     assert!(&rt; is_told);
+}
+
+#[test]
+fn rules_of_nobody_are_told(rt: HostRuntime) {
+    for row in WHO.lines() {
+        let is_said = matches!(is_said(rt.alloc(), row), Ok(true));
+        assert!(&rt; is_said, "at {row}");
+    }
 }

@@ -16,6 +16,8 @@ mod refusals;
 #[cfg(test)]
 mod rows;
 #[cfg(test)]
+mod run_hints;
+#[cfg(test)]
 mod scenarios;
 #[cfg(test)]
 mod text_hints;

@@ -10,7 +10,7 @@ use std::process::Abort;
 /// A protocol, a line for each key.
 const FILE: &str = concat!(
     "name = \"relay\"\n",
-    "given = { limit = 3, peers = \"{1..}\", turns = [true, false, true] }\n",
+    "given = { limit = 3, peers = \"{1..}\", share = 0, turns = [true, false, true] }\n",
     "state = { phase = \"idle | busy\", done = \"flag\", round = \"0..9\" }\n",
     "notes = [\"ASK(r: round)\", \"STOP\"]\n",
     "lets = { next = \"(me + 1) mod limit\" }\n",
@@ -86,6 +86,15 @@ const SAME: &str = concat!(
     "given = { peers = \"all - 0\" }~given = { limit = 3, peers = \"{1, 2}\" }\n",
 );
 
+/// What a scenario gives anew, and what is told of it where its outcome divides by `share`, which is 0 in the file.
+const DIVIDED: &str = concat!(
+    "share = 2~read\n",
+    "share = [1, 2, 3]~read\n",
+    "share = 0~10 outcome\n",
+    "share = [1, 0, 3]~10 outcome\n",
+    "limit = 2~10 outcome\n",
+);
+
 /// The scenario with a line changed.
 fn read_changed(
     alloc: Global,
@@ -105,6 +114,20 @@ fn told(
     instead: &str,
 ) -> Result<String, AllocError> {
     let text = changed(alloc, SCENARIO, key, instead)?;
+    told_of(alloc, file, text.as_str())
+}
+
+/// What is told of a scenario whose outcome divides by `share`, by what it gives anew.
+fn told_divided(alloc: Global, file: &ProtocolFile, given: &str) -> Result<String, AllocError> {
+    let outcome = "outcome = \"each done of {1 mod share}\"";
+    let text = changed(alloc, SCENARIO, "outcome", outcome)?;
+    let given = format!(in alloc; "given = {{ {given} }}")?;
+    let text = changed(alloc, text.as_str(), "none", given.as_str())?;
+    told_of(alloc, file, text.as_str())
+}
+
+/// What is told of a scenario.
+fn told_of(alloc: Global, file: &ProtocolFile, text: &str) -> Result<String, AllocError> {
     match read_with(alloc, text.as_bytes(), file) {
         Ok(_) => String::from_str(alloc, "read"),
         Err(e) => match e.key() {
@@ -119,6 +142,15 @@ fn row_is_told(alloc: Global, file: &ProtocolFile, row: &str) -> bool {
     let (key, rest) = columns(row);
     let (instead, wanted) = columns(rest);
     match told(alloc, file, key, instead) {
+        Ok(told) => told.as_str() == wanted,
+        Err(_) => false,
+    }
+}
+
+/// Whether this is told of the scenario that gives a constant anew.
+fn row_is_divided(alloc: Global, file: &ProtocolFile, row: &str) -> bool {
+    let (given, wanted) = columns(row);
+    match told_divided(alloc, file, given) {
         Ok(told) => told.as_str() == wanted,
         Err(_) => false,
     }
@@ -144,6 +176,13 @@ fn are_told(rt: &impl Abort, alloc: Global, file: &ProtocolFile) {
     }
 }
 
+/// Of each row's scenario, which divides, is told what the row says.
+fn are_divided(rt: &impl Abort, alloc: Global, file: &ProtocolFile) {
+    for row in DIVIDED.lines() {
+        assert!(rt; row_is_divided(alloc, file, row), "at {row}");
+    }
+}
+
 /// Each row's scenarios are the same.
 fn are_same(rt: &impl Abort, alloc: Global, file: &ProtocolFile) {
     for row in SAME.lines() {
@@ -155,6 +194,14 @@ fn are_same(rt: &impl Abort, alloc: Global, file: &ProtocolFile) {
 fn what_cannot_stand_there_is_refused(rt: HostRuntime) {
     match read_protocol(rt.alloc(), FILE.as_bytes()) {
         Ok(file) => are_told(&rt, rt.alloc(), &file),
+        Err(_) => assert!(&rt; false),
+    }
+}
+
+#[test]
+fn an_outcome_divides_by_what_the_scenario_says(rt: HostRuntime) {
+    match read_protocol(rt.alloc(), FILE.as_bytes()) {
+        Ok(file) => are_divided(&rt, rt.alloc(), &file),
         Err(_) => assert!(&rt; false),
     }
 }

@@ -1,58 +1,23 @@
 //! What the words of a command line come to.
 
+use crate::asking::{LOST, Texts, executed, words_of};
 use crate::texts::{agrees, behind, columns, is_reply, text_of};
 use leastfault::{
-    Asked, BytesFault, Certified, NoWatch, Reply, Wanted, asked, certificate_file, execute,
-    search_certified, tree_file,
+    Asked, BytesFault, Certified, Executed, NoWatch, Reply, asked, certificate_file, execute,
+    tree_file,
 };
-use lf_streams::FromRead;
-use std::alloc::{AllocError, Global};
+use lf_streams::in_memory::InMemory;
+use std::alloc::Global;
 use std::rt::Clock;
 use std::sync::Wait;
 use std::thread::Threads;
 
-/// The certificate of one lost note, of two that may be lost.
-const LOST: &str = concat!(
-    r#"{"answer":["omit 0>1 @1"],"format":1,"root":{"edges":["omit 0>1 @1","omit 0>2 @1"],"#,
-    r#""kids":[{"misses":true},{"misses":true}],"reach":[4,4,4]}}"#,
-);
-
-/// What the words of a line ask for, where they ask for something. A `+` parts them.
+/// What the words of a line ask for, where they ask for something.
 fn asked_in(alloc: Global, line: &str) -> Option<Asked> {
     match words_of(alloc, line) {
         Ok(words) => asked(alloc, words.as_slice()).ok(),
         Err(_) => None,
     }
-}
-
-/// The words of a line.
-fn words_of(alloc: Global, line: &str) -> Result<Vec<String>, AllocError> {
-    let mut words = Vec::new(alloc);
-    for word in line.split('+') {
-        words.push(String::from_str(alloc, word)?)?;
-    }
-    Ok(words)
-}
-
-/// What is asked comes to, of a scenario's text and of that certificate.
-fn executed(
-    rt: &(impl Threads + Wait + Clock + Sync),
-    alloc: Global,
-    asked: &Asked,
-    text: &[u8],
-) -> Result<Reply<Certified>, BytesFault> {
-    let mut source = FromRead::new(text);
-    let mut tree = FromRead::new(LOST.as_bytes());
-    let mut protocol = FromRead::new("".as_bytes());
-    execute(
-        rt,
-        alloc,
-        asked,
-        &mut protocol,
-        &mut source,
-        &mut tree,
-        &NoWatch,
-    )
 }
 
 /// Whether a reply, its status and whether it has that certificate are those of a row.
@@ -68,12 +33,17 @@ fn is_done(done: &Reply<Certified>, wanted: &str) -> bool {
 /// Whether the words of a row come to what it says.
 fn row_is_done(rt: &(impl Threads + Wait + Clock + Sync), alloc: Global, row: &str) -> bool {
     let (words, rest) = columns(row);
-    let (Some(asked), Ok(text)) = (asked_in(alloc, words), text_of(alloc, rest)) else {
+    let Ok(text) = text_of(alloc, rest) else {
         return false;
     };
-    match executed(rt, alloc, &asked, text.as_bytes()) {
-        Ok(done) => is_done(&done, behind(rest)),
-        Err(_) => false,
+    let texts = Texts {
+        protocol: "",
+        scenario: text.as_str(),
+        tree: LOST,
+    };
+    match executed(rt, alloc, words, texts, &NoWatch) {
+        Some(done) => is_done(&done.reply, behind(rest)),
+        None => false,
     }
 }
 
@@ -164,15 +134,34 @@ fn words_name_files(rt: HostRuntime) {
     }
 }
 
+/// What a search by so many workers comes to, with its certificate. Words ask for no number of workers out of range, but a caller may.
+fn searched(
+    rt: &(impl Threads + Wait + Clock + Sync),
+    alloc: Global,
+    workers: u32,
+    text: &str,
+) -> Result<Executed, BytesFault> {
+    let mut files = InMemory::new(alloc, 1, 2);
+    files.input = Vec::from_slice(alloc, text.as_bytes())?;
+    let asked = Asked::Search {
+        file: String::from_str(alloc, "-")?,
+        tree: Some(String::from_str(alloc, "c")?),
+        all: false,
+        workers,
+        quiet: true,
+        protocol: None,
+    };
+    execute(rt, alloc, &asked, &mut files, &NoWatch)
+}
+
 /// Whether a number of workers out of range is told where the scenario isn't refused.
 fn is_out_of_range(rt: &(impl Threads + Wait + Clock + Sync), alloc: Global, row: &str) -> bool {
     let (workers, rest) = columns(row);
     let (Ok(workers), Ok(text)) = (workers.parse::<u32>(), text_of(alloc, rest)) else {
         return false;
     };
-    let mut source = FromRead::new(text.as_bytes());
-    match search_certified(rt, alloc, Wanted::Answer, workers, &mut source, &NoWatch) {
-        Ok(done) => is_done(&done, behind(rest)),
+    match searched(rt, alloc, workers, text.as_str()) {
+        Ok(done) => is_done(&done.reply, behind(rest)),
         Err(fault) => behind(rest) == "pool" && fault == BytesFault::Pool(1),
     }
 }

@@ -4,11 +4,15 @@
 #![tactic(auto)]
 
 #[cfg(test)]
+mod asking;
+#[cfg(test)]
 mod checks;
 #[cfg(test)]
 mod commands;
 #[cfg(test)]
 mod devices;
+#[cfg(test)]
+mod files;
 #[cfg(test)]
 mod known;
 #[cfg(test)]

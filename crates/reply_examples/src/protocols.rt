@@ -1,9 +1,12 @@
 //! Protocol files, and the replies to them.
 
+use crate::asking::{Texts, executed};
 use crate::texts::{agrees, columns, is_reply};
-use leastfault::protocol_bytes;
-use lf_streams::{FromRead, ToWrite};
+use leastfault::NoWatch;
 use std::alloc::Global;
+use std::rt::Clock;
+use std::sync::Wait;
+use std::thread::Threads;
 
 /// Texts, in which `;` stands for the end of a line, each with the status and the reply.
 const PROTOCOLS: &str = concat!(
@@ -18,23 +21,25 @@ const PROTOCOLS: &str = concat!(
 );
 
 /// Whether the text of a row has the reply that stands behind it.
-fn is_replied(alloc: Global, row: &str) -> bool {
+fn is_replied(rt: &(impl Threads + Wait + Clock + Sync), alloc: Global, row: &str) -> bool {
     let (lines, wanted) = columns(row);
     let Ok(text) = lines.replace(alloc, ";", "\n") else {
         return false;
     };
-    let mut out = Vec::new(alloc);
-    let mut source = FromRead::new(text.as_bytes());
-    let mut sink = ToWrite::new(&mut out);
-    match protocol_bytes(alloc, &mut source, &mut sink) {
-        Ok(status) => is_reply(out.as_slice(), status, wanted),
-        Err(_) => false,
+    let texts = Texts {
+        protocol: text.as_str(),
+        scenario: "",
+        tree: "",
+    };
+    match executed(rt, alloc, "protocol+p", texts, &NoWatch) {
+        Some(done) => is_reply(done.reply.text.as_bytes(), done.reply.value.status, wanted),
+        None => false,
     }
 }
 
 #[test]
 fn protocols_have_their_replies(rt: HostRuntime) {
     for row in PROTOCOLS.lines() {
-        agrees(&rt, is_replied(rt.alloc(), row), row);
+        agrees(&rt, is_replied(&rt, rt.alloc(), row), row);
     }
 }

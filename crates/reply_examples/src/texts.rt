@@ -1,8 +1,8 @@
 //! How a row of a table is taken apart, and how replies are compared with what it says.
 
 use leastfault::{
-    Searched, all_bytes, all_report, answer_bytes, check_bytes, merged_answer, plain_all,
-    plain_answer, report, search_bytes,
+    NoWatch, Searched, all_bytes, all_report, answer_reply, check_bytes, plain_all, plain_answer,
+    report, search_bytes,
 };
 use lf_scenario::{Scenario, read};
 use lf_streams::{FromRead, ToWrite};
@@ -110,14 +110,13 @@ pub(crate) fn check_replies(alloc: Global, text: &[u8], tree: &[u8], wanted: &st
     }
 }
 
-/// Whether the plain search and the merged one find this answer, whose report is the reply.
+/// Whether the plain search finds this answer, whose report is the reply.
 fn plain_replies(alloc: Global, asked: &Scenario, wanted: &str) -> bool {
     let Ok(answer) = plain_answer(alloc, asked) else {
         return false;
     };
-    let is_merged = merged_answer(alloc, asked) == Ok(answer);
     match report(alloc, asked.setting().spec.budget(), &answer) {
-        Ok(text) => is_merged && is_reply(text.as_bytes(), u8::from(answer.is_some()), wanted),
+        Ok(text) => is_reply(text.as_bytes(), u8::from(answer.is_some()), wanted),
         Err(_) => false,
     }
 }
@@ -161,11 +160,10 @@ pub(crate) fn search_replies(alloc: Global, text: &[u8], all: bool, wanted: &str
 
 /// Whether what tells the answer alone has this reply, but where a level of the search is too full.
 fn answer_replies(alloc: Global, text: &[u8], wanted: &str) -> bool {
-    let mut out = Vec::new(alloc);
-    let mut source = FromRead::new(text);
-    let mut sink = ToWrite::new(&mut out);
-    match answer_bytes(alloc, &mut source, &mut sink) {
-        Ok(status) => wanted.starts_with("2|full ") || is_reply(out.as_slice(), status, wanted),
+    match answer_reply(alloc, None, text, &NoWatch) {
+        Ok(reply) => {
+            wanted.starts_with("2|full ") || is_reply(reply.text.as_bytes(), reply.value, wanted)
+        }
         Err(_) => false,
     }
 }

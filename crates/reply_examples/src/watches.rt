@@ -1,12 +1,8 @@
 //! Watches are told how far a search, an answer or a check has come, and change no reply.
 
+use crate::asking::{Texts, executed};
 use crate::texts::{agrees, behind, text_of};
-use leastfault::{
-    NoWatch, Progress, Tree, Wanted, Watch, answer_watched, check_watched, search_watched,
-    shared_watched,
-};
-use lf_streams::{FromRead, ToWrite};
-use lf_tree::to_text;
+use leastfault::{Executed, NoWatch, Progress, Watch};
 use std::alloc::Global;
 use std::rt::Clock;
 use std::sync::Wait;
@@ -47,96 +43,61 @@ impl Watch for Counted {
     }
 }
 
-/// Who is asked for the answer.
-#[derive(Clone, Copy)]
-enum Asked {
-    /// A search in one thread.
-    Alone,
-    /// A search by three workers.
-    Three,
-    /// What tells the answer alone.
-    Merged,
-}
-
-/// The reply and its status, and no status where none was given.
-fn replied<V: Watch>(
+/// What the words of a line come to, of a scenario's text and a certificate's.
+fn done_of<V: Watch>(
     rt: &(impl Threads + Wait + Clock + Sync),
     alloc: Global,
-    text: &[u8],
-    asked: Asked,
+    line: &str,
+    text: &str,
+    tree: &str,
     watch: &V,
-) -> (Vec<u8>, Option<u8>) {
-    let mut out = Vec::new(alloc);
-    let mut source = FromRead::new(text);
-    let mut sink = ToWrite::new(&mut out);
-    let wanted = Wanted::Answer;
-    let searched = match asked {
-        Asked::Alone => search_watched(alloc, wanted, &mut source, &mut sink, watch),
-        Asked::Three => shared_watched(rt, alloc, wanted, 3, &mut source, &mut sink, watch),
-        Asked::Merged => {
-            let status = answer_watched(alloc, &mut source, &mut sink, watch).ok();
-            return (out, status);
-        }
+) -> Option<Executed> {
+    let texts = Texts {
+        protocol: "",
+        scenario: text,
+        tree,
     };
-    match searched {
-        Ok(found) => (out, Some(found.status)),
-        Err(_) => (out, None),
-    }
+    executed(rt, alloc, line, texts, watch)
 }
 
 /// Whether the reply with a watch is that of a search without.
 fn is_same<V: Watch>(
     rt: &(impl Threads + Wait + Clock + Sync),
     alloc: Global,
-    text: &[u8],
-    asked: Asked,
+    text: &str,
+    line: &str,
     watch: &V,
 ) -> bool {
-    let (reply, status) = replied(rt, alloc, text, Asked::Alone, &NoWatch);
-    let (watched, found) = replied(rt, alloc, text, asked, watch);
-    watched == reply && found == status && status.is_some()
-}
-
-/// The tree that a search with a watch hands out.
-fn watched_tree<V: Watch>(alloc: Global, text: &[u8], watch: &V) -> Option<Tree> {
-    let mut out = Vec::new(alloc);
-    let mut source = FromRead::new(text);
-    let mut sink = ToWrite::new(&mut out);
-    match search_watched(alloc, Wanted::Answer, &mut source, &mut sink, watch) {
-        Ok(found) => found.tree,
-        Err(_) => None,
+    let alone = done_of(rt, alloc, "search+-", text, "", &NoWatch);
+    let watched = done_of(rt, alloc, line, text, "", watch);
+    match (alone, watched) {
+        (Some(alone), Some(watched)) => {
+            alone.reply.text == watched.reply.text
+                && alone.reply.value.status == watched.reply.value.status
+        }
+        _ => false,
     }
 }
 
-/// Whether a check with a watch says yes to a tree's text.
-fn is_right<V: Watch>(
-    rt: &(impl Threads + Sync),
-    alloc: Global,
-    text: &[u8],
-    tree: &[u8],
-    watch: &V,
-) -> bool {
-    let mut out = Vec::new(alloc);
-    let mut source = FromRead::new(text);
-    let mut tree_source = FromRead::new(tree);
-    let mut sink = ToWrite::new(&mut out);
-    let status = check_watched(rt, alloc, &mut source, &mut tree_source, &mut sink, watch);
-    status == Ok(0) && out.as_slice() == b"yes\n".as_slice()
-}
-
-/// Whether a check with a watch says yes to the tree of a search with the same.
+/// Whether a check with a watch says yes to the certificate of a search with the same.
 fn is_certified<V: Watch>(
-    rt: &(impl Threads + Sync),
+    rt: &(impl Threads + Wait + Clock + Sync),
     alloc: Global,
-    text: &[u8],
+    text: &str,
     watch: &V,
 ) -> bool {
-    let Some(tree) = watched_tree(alloc, text, watch) else {
+    let Some(made) = done_of(rt, alloc, "search+-+--tree+c", text, "", watch) else {
         return false;
     };
-    match to_text(alloc, &tree) {
-        Ok(certificate) => is_right(rt, alloc, text, certificate.as_slice(), watch),
-        Err(_) => false,
+    let Some(certificate) = &made.reply.value.certificate else {
+        return false;
+    };
+    let Ok(tree) = str::from_utf8(certificate.as_slice()) else {
+        return false;
+    };
+    match done_of(rt, alloc, "check+-+t", text, tree, watch) {
+        Some(done) => done.reply.text.as_str() == "yes\n" && done.reply.value.status == 0,
+        None => false,
     }
 }
 
@@ -146,11 +107,11 @@ fn row_is_told(rt: &(impl Threads + Wait + Clock + Sync), alloc: Global, row: &s
     let Ok(text) = text_of(alloc, row) else {
         return false;
     };
-    let text = text.as_bytes();
+    let text = text.as_str();
     let (alone, several, checked) = (Counted::new(), Counted::new(), Counted::new());
-    let is_unchanged = is_same(rt, alloc, text, Asked::Alone, &alone)
-        && is_same(rt, alloc, text, Asked::Three, &several)
-        && is_same(rt, alloc, text, Asked::Merged, &alone)
+    let is_unchanged = is_same(rt, alloc, text, "search+-", &alone)
+        && is_same(rt, alloc, text, "search+-+--workers+3", &several)
+        && is_same(rt, alloc, text, "answer+-", &alone)
         && is_certified(rt, alloc, text, &checked);
     let (sets, nodes) = (alone.sets.load(SeqCst), checked.nodes.load(SeqCst));
     let is_told = checked.sets.load(SeqCst) == sets && alone.configurations.load(SeqCst) > 0;

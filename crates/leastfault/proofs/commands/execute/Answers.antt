@@ -1,42 +1,48 @@
-use Rattle.std.proofs.Common.{rules, ◌≡◌, ◌∙◌, subst, option_map, string_bytes}
-use Rattle.std.specs.Prelude.{is_some}
-use Rattle.leastfault.specs.declared.reading.CommandTexts.{CommandTexts}
-use Rattle.leastfault.specs.Commands.{IsCause, IsDone, tree_file}
-use Rattle.leastfault.specs.Engines.{IsMadeOfAll}
+use Rattle.std.proofs.Common.{string_bytes}
+use Rattle.std.proofs.lemmas.Result.{err_from_is_err_and}
+use Rattle.leastfault.specs.declared.commands.Executed.{Executed}
+use Rattle.leastfault.specs.Commands.{IsCause, IsDone}
+use Rattle.leastfault.specs.Places.{writes_of}
 use Rattle.leastfault.proofs.DoneLemmas.{cause_by_protocol, cause_by_text, done_by_front, done_by_protocol, done_by_tree}
-use Rattle.leastfault.proofs.EngineLemmas.{front_is_there, made_of_all}
-use Rattle.lf_tree.specs.Texts.{most_bytes}
+use Rattle.leastfault.proofs.PlaceLemmas.{delivered, not_delivered, not_made}
 use Rattle.leastfault.proofs.commands.execute.Goals as goal
 
-pub reply_to-requires : goal.reply_to-requires
-reply_to-requires g c =
-    let texts = c.in_ok-texts.texts in
-    let same : is_some (option_map (λ bytes. bytes.items) texts.tree) ≡ is_some (tree_file c.args.asked.now) =
-    front_is_there c.judges_tree.result most_bytes (g.S.Source.left c.args.tree_reader.now) (option_map (λ bytes. bytes.items) texts.tree)
-    c.in_ok-texts.ensures.made.one.0.2 ∙ c.judges_tree.ensures in
-    search (rules, same)
-
-pub returns-clause-done : goal.returns-clause-done
-returns-clause-done g c =
+pub returns-in_err-reply : goal.returns-in_err-reply
+returns-in_err-reply g c =
     let a = c.args.asked.now in
-    let texts = c.in_ok-texts.texts in
-    let old = c.args.protocol_reader.now in
-    let new = c.read_command.new.protocol_reader in
-    let old_too = c.args.scenario_reader.now in
-    let new_too = c.read_command.new.reader in
-    let old_last = c.args.tree_reader.now in
-    let new_last = c.read_command.new.tree_reader in
-    let made = made_of_all g.P.Source.left g.P.Source.has_failed g.R.Source.left g.R.Source.has_failed g.S.Source.left g.S.Source.has_failed
-    c.names_protocol.result c.judges_tree.result old new old_too new_too old_last new_last
-    (λ protocol text certificate r. IsDone a protocol text certificate (string_bytes r.text) r.value) (IsCause a)
-    (λ text certificate r. done_by_protocol a text certificate (string_bytes r.text) r.value)
-    (λ protocol certificate r. done_by_front a protocol certificate (string_bytes r.text) r.value)
-    (λ protocol text r. done_by_tree a protocol text (string_bytes r.text) r.value) (cause_by_protocol a) (cause_by_text a)
-    (λ (t : CommandTexts). option_map (λ bytes. bytes.items) t.protocol) (λ (t : CommandTexts). t.scenario.items)
-    (λ (t : CommandTexts). option_map (λ bytes. bytes.items) t.tree) texts c.reply_to.result c.in_ok-texts.ensures.made c.reply_to.ensures in
-    subst (λ named. IsMadeOfAll g.P.Source.left g.P.Source.has_failed g.R.Source.left g.R.Source.has_failed g.S.Source.left g.S.Source.has_failed named
-    (is_some (tree_file a)) (λ protocol text certificate r. IsDone a protocol text certificate (string_bytes r.text) r.value) (IsCause a) old new old_too
-    new_too old_last new_last c.reply_to.result) c.names_protocol.ensures
-    (subst (λ judged. IsMadeOfAll g.P.Source.left g.P.Source.has_failed g.R.Source.left g.R.Source.has_failed g.S.Source.left g.S.Source.has_failed
-    c.names_protocol.result judged (λ protocol text certificate r. IsDone a protocol text certificate (string_bytes r.text) r.value) (IsCause a) old new
-    old_too new_too old_last new_last c.reply_to.result) c.judges_tree.ensures made)
+    let p = err_from_is_err_and c.from_residual-in_err-reply.result c.from_residual-in_err-reply.ensures.1 in
+    rw (p.1, p.2) (not_made a
+    (λ protocol text certificate (done : Executed). IsDone a protocol text certificate (string_bytes done.reply.text) done.reply.value) (IsCause a)
+    (λ (done : Executed). writes_of a (string_bytes done.reply.text) done.reply.value)
+    (λ text certificate done. done_by_protocol a text certificate (string_bytes done.reply.text) done.reply.value)
+    (λ protocol certificate done. done_by_front a protocol certificate (string_bytes done.reply.text) done.reply.value)
+    (λ protocol text done. done_by_tree a protocol text (string_bytes done.reply.text) done.reply.value) (cause_by_protocol a) (cause_by_text a)
+    (g.F.Files.desk c.args.files.now) c.requires.write c.in_ok-texts.texts (g.F.Files.desk c.read_command.new.files) c.in_ok-texts.ensures
+    c.in_err-reply.field-0.0 c.in_err-reply.ensures)
+
+pub returns-in_err-deliver : goal.returns-in_err-deliver
+returns-in_err-deliver g c =
+    let a = c.args.asked.now in
+    let p = err_from_is_err_and c.from_residual-in_err-deliver.result c.from_residual-in_err-deliver.ensures.1 in
+    rw (p.1, p.2) (not_delivered a
+    (λ protocol text certificate (done : Executed). IsDone a protocol text certificate (string_bytes done.reply.text) done.reply.value) (IsCause a)
+    (λ (done : Executed). writes_of a (string_bytes done.reply.text) done.reply.value)
+    (λ text certificate done. done_by_protocol a text certificate (string_bytes done.reply.text) done.reply.value)
+    (λ protocol certificate done. done_by_front a protocol certificate (string_bytes done.reply.text) done.reply.value)
+    (λ protocol text done. done_by_tree a protocol text (string_bytes done.reply.text) done.reply.value) (cause_by_protocol a) (cause_by_text a)
+    (g.F.Files.desk c.args.files.now) c.requires.write c.in_ok-texts.texts (g.F.Files.desk c.read_command.new.files) c.in_ok-texts.ensures
+    (record { reply = c.in_ok-reply.reply; texts = c.in_ok-texts.texts }) (g.F.Files.desk c.deliver.new.files) c.in_err-deliver.field-0.0
+    c.in_ok-reply.ensures c.in_err-deliver.ensures)
+
+pub returns : goal.returns
+returns g c =
+    let a = c.args.asked.now in
+    delivered a
+    (λ protocol text certificate (done : Executed). IsDone a protocol text certificate (string_bytes done.reply.text) done.reply.value) (IsCause a)
+    (λ (done : Executed). writes_of a (string_bytes done.reply.text) done.reply.value)
+    (λ text certificate done. done_by_protocol a text certificate (string_bytes done.reply.text) done.reply.value)
+    (λ protocol certificate done. done_by_front a protocol certificate (string_bytes done.reply.text) done.reply.value)
+    (λ protocol text done. done_by_tree a protocol text (string_bytes done.reply.text) done.reply.value) (cause_by_protocol a) (cause_by_text a)
+    (g.F.Files.desk c.args.files.now) c.requires.write c.in_ok-texts.texts (g.F.Files.desk c.read_command.new.files) c.in_ok-texts.ensures
+    (record { reply = c.in_ok-reply.reply; texts = c.in_ok-texts.texts }) (g.F.Files.desk c.deliver.new.files) c.in_ok-deliver.field-0
+    c.in_ok-reply.ensures c.in_ok-deliver.ensures

@@ -1,4 +1,11 @@
+use Rattle.std.specs.Prelude.{None, false}
+use Rattle.leastfault.specs.Engines.{NoCause}
+use Rattle.leastfault.specs.Replies.{IsRunReply}
+use Rattle.leastfault.proofs.EngineLemmas.{sent_of_one}
 use Rattle.leastfault.proofs.engine.run_bytes.Goals as goal
 
 pub returns : goal.returns
-returns g c = c.run_known.ensures
+returns g c =
+    sent_of_one g.R.Source.left g.R.Source.has_failed c.args.reader.now c.run_made-made.new.reader g.W.Sink.written g.W.Sink.has_failed
+    c.args.writer.now c.send.new.writer c.requires.writer c.run_made-made.result c.send.result c.send.ensures
+    (IsRunReply None false c.args.faults.now) NoCause c.run_made-made.ensures

@@ -1,7 +1,8 @@
-use Rattle.std.proofs.Common.{Err, subst}
+use Rattle.std.proofs.Common.{Err, subst, sym}
 use Rattle.std.specs.Arc.{arc_value}
 use Rattle.leastfault.specs.declared.answering.Wanted.TheVariants as wanted
 use Rattle.leastfault.specs.Searches.{IsEndFor, IsFoundFor}
+use Rattle.leastfault.proofs.ReplyLemmas.{error_ends}
 use Rattle.leastfault.proofs.workers.listed.Goals as goal
 
 pub returns-in-Ok-All : goal.returns-in-Ok-All
@@ -19,4 +20,5 @@ returns-in-Ok-Full g c = (
 pub returns : goal.returns
 returns g c =
     subst (λ s. IsEndFor wanted.AllLeast c.args.workers s (Err c.fault_of.result)) c.in_ok-shared.ensures
-    (c.fault_of.ensures wanted.AllLeast (arc_value c.in_ok-shared.shared) c.args.workers c.in-Err.ensures.refused)
+    (subst (λ e. IsEndFor wanted.AllLeast c.args.workers (arc_value c.in_ok-shared.shared) (Err e)) (sym c.fault_of.ensures)
+    (error_ends wanted.AllLeast c.args.workers (arc_value c.in_ok-shared.shared) c.in-Err.error c.in-Err.ensures.refused))

@@ -1,11 +1,10 @@
-use Rattle.std.proofs.Common.{◌≡◌, ◌<◌, ◌==◌, ℕ, length, Bool, false, subst, sym, ap, ◌∙◌, eqb, lit<, arith}
+use Rattle.std.proofs.Common.{◌≡◌, ◌<◌, ◌==◌, ℕ, length, Bool, false, subst, sym, eqb, lit<, arith}
 use Rattle.std.specs.Iterator.{AlwaysYields}
 use Rattle.std.specs.List.{slice_split}
 use Rattle.std.specs.Str.Iter.{split_steps}
 use Rattle.std.specs.Str.Pattern.{FindsChar}
 use Rattle.std.proofs.lemmas.Bool.Decides.{nat_tests}
 use Rattle.std.proofs.lemmas.Iterator.Splits.{YieldsList-from_str_split}
-use Rattle.lf_delays.specs.declared.delay.Delay.{Delay}
 use Rattle.lf_delays.specs.Delays.{IsNew}
 use Rattle.lf_delays.proofs.Pieces.{IsReading, at_end, at_first, further, stops, yields_none, yields_some}
 use Rattle.lf_delays.proofs.reading.read_list.Goals as goal

@@ -1,4 +1,4 @@
-use Rattle.std.proofs.Common.{◌∷◌, ◌∙◌}
+use Rattle.std.proofs.Common.{◌∷◌, ◌∙◌, arith}
 use Rattle.lf_pool.specs.Holds.{IsFoundFor}
 use Rattle.lf_pool.proofs.HoldLemmas.{filed-more, one-off}
 use Rattle.lf_pool.proofs.ScenarioLemmas.{within}
@@ -16,14 +16,15 @@ findings-preserved g c =
       rest = one-off c.args.findings.now.items c.findings.findings.items c.pop.new.self.items so.done f so.rest c.in-Some.ensures.items;
       room = c.pop.ensures.capacity ∙ so.room;
       filed = next.1;
+      held = omega (arith, so.held, c.in-Some.ensures.len, c.file-filed.ensures.hand);
       share = next.2;
       scratch = c.file-filed.ensures.scratch ∙ so.scratch;
       scenario = c.file-filed.ensures.scenario ∙ so.scenario;
     }
 
-pub file-filed-requires : goal.file-filed-requires
-file-filed-requires g c = λ given.
-    let all = c.requires in (
+pub file-filed-requires-clause-given : goal.file-filed-requires-clause-given
+file-filed-requires-clause-given g c = λ given.
+    let all = c.requires.findings in (
       all.0,
       all.1,
       within (IsFoundFor all.0) c.args.findings.now.items c.findings.findings.items c.pop.new.self.items c.findings.invariant.done c.in-Some.finding

@@ -1,4 +1,4 @@
-use Rattle.std.proofs.Common.{◌∷◌, ◌∙◌}
+use Rattle.std.proofs.Common.{◌∷◌, ◌∙◌, arith}
 use Rattle.lf_pool.proofs.HoldLemmas.{given-more, one-off}
 use Rattle.lf_pool.proofs.locked.Locked.give_back_all.Goals as goal
 
@@ -12,6 +12,7 @@ jobs-preserved g c =
       room = c.pop.ensures.capacity ∙ so.room;
       given = given-more c.give_back-given.result job so.done c.args.self.now.book c.jobs.self.book c.give_back-given.new.self.book so.given
           c.give_back-given.ensures.given;
+      held = omega (arith, so.held, c.in-Some.ensures.len, c.give_back-given.ensures.hand);
       scenario = c.give_back-given.ensures.scenario ∙ so.scenario;
       total = c.give_back-given.ensures.total ∙ so.total;
     }

@@ -13,4 +13,4 @@ invariant_of-self g c =
     }
 
 pub take_with-requires : goal.take_with-requires
-take_with-requires g c = left-spent g.L.Searched.scenario (scenario_of c.args.self.now.book) c.args.spent c.args.self.now.searches c.requires
+take_with-requires g c = left-spent g.L.Searched.scenario (scenario_of c.args.self.now.book) c.args.spent c.args.self.now.searches c.requires.left

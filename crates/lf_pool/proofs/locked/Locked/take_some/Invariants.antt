@@ -1,4 +1,4 @@
-use Rattle.std.specs.Prelude.{◌≡◌, length, vec_capacity}
+use Rattle.std.specs.Prelude.{◌≡◌, ◌+◌, length, vec_capacity}
 use Rattle.std.specs.List.{All}
 use Rattle.lf_book.specs.Books.{scenario_of}
 use Rattle.lf_pool.specs.Holds.{AreJobsOf, AreTaken, IsLeftIn}
@@ -10,6 +10,7 @@ invariant-jobs g l = record {
   same : AreJobsOf (scenario_of l.initial.self.book) l.jobs.items;
   left : All (IsLeftIn g.L.Searched.scenario) l.spent.items;
   few : length l.jobs.items ≡ l._taken;
+  held : l.hand.held ≡ l.initial.hand.held + l._taken;
   room : vec_capacity l.jobs ≡ vec_capacity l.initial.jobs;
   scenario : scenario_of l.self.book ≡ scenario_of l.initial.self.book;
   total : l.self.total ≡ l.initial.self.total;

@@ -22,7 +22,7 @@ try_on-requires-clause-findings g c =
     let job = c.in-Some.job in
     let found = c.in_default-put_found.ensures.found in
     let worked = worked-one g.L.Searched.scenario c.jobs.jobs.items c.pop.new.self.items c.jobs.next.items c.jobs.findings.items
-    c.put_found.new.findings.items c.jobs.share.scratch c.put_found.new.scratch job found.0 (arc_value job.scenario) c.jobs.invariant.work
+    c.put_found.new.findings.items c.jobs.share.scratch c.put_found.new.scratch job found.0 (arc_value job.job.scenario) c.jobs.invariant.work
     c.in-Some.ensures.items found.1 found.2 refl c.put_found.ensures.scratch in
     found-at-work g.L.Searched.scenario c.pop.new.self.items c.jobs.next.items c.put_found.new.findings.items c.put_found.new.scratch worked
 
@@ -35,7 +35,7 @@ jobs-preserved-then-len-ge-FOUND g c =
     let more = one-more c.jobs.findings.items c.put_found.new.findings.items found.0 found.1 in
     let tried = c.try_on.ensures in
     let worked = worked-one g.L.Searched.scenario c.jobs.jobs.items c.pop.new.self.items c.jobs.next.items c.jobs.findings.items
-    c.put_found.new.findings.items c.jobs.share.scratch c.put_found.new.scratch job found.0 (arc_value job.scenario) so.work
+    c.put_found.new.findings.items c.jobs.share.scratch c.put_found.new.scratch job found.0 (arc_value job.job.scenario) so.work
     popped.items found.1 found.2 refl c.put_found.ensures.scratch in
     record {
       work = gone-on g.L.Searched.scenario c.pop.new.self.items c.jobs.next.items c.try_on.new.jobs.items c.put_found.new.findings.items
@@ -46,6 +46,7 @@ jobs-preserved-then-len-ge-FOUND g c =
           (omega (arith, so.few, popped.len)) (omega (arith, so.room, popped.len, more));
       ahead = ahead-on c.pop.new.self.items c.try_on.new.jobs.items c.put_found.new.findings.items c.try_on.new.findings.items tried.done
           (omega (arith, so.few, popped.len)) tried.few;
+      held = omega (arith, so.held, popped.len, more, tried.held, eqb-true c.jobs.next.len 0 (sym c.if-is_empty.ensures), c.jobs.next.ok);
       filed = omega (arith, so.filed, tried.share);
     }
 
@@ -58,13 +59,14 @@ jobs-preserved g c =
     let more = one-more c.jobs.findings.items c.put_found.new.findings.items found.0 found.1 in
     record {
       work = worked-one g.L.Searched.scenario c.jobs.jobs.items c.pop.new.self.items c.jobs.next.items c.jobs.findings.items
-          c.put_found.new.findings.items c.jobs.share.scratch c.put_found.new.scratch job found.0 (arc_value job.scenario) so.work
+          c.put_found.new.findings.items c.jobs.share.scratch c.put_found.new.scratch job found.0 (arc_value job.job.scenario) so.work
           popped.items found.1 found.2 refl c.put_found.ensures.scratch;
       rooms = (popped.capacity ∙ so.rooms.0, so.rooms.1, c.put_found.ensures.room ∙ so.rooms.2);
       few = omega (arith, so.few, popped.len);
       room = omega (arith, so.room, popped.len, more);
       ahead = still-ahead c.jobs.next.items (length c.jobs.jobs.items + length c.jobs.findings.items)
           (length c.pop.new.self.items + length c.put_found.new.findings.items) so.ahead (omega (arith, popped.len, more));
+      held = omega (arith, so.held, popped.len, more);
       filed = so.filed;
     }
 

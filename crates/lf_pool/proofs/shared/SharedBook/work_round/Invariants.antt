@@ -11,6 +11,7 @@ invariant-jobs g l = record {
   few : length l.jobs.items ≤ HANDFUL;
   room : length l.jobs.items + length l.findings.items ≤ HANDFUL + HANDFUL;
   ahead : (l.next.items ≡ []) ⊎ ((length l.jobs.items + length l.findings.items ≤ HANDFUL) × (length l.next.items ≤ HANDFUL));
+  held : l.hand.held ≡ length l.jobs.items + (length l.next.items + length l.findings.items);
   filed : l.initial.share.filed ≤ l.share.filed;
 }
 

@@ -1,6 +1,9 @@
-use Rattle.std.proofs.Common.{◌≡◌, ◌-◌, ◌∙◌, Some, ap, sym, arith, length}
+use Rattle.std.proofs.Common.{◌≡◌, ◌-◌, ◌∙◌, Some, ap, sym, subst, arith, length}
+use Rattle.std.specs.Arc.{arc_value}
 use Rattle.std.specs.List.{slice_get}
 use Rattle.std.specs.Option.{option_copied}
+use Rattle.lf_work.specs.Scratches.{IsScratchFor}
+use Rattle.lf_work.specs.declared.job.Job.{Job}
 use Rattle.lf_pool.proofs.RoundLemmas.{begun, found-at-work, none-few, on-ok, swapped}
 use Rattle.lf_pool.proofs.shared.SharedBook.work_rounds.Goals.{in-None, in-Some-2+then-is_err, in-Some-2+else-is_err+then-is_empty}
 use Rattle.lf_pool.proofs.shared.SharedBook.work_rounds.Goals as goal
@@ -16,8 +19,9 @@ loop-init g c =
       tt,
       hands.empty.1,
       begun g.L.Searched.scenario jobs hands.next.items hands.findings.items c.suit.new.self c.in-Some.last.now taken.same hands.empty.1 hands.empty.2 got
-          c.suit.ensures,
+          (subst (λ (j : Job). IsScratchFor (arc_value j.scenario) c.suit.new.self) c.job.ensures c.suit.ensures),
       (taken.few, none-few hands.findings.items hands.empty.2),
+      omega (arith, taken.held, ap length hands.empty.2),
       (omega (arith, hands.room.0, taken.room), hands.room.1, hands.room.2),
       omega arith,
     )
@@ -33,16 +37,17 @@ loop-preserved g c =
       on-ok round.result well round.ensures.all,
       swapped g.L.Searched.scenario round.new.jobs.items round.new.next.items round.new.findings.items round.new.share.scratch round.ensures.work,
       on-ok round.result well round.ensures.few,
+      omega (arith, round.ensures.held, ap length (on-ok round.result well round.ensures.all)),
       (
-        omega (arith, so.5.1, round.ensures.rooms.1),
-        omega (arith, so.5.0, round.ensures.rooms.0),
-        omega (arith, so.5.2, round.ensures.rooms.2),
+        omega (arith, so.6.1, round.ensures.rooms.1),
+        omega (arith, so.6.0, round.ensures.rooms.0),
+        omega (arith, so.6.2, round.ensures.rooms.2),
       ),
-      omega (arith, so.6, round.ensures.share),
+      omega (arith, so.7, round.ensures.share),
     )
 
-pub end_all-requires : goal.end_all-requires
-end_all-requires g c = elim c.match-next.branch [
+pub end_all-requires-clause-findings : goal.end_all-requires-clause-findings
+end_all-requires-clause-findings g c = elim c.match-next.branch [
   | in-None w ↦
       let l = c.loop in
       rw w.findings-is (found-at-work g.L.Searched.scenario l.jobs.items l.next.items l.findings.items l.share.scratch l.invariant.3)

@@ -1,0 +1,2 @@
+mod FailingLemmas
+pub mod Laws

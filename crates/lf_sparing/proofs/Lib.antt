@@ -1,0 +1,4 @@
+mod Leaving
+mod Passing
+mod Tightening
+mod Trying
