@@ -26,12 +26,12 @@ use Rattle.lf_sweeping.specs.Sweeps.{WasSwept}
 use Rattle.lf_written.specs.declared.declared.Declared.{Declared}
 use Rattle.leastfault.specs.declared.fault.BytesFault.{BytesFault}
 use Rattle.leastfault.specs.declared.fault.BytesFault.TheVariants as bytes
-use Rattle.leastfault.specs.Engines.{IsFront, IsFrontOf, TookAtMost, tells_read}
+use Rattle.leastfault.specs.Engines.{IsFront, TookAtMost, tells_read}
 use Rattle.leastfault.specs.Reports.{refusal}
 use Rattle.leastfault_sweep.specs.declared.asked.SweepAsked.{SweepAsked}
 use Rattle.leastfault_sweep.specs.declared.executing.Ended.{Ended}
 use Rattle.leastfault_sweep.specs.declared.executing.Ended.TheVariants as ended
-use Rattle.leastfault_sweep.specs.Executed.{HasBegun, IsEnd, IsExecuted, IsReadable, IsSweptOrNot, is_read, is_reading}
+use Rattle.leastfault_sweep.specs.Executed.{HasBegun, IsEnd, IsExecuted, IsFrontOf, IsReadable, IsSweptOrNot, is_read, is_reading}
 use Rattle.leastfault_sweep.specs.Replies.{IsKnownIn, IsRefusedIn, RefusesBy, RepliesBy}
 
 abbrev mark : SweepFault → ℕ

@@ -15,7 +15,7 @@ use Rattle.lf_sweeping.specs.Sweeps.{WasBegun}
 use Rattle.lf_written.specs.declared.declared.Declared.{Declared}
 use Rattle.leastfault.specs.declared.fault.BytesFault.{BytesFault}
 use Rattle.leastfault.specs.declared.fault.BytesFault.TheVariants as faults
-use Rattle.leastfault.specs.Engines.{IsFront, IsFrontOf, TookAtMost, tells_read, tells_write}
+use Rattle.leastfault.specs.Engines.{IsFront, TookAtMost, tells_read, tells_write}
 use Rattle.leastfault.specs.Protocols.{protocol_refusal}
 use Rattle.leastfault.specs.Reports.{refusal}
 use Rattle.leastfault_sweep.specs.declared.asked.SweepAsked.{SweepAsked}
@@ -28,6 +28,13 @@ abbrev pub end_status : Ended → ℕ
 end_status (ended.Swept counts) = status_of counts
 end_status (ended.Refused line) = 2
 end_status ended.Undated = 2
+
+-- the bytes were read at the front of a source that is asked for, and there are none where it isn't
+abbrev pub IsFrontOf : Bool → ℕ → Option (List ℕ) → Option (List ℕ) → Type 0
+IsFrontOf false most held None = Unit {0}
+IsFrontOf false most held (Some bytes) = ⊥
+IsFrontOf true most held None = ⊥
+IsFrontOf true most held (Some bytes) = IsFront most held bytes
 
 -- the fault is one of a read
 abbrev pub is_reading : BytesFault → Bool

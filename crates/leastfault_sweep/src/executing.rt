@@ -2,9 +2,9 @@
 
 ghost use Rattle.std.specs.Prelude.{◌≡◌, ◌+◌, false, true, option_map, IfErr, IfOk};
 ghost use Rattle.lf_scenario.specs.Limits.{longest};
-ghost use Rattle.leastfault.specs.Engines.{IsFront, IsFrontOf, TookAtMost};
+ghost use Rattle.leastfault.specs.Engines.{IsFront, TookAtMost};
 ghost use Rattle.lf_sweeping.specs.Sweeps.{WasSwept};
-ghost use Rattle.leastfault_sweep.specs.Executed.{IsExecuted, IsPastProtocol, IsSweptOrNot, end_status, is_read, is_reading};
+ghost use Rattle.leastfault_sweep.specs.Executed.{IsExecuted, IsFrontOf, IsPastProtocol, IsSweptOrNot, end_status, is_read, is_reading};
 ghost use Rattle.leastfault_sweep.specs.Replies.{RefusesBy, RepliesBy, text_of};
 
 use crate::asked::SweepAsked;

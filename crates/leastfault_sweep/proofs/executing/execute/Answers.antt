@@ -1,7 +1,7 @@
 use Rattle.std.proofs.Common.{◌∙◌, ap, subst, sym, false, is_some, option_map, ◌≡◌}
 use Rattle.std.proofs.lemmas.Result.{err_from_is_err_and}
 use Rattle.lf_scenario.specs.Limits.{longest}
-use Rattle.leastfault.specs.Engines.{IsFrontOf}
+use Rattle.leastfault_sweep.specs.Executed.{IsFrontOf}
 use Rattle.leastfault_sweep.proofs.ExecutedLemmas.{both_well, comes_to, first_failed, second_failed, took_none, unread}
 use Rattle.leastfault_sweep.proofs.executing.execute.Goals as goal
 
