@@ -179,7 +179,8 @@ to_place holds (Some name) most Says by_front (Some bytes) tells is =
 place_wider : (holds : Option (List ℕ) → Option (List ℕ)) (place : Option (Option (List ℕ))) (Says Means : Option (List ℕ) → Type 0)
     → ((text : Option (List ℕ)) → Says text → Means text) → OfPlace holds place Says → OfPlace holds place Means
 place_wider holds None Says Means wider is = wider None is
-place_wider holds (Some name) Says Means wider is = held_wider (λ text. Says (Some text)) (λ text. Means (Some text)) (holds name) (λ text. wider (Some text)) is
+place_wider holds (Some name) Says Means wider is =
+    held_wider (λ text. Says (Some text)) (λ text. Means (Some text)) (holds name) (λ text. wider (Some text)) is
 
 -- what a command comes to, by the texts that were read
 module _ (a : Asked) {X : Type 0} (IsOne : Option (List ℕ) → List ℕ → Option (List ℕ) → X → Type 0)

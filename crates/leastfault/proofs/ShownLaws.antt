@@ -192,7 +192,8 @@ module _ (words : List ℕ) (named_one : (one other : List Parts) → Names word
   shown_one shown.Changes once known None text = λ one other m n x y.
       of_text true known (RepliesNamed told.Changes words) (told_agree told.Changes) text one other m n x y
   shown_one shown.Changes once known (Some delays) text = λ one other m n x y.
-      of_text true known (Given delays (RepliesNamed told.Changes words)) (delayed_agree delays true (RepliesNamed told.Changes words) (told_agree told.Changes))
+      of_text true known (Given delays (RepliesNamed told.Changes words))
+      (delayed_agree delays true (RepliesNamed told.Changes words) (told_agree told.Changes))
       text one other m n x y
   shown_one shown.Json once known None text = λ one other m n x y.
       of_text false known (RepliesNamed told.Json words) (told_agree told.Json) text one other m n x y
@@ -209,5 +210,6 @@ module _ (words : List ℕ) (named_one : (one other : List Parts) → Names word
   drawn_one known None text one other m n x y =
       of_text false known (RepliesNamed told.Picture words) (told_agree told.Picture) text one other m n x y
   drawn_one known (Some delays) text one other m n x y =
-      of_text false known (Given delays (RepliesNamed told.Picture words)) (delayed_agree delays false (RepliesNamed told.Picture words) (told_agree told.Picture))
+      of_text false known (Given delays (RepliesNamed told.Picture words))
+      (delayed_agree delays false (RepliesNamed told.Picture words) (told_agree told.Picture))
       text one other m n x y
