@@ -8,6 +8,7 @@ mod LeastSets
 mod Limits
 mod LineTexts
 mod Listing
+mod ReplayLemmas
 mod ReplyLemmas
 mod SetTexts
 mod ShownLemmas

@@ -10,6 +10,7 @@ mod answering;
 mod certified;
 mod checking;
 mod commands;
+mod delay_laws;
 mod delayed;
 mod engine;
 mod fault;
@@ -33,6 +34,7 @@ pub use answer::{merged_answer, merged_watched, plain_answer};
 pub use answering::{Wanted, answer_reply, search_reply};
 pub use certified::{certified_known, search_certified};
 pub use commands::{certificate_file, execute, tree_file};
+pub use delay_laws::{every_delay_replies_are_one, every_delay_replies_replay};
 pub use delayed::every_delay_reply;
 pub use engine::{
     all_bytes, all_shared, answer_bytes, check_bytes, check_bytes_rows, protocol_bytes, run_bytes,
