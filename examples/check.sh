@@ -550,6 +550,32 @@ test_pictures() {
     fi
 }
 
+# tight FILE: the set that is the answer over every delay misses when it is run with its late messages; without any one of them it reaches.
+tight() {
+    local line faults='' list i j
+    local -a late=()
+    run "leastfault answer $1 --every-delay --quiet"
+    while IFS= read -r line; do
+        case $line in
+            'arrive '*) late+=("${line#arrive }") ;;
+            'least '*) ;;
+            *) faults+="${faults:+,}$line" ;;
+        esac
+    done <<<"${out%$'\n'}"
+    count "the answer to $1 over every delay" "$(differ status 1 "$status")"
+    for ((i = 0; i <= ${#late[@]}; i++)); do
+        list=''
+        for ((j = 0; j < ${#late[@]}; j++)); do
+            [ "$i" = "$j" ] || list+="${list:+,}${late[j]}"
+        done
+        if [ "$i" = "${#late[@]}" ]; then
+            ends 1 misses '*' "leastfault run $1 '$faults' --delays '$list'"
+        else
+            ends 0 reaches '*' "leastfault run $1 '$faults' --delays '$list'"
+        fi
+    done
+}
+
 # The answer over every delay, and runs where messages come as a list says.
 test_every_delay() {
     local late="examples/late_votes.toml" delays="'0>2 @1 5,2>0 @5 9,0>1 @9 13'"
@@ -562,6 +588,14 @@ test_every_delay() {
     ends 1 misses '' "leastfault run $late '' --changes --delays $delays"
     ends 1 '}' '' "leastfault run $late '' --json --delays $delays"
     ends 1 '</svg>' '' "leastfault draw $late '' --delays $delays"
+    # Of what comes late nothing can be spared. In the last two, a message that the search has come late would do as well earlier.
+    tight $late
+    tight examples/late_notes.toml
+    local spared='nodes = 2;last_omission = 1;crashes = 0;budget = 1;pauses = 1;pause_length = 3;protocol = "two_phase";outcome = "unblocked";'
+    put spared.toml "${spared//;/$'\n'}"$'horizon = 8\nspread = 2\npatience = 3\n'
+    tight spared.toml
+    put spared.toml "${spared//;/$'\n'}"$'horizon = 9\nspread = 3\npatience = 4\n'
+    tight spared.toml
     # Where no link has a spread, it is the answer, with its status.
     expect 1 $'least 2\nomit 0>1 @1\ncrash 0 @2' '' 'leastfault answer examples/crash_between_tries.toml --every-delay'
     # Refusals: the scenario's, then that of the delays, then that of the faults.

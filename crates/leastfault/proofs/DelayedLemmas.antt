@@ -4,9 +4,11 @@ use Rattle.std.specs.Prelude.{Bool, Option, None, Some, Result, Ok, Err}
 use Rattle.lf_arrivals.specs.Answers.{IsFirstUnder}
 use Rattle.lf_faults.specs.declared.fault.Parts.{Parts}
 use Rattle.lf_latency.specs.declared.arrivals.Arrivals.{Arrivals}
+use Rattle.lf_latency.specs.Arrivals.{IsArrivals}
 use Rattle.lf_scenario.specs.Limits.{longest}
 use Rattle.lf_scenario.specs.declared.scenario.Scenario.{Scenario}
 use Rattle.lf_sim.specs.Settings.{world_of}
+use Rattle.lf_sparing.specs.Trials.{IsLike, IsTightBy, MissesBy}
 use Rattle.lf_written.specs.declared.declared.Declared.{Declared}
 use Rattle.leastfault.specs.declared.reply.Reply.{Reply}
 use Rattle.leastfault.specs.Delayed.{HasDelays, IsAnswerAsked, IsDelayedReply, IsEveryDelayReply, IsGivenOf, IsGivenTo, RepliesEveryDelay, late_report}
@@ -69,13 +71,19 @@ module _ (known : Option Declared) where
       let same : r ≡ made = same_err (Err r) r made refl is in
       subst (λ (x : Reply ℕ). IsDelayedReply known words Replies text (string_bytes x.text) x.value) same (refused_reply words text Replies r from)
 
+-- scenarios that are the same but for when notes arrive have one report of a set of faults where they arrive so
+same_late : (s t : Scenario) (set : List Parts) (arrivals : Arrivals) → IsLike s t → late_report t set arrivals ≡ late_report s set arrivals
+same_late s t set arrivals like = rw (like.machine, like.spec, like.links) refl
+
 -- the report where there is an answer over every delay
-pub late_of : (s : Scenario) (set : List Parts) (arrivals : Arrivals) (reply : List ℕ) (status : ℕ)
-    → IsFirstUnder s.setting.network s.setting.spec (world_of s.setting) s.formula (Some (set, arrivals))
-    → reply ≡ late_report s set arrivals → status ≡ 1 → RepliesEveryDelay s reply status
-late_of s set arrivals reply status first told ends = (Some (set, arrivals), first, told, ends)
+pub late_of : (s t : Scenario) (set : List Parts) (given arrivals : Arrivals) (reply : List ℕ) (status : ℕ)
+    → IsFirstUnder s.setting.network s.setting.spec (world_of s.setting) s.formula (Some (set, given)) → IsLike s t
+    → IsArrivals s.setting.network arrivals → MissesBy s set arrivals → IsTightBy s set arrivals
+    → reply ≡ late_report t set arrivals → status ≡ 1 → RepliesEveryDelay s reply status
+late_of s t set given arrivals reply status first like is misses tight told ends =
+    (Some (set, arrivals), (first.0, is, misses, first.3), tight, told ∙ same_late s t set arrivals like, ends)
 
 -- and where there is none
 pub never_of : (s : Scenario) (reply : List ℕ) (status : ℕ) → IsFirstUnder s.setting.network s.setting.spec (world_of s.setting) s.formula None
     → reply ≡ report s.setting.spec.budget None → status ≡ 0 → RepliesEveryDelay s reply status
-never_of s reply status first told ends = (None, first, told, ends)
+never_of s reply status first told ends = (None, first, tt, told, ends)

@@ -9,6 +9,7 @@ mod Limits
 mod LineTexts
 mod Listing
 mod PlaceLemmas
+mod ReplayLemmas
 mod ReplyLemmas
 mod SetTexts
 mod ShownLaws

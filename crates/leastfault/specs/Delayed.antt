@@ -1,5 +1,5 @@
 -- The replies where notes arrive as words say, and over every delay.
-use Rattle.std.specs.Prelude.{◌≡◌, ◌⊎◌, ◌++◌, ℕ, Bool, true, false, List, Result, MatchResult, Option, None, Some, codes, string_bytes}
+use Rattle.std.specs.Prelude.{◌≡◌, ◌⊎◌, ◌++◌, ℕ, Bool, true, false, List, Result, MatchResult, Option, None, Some, IfSome, codes, string_bytes}
 use Rattle.std.specs.Option.{option_map}
 use Rattle.lf_arrivals.specs.Answers.{IsFirstUnder}
 use Rattle.lf_arrivals.specs.Windows.{under}
@@ -10,6 +10,7 @@ use Rattle.lf_latency.specs.declared.arrivals.Arrivals.{Arrivals}
 use Rattle.lf_latency.specs.Arrivals.{arrival_in, choosing}
 use Rattle.lf_scenario.specs.declared.scenario.Scenario.{Scenario}
 use Rattle.lf_sim.specs.Settings.{world_of}
+use Rattle.lf_sparing.specs.Trials.{IsTightBy}
 use Rattle.lf_trace.specs.Lines.{line}
 use Rattle.lf_written.specs.declared.declared.Declared.{Declared}
 use Rattle.leastfault.specs.declared.reply.Reply.{Reply}
@@ -65,11 +66,15 @@ abbrev pub every_delay_report : Scenario → Option (List Parts × Arrivals) →
 every_delay_report s None = report s.setting.spec.budget None
 every_delay_report s (Some found) = late_report s found.0 found.1
 
+-- no late note of its run can be spared: with any one of them as early as it can be, and the others as they are, the set reaches
+abbrev pub IsTightAnswer : Scenario → Option (List Parts × Arrivals) → Type 0
+IsTightAnswer s answer = IfSome answer (λ found. IsTightBy s found.0 found.1)
+
 -- the report of the answer over every delay, with its status
 abbrev pub RepliesEveryDelay : Scenario → List ℕ → ℕ → Type 0
 RepliesEveryDelay s reply status =
     (answer : Option (List Parts × Arrivals))
-    × IsFirstUnder s.setting.network s.setting.spec (world_of s.setting) s.formula answer
+    × IsFirstUnder s.setting.network s.setting.spec (world_of s.setting) s.formula answer × IsTightAnswer s answer
     × (reply ≡ every_delay_report s answer) × (status ≡ search_status (option_map (λ found. found.0) answer))
 
 -- the reply to a text

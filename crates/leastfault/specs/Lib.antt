@@ -1,6 +1,7 @@
 pub mod Answers
 pub mod Reports
 pub mod Known
+pub mod Replays
 pub mod Replies
 pub mod Searches
 pub mod Shown

@@ -1,7 +1,9 @@
 //! The replies where notes arrive as words say, and over every delay.
 
-ghost use Rattle.std.specs.Prelude.{◌≡◌, ℕ, List, IfOk, string_bytes};
+ghost use Rattle.std.specs.Prelude.{◌≡◌, ℕ, List, IfOk, Some, string_bytes};
+ghost use Rattle.lf_arrivals.specs.Answers.{IsFirstUnder};
 ghost use Rattle.lf_latency.specs.Arrivals.{IsArrivals};
+ghost use Rattle.lf_sim.specs.Settings.{world_of};
 ghost use Rattle.leastfault.specs.Delayed.{IsAnswerAsked, IsEveryDelayReply, IsGivenOf, IsGivenTo, RepliesEveryDelay, late_report, no_delays_line};
 ghost use Rattle.leastfault.specs.Known.{known_of};
 
@@ -15,6 +17,7 @@ use lf_faults::FaultSet;
 use lf_latency::Arrivals;
 use lf_scenario::Scenario;
 use lf_sim::run;
+use lf_sparing::tight_arrivals;
 use lf_watch::Watch;
 use lf_written::ProtocolFile;
 use std::alloc::{AllocError, Global};
@@ -102,12 +105,27 @@ fn over_every_delay<V: Watch>(
 {
     let found = every_delay_watched(alloc, &scenario, watch)?;
     match found {
-        Some((set, arrivals)) => late_reply(alloc, scenario, &set, &arrivals),
+        Some(answer) => tight_reply(alloc, scenario, answer),
         None => Ok(Reply {
             text: report(alloc, scenario.setting().spec.budget(), &None)?,
             value: 0,
         }),
     }
+}
+
+/// The reply that tells the answer over every delay, which is this set, that misses under these arrivals. Of the notes that come late, those are told
+/// that can't be spared.
+fn tight_reply(
+    alloc: Global,
+    scenario: Scenario,
+    answer: (FaultSet, Arrivals),
+) -> Result<Reply<u8>, AllocError>
+    requires { IsFirstUnder scenario.setting.network scenario.setting.spec (world_of scenario.setting) scenario.formula (Some answer) }
+    ensures { IfOk result (λ reply. RepliesEveryDelay scenario (string_bytes reply.text) reply.value) }
+{
+    let (set, arrivals) = answer;
+    let (scenario, tight) = tight_arrivals(alloc, scenario, &set, &arrivals)?;
+    late_reply(alloc, scenario, &set, &tight)
 }
 
 /// The reply that tells a set of faults, and which notes come late in its run under these arrivals.
