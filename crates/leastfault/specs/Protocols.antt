@@ -3,21 +3,11 @@ use Rattle.std.specs.Prelude.{◌≡◌, ◌⊎◌, ℕ, List, [], ◌++◌, cod
 use Rattle.std.specs.Fmt.{decimal}
 use Rattle.lf_document.specs.declared.error.ProtocolError.{ProtocolError}
 use Rattle.lf_document.specs.declared.path.Path.{Path}
-use Rattle.lf_document.specs.declared.path.Path.TheVariants as paths
-use Rattle.lf_document.specs.Refusals.{number_of, place_of, shown_text}
-use Rattle.lf_document.specs.Sections.{listing_name, naming_name, part_name, section_name}
+use Rattle.lf_document.specs.Refusals.{number_of, place_of}
+use Rattle.lf_document.specs.Spellings.{place_text}
 use Rattle.lf_written.specs.declared.declared.Declared.{Declared}
 use Rattle.lf_protocol_file.specs.Files.{IsRefused, IsText}
 use Rattle.lf_trace.specs.Lines.{line}
-
--- a place: keys, and numbers of items, from 1, with points between
-abbrev pub place_text : Path → List ℕ
-place_text (paths.Key key) = shown_text key
-place_text (paths.Section section) = section_name section
-place_text (paths.Entry naming key) = naming_name naming ++ (codes "." ++ shown_text key)
-place_text (paths.Item listing number) = listing_name listing ++ (codes "." ++ decimal number)
-place_text (paths.Part rule part) = codes "rules." ++ (decimal rule ++ (codes "." ++ part_name part))
-place_text (paths.PartKey rule key) = codes "rules." ++ (decimal rule ++ (codes "." ++ shown_text key))
 
 -- one space and the place that is refused, where there is one
 abbrev pub place_words : Option Path → List ℕ

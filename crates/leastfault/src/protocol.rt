@@ -2,7 +2,7 @@
 
 ghost use Rattle.std.specs.Prelude.{◌≡◌, ◌≢◌, ◌++◌, IfOk, option_map, string_bytes};
 ghost use Rattle.lf_trace.specs.Lines.{line};
-ghost use Rattle.leastfault.specs.Protocols.{IsProtocolReply, place_text, place_words, protocol_refusal};
+ghost use Rattle.leastfault.specs.Protocols.{IsProtocolReply, place_words, protocol_refusal};
 
 use crate::reply::Reply;
 use lf_protocol_file::{Path, ProtocolError, read_protocol};
@@ -52,25 +52,7 @@ fn push_place_line(place: Option<&Path>, text: &mut String) -> Result<(), AllocE
     ensures { IfOk result (λ _. string_bytes text.new ≡ string_bytes text.old ++ line (place_words (option_map (λ p. p.now) place.entry))) }
 {
     match place {
-        Some(path) => {
-            text.push(' ')?;
-            push_place(path, text)?;
-            text.push('\n')
-        }
+        Some(path) => write!(text, " {path}\n"),
         None => text.push('\n'),
-    }
-}
-
-/// Adds a place: keys, and numbers of items, from 1, with points between.
-fn push_place(path: &Path, text: &mut String) -> Result<(), AllocError>
-    ensures { IfOk result (λ _. string_bytes text.new ≡ string_bytes text.old ++ place_text path.now) }
-{
-    match path {
-        Path::Key(key) => text.push_str(key.text()),
-        Path::Section(section) => text.push_str(section.name()),
-        Path::Entry(naming, key) => write!(text, "{}.{}", naming.name(), key.text()),
-        Path::Item(listing, number) => write!(text, "{}.{number}", listing.name()),
-        Path::Part(rule, part) => write!(text, "rules.{rule}.{}", part.name()),
-        Path::PartKey(rule, key) => write!(text, "rules.{rule}.{}", key.text()),
     }
 }

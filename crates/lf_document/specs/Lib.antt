@@ -2,3 +2,4 @@ pub mod Refusals
 pub mod Sections
 pub mod Readings
 pub mod Texts
+pub mod Spellings

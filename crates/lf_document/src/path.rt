@@ -1,8 +1,9 @@
 //! Where something stands in a protocol file.
 
-ghost use Rattle.std.specs.Prelude.{◌≡◌, ◌&&◌, nat_le, length, IfOk};
+ghost use Rattle.std.specs.Prelude.{◌≡◌, ◌&&◌, nat_le, length, IfOk, Some};
 ghost use Rattle.std.specs.List.{list_all};
 ghost use Rattle.lf_document.specs.Refusals.{shown, shown_text, is_plain, is_plain_byte};
+ghost use Rattle.lf_document.specs.Spellings.{place_text};
 
 use crate::section::{Listing, Naming, Part, Section};
 use lf_rules::Name;
@@ -61,6 +62,8 @@ impl Shown {
 }
 
 impl fmt::Display for Path {
+    ghost output = { λ path. Some (place_text path) };
+
     fn fmt<W: fmt::Write>(&self, f: &mut fmt::Formatter<W>) -> fmt::Result {
         match self {
             Path::Key(key) => f.write_str(key.text()),

@@ -1,11 +1,12 @@
--- What crates above may cite of this one beside its contracts: what is read is of its sort where it stands.
-use Rattle.std.proofs.Common.{◌≡◌, suc, List, Some}
+-- What crates above may cite of this one beside its contracts: what is read is of its sort where it stands, and how much is left.
+use Rattle.std.proofs.Common.{◌≡◌, suc, ◌≤◌, List, length, Some}
 use Rattle.lf_rules.specs.Sorts.{tree_sort}
 use Rattle.lf_tokens.specs.declared.token.Token.{Token}
 use Rattle.lf_grammar.specs.declared.level.Level.TheVariants as levels
 use Rattle.lf_grammar.specs.Expressions.{Found, All, first_truth, first_sum, steps}
 use Rattle.lf_grammar.specs.Places.{Context}
 use Rattle.lf_grammar.specs.Typing.{Said, as_set}
+use Rattle.lf_grammar.proofs.Rests.{shorter}
 use Rattle.lf_grammar.proofs.Sorted.{fits}
 use Rattle.lf_grammar.proofs.Typings.{fit-set}
 
@@ -25,3 +26,8 @@ sum-sorted at ts x e = (fits at (suc (steps (All levels.Sum) ts)) (All levels.Su
 pub set-sorted : (at : Context) (a c : Said) → tree_sort at.definition at.scope a.term ≡ Some a.sort → as_set a ≡ Some c
     → tree_sort at.definition at.scope c.term ≡ Some c.sort
 set-sorted at a c is e = (fit-set {at = at} a.sort (record { is = is }) e).sort.is
+
+-- what is left behind a sum is no longer than what was there
+pub sum-shorter : (at : Context) (ts : List Token) (x : Found) → first_sum at ts ≡ Some x → length x.rest ≤ length ts
+unfolding first_sum
+sum-shorter at ts x e = shorter at (suc (steps (All levels.Sum) ts)) (All levels.Sum) ts x e

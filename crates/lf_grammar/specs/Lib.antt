@@ -3,3 +3,4 @@ pub mod Fronts
 pub mod Places
 pub mod Readings
 pub mod Typing
+pub mod Bracketed

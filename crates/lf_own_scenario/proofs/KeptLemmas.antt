@@ -1,5 +1,6 @@
 -- The formula of a promise is true where the promise is kept.
-use Rattle.std.proofs.Common.{◌≡◌, ◌⊎◌, inl, inr, ℕ, Bool, true, false, not, ◌==◌, ◌&&◌, ◌||◌, List, [], ◌∷◌, ◌++◌, Option, refl, sym, ap, ◌∙◌, map, filter, arith}
+use Rattle.std.proofs.Common.{◌≡◌, ◌⊎◌, inl, inr, ℕ, Bool, true, false, not, ◌==◌, ◌&&◌, ◌||◌, List, [], ◌∷◌, ◌++◌}
+use Rattle.std.proofs.Common.{Option, refl, sym, ap, ◌∙◌, map, filter, arith}
 use Rattle.std.specs.List.{range_with_len, list_all, list_any, flat_map, AllByRecursion}
 use Rattle.std.proofs.lemmas.Bool.{and_parts, and_from, eqb-true, eq-eqb}
 use Rattle.std.proofs.lemmas.List.Folds.{list_all-map}
@@ -29,7 +30,8 @@ use Rattle.lf_unfolding.specs.declared.scene.Scene.{Scene}
 use Rattle.lf_unfolding.specs.Members.{members, others}
 use Rattle.lf_unfolding.specs.Quantities.{ruled, shows, each, any_of, all_but_one, where_any, so_many}
 use Rattle.lf_unfolding.specs.Unfolding.{formula_at}
-use Rattle.lf_unfolding.proofs.Laws.{formula-All, formula-Any, formula-Always, formula-Ever, formula-Nodes, formula-Down, formula-At, all-from, kept-at, all-flat}
+use Rattle.lf_unfolding.proofs.Laws.{formula-All, formula-Any, formula-Always, formula-Ever, formula-Nodes, formula-Down}
+use Rattle.lf_unfolding.proofs.Laws.{formula-At, all-from, kept-at, all-flat}
 use Rattle.lf_own_scenario.specs.Kept.{has_fact, has_where_up, are_one, so_many_have, kept_step, is_kept}
 
 -- ---- tests of all elements, and of some

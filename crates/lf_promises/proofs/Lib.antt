@@ -2,3 +2,4 @@ pub mod Laws
 mod FactLemmas
 mod Inductions
 mod ReadingLemmas
+mod StepLemmas

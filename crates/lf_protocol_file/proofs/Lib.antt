@@ -8,3 +8,4 @@ mod Stages
 mod RuleStages
 mod SectionLemmas
 mod WholeFiles
+mod NumberLemmas

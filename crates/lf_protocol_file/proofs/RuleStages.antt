@@ -74,7 +74,7 @@ module _ (d : Draft) where
   heard-fits ms heard h = let ts = step-inv (part_tokens ms parts.On) (λ ts. heard_by d ts) h in heard-by ts.0 heard ts.2
 
   -- a guard that is one where it stands, and an `else` that may stand there
-  record IsCondition (who : Who) (heard : Heard) (when : When) : Type 0 where
+  pub record IsCondition (who : Who) (heard : Heard) (when : When) : Type 0 where
     pub guard : is_a d.definition (scope_of heard.on) sorts.Truth when.guard ≡ true
     pub else_under : when.is_else ≡ true → goes_on d.begun who heard.on ≡ true
 
@@ -110,7 +110,7 @@ module _ (d : Draft) where
         else_under = found.1;
       }
 
-  condition-fits : (who : Who) (heard : Heard) (ms : Members) (when : When) → condition_in d who heard ms ≡ Ok when → IsCondition who heard when
+  pub condition-fits : (who : Who) (heard : Heard) (ms : Members) (when : When) → condition_in d who heard ms ≡ Ok when → IsCondition who heard when
   unfolding condition_in
   condition-fits who heard ms when h = let ts = step-inv (part_tokens ms parts.When) (λ ts. when_by d who heard ts) h in when-by who heard ts.0 when ts.2
 

@@ -207,7 +207,7 @@ traced d e ms p h =
 -- ---- the whole
 
 -- what a file declares before its rules
-declared : (ms : Members) (d : Draft) → declared_in ms ≡ Ok d → HasRules 0 d
+pub declared : (ms : Members) (d : Draft) → declared_in ms ≡ Ok d → HasRules 0 d
 unfolding declared_in
 declared ms d h =
     let given = step-inv (with_naming namings.Given nothing ms)

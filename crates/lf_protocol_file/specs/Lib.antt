@@ -2,3 +2,4 @@ pub mod Chains
 pub mod RuleParts
 pub mod Entries
 pub mod Files
+pub mod Numbers

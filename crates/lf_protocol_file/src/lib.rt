@@ -4,6 +4,7 @@
 #![tactic(auto)]
 
 mod chains;
+mod numbers;
 mod reader;
 mod rules;
 mod sections;
@@ -12,6 +13,7 @@ mod wholeness;
 
 pub use lf_document::{LONGEST, Listing, Naming, Part, Path, ProtocolError, Section, Shown};
 pub use lf_written::{Outcome, ProtocolFile};
+pub use numbers::numbers_are_places;
 pub use reader::read_protocol;
 pub use uniqueness::{files_are_one, refusals_are_one};
 pub use wholeness::files_are_whole;
