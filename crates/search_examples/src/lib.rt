@@ -14,6 +14,8 @@ mod known;
 #[cfg(test)]
 mod large;
 #[cfg(test)]
+mod leaving;
+#[cfg(test)]
 mod made;
 #[cfg(test)]
 mod marks;
