@@ -17,8 +17,17 @@ returns-in_default g c =
     let old = c.args.writer.now in
     let r = c.args.round in
     let none = c.requires.writer in
-    put_early g.W.Sink.written g.W.Sink.has_failed R F scenario vs c.args.part r.place (r.lanes * r.size) old old faults.Memory ([], [], 0, record { rows =
-    tt; together = refl }, Appends-nil (g.W.Sink.written old))
+    put_early g.W.Sink.written g.W.Sink.has_failed R F scenario vs c.args.part r.place (r.lanes * r.size) old old faults.Memory (
+      [],
+      [],
+      0,
+      record {
+        rows =
+            tt;
+        together = refl;
+      },
+      Appends-nil (g.W.Sink.written old),
+    )
     (λ other. inl refl) none
 
 pub lanes-init : goal.lanes-init
@@ -90,10 +99,19 @@ plus-counts-requires g c =
     let ends = lane_ends r.place lane r.lanes r.size below in
     let small : r.place + lane * r.size ≤ 1000000000 =
     place_fits vs c.args.part (r.place + r.lanes * r.size) (r.place + lane * r.size) few c.requires.inside (omega (arith, ends, r.sized)) in
-    let last = place_fits vs c.args.part (r.place + r.lanes * r.size) (r.place + lane * r.size + (r.size - 1)) few c.requires.inside (omega (arith, ends,
-    r.sized)) in
-    omega (arith, all_is so_far.0 c.lanes.counts (lane * r.size) so_far.5 so_far.3, all_is here.0 c.in-Ok-index.lines.counts r.size here.3 here.2, small,
-    last, r.sized)
+    let last = place_fits vs c.args.part (r.place + r.lanes * r.size) (r.place + lane * r.size + (r.size - 1)) few c.requires.inside (omega (
+      arith,
+      ends,
+      r.sized,
+    )) in
+    omega (
+      arith,
+      all_is so_far.0 c.lanes.counts (lane * r.size) so_far.5 so_far.3,
+      all_is here.0 c.in-Ok-index.lines.counts r.size here.3 here.2,
+      small,
+      last,
+      r.sized,
+    )
 
 pub lanes-preserved : goal.lanes-preserved
 lanes-preserved g c =

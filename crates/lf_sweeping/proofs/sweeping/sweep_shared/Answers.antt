@@ -11,9 +11,11 @@ rounds-init g c =
     let F = g.A.Asker.refuses c.args.asker.now in
     let scenario = c.args.study.now.scenario.now in
     let vs = c.args.study.now.plan.now.varied.items in
-    let old = c.args.writer.now in
-    (none_written g.W.Sink.written g.W.Sink.has_failed R F scenario vs c.args.part 0 0 old c.empty-counts.result refl c.empty-counts.ensures
-    c.requires.writer, omega arith)
+    let old = c.args.writer.now in (
+      none_written g.W.Sink.written g.W.Sink.has_failed R F scenario vs c.args.part 0 0 old c.empty-counts.result refl c.empty-counts.ensures
+          c.requires.writer,
+      omega arith,
+    )
 
 pub returns-in_err-put_round : goal.returns-in_err-put_round
 returns-in_err-put_round g c =
@@ -58,7 +60,7 @@ rounds-preserved g c =
     let r = c.of-round.result in
     let put = rw c.of-round.ensures.place at c.in_ok-put_round.ensures.all in (
       more_written g.W.Sink.written g.W.Sink.has_failed R F scenario vs c.args.part 0 c.rounds.place (r.lanes * r.size) c.rounds.place (c.rounds.place +
-      r.lanes * r.size) old c.rounds.writer
+          r.lanes * r.size) old c.rounds.writer
           c.put_round.new.writer c.rounds.counts c.in_ok-put_round.field-0 c.plus-counts.result put.1 put.1 (omega arith) refl refl c.plus-counts.ensures
           c.rounds.invariant.0 (put.0, put.2, put.3, put.5) put.4 c.in_ok-put_round.ensures.sink,
       omega (arith, c.of-round.ensures.inside, c.rounds.invariant.1, c.rounds-test.true),
