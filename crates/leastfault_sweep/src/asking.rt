@@ -1,8 +1,9 @@
 //! Who replies to the scenarios of a sweep.
 
-ghost use Rattle.std.specs.Prelude.{IfOk, string_bytes};
+ghost use Rattle.std.specs.Prelude.{◌≡◌, ◌≢◌, ◌⊎◌, IfErr, IfOk, Some, string_bytes};
 ghost use Rattle.leastfault.specs.Known.{known_of};
-ghost use Rattle.leastfault_sweep.specs.Replies.{IsReplyBy, RefusesBy, RepliesBy, text_of};
+ghost use Rattle.lf_protocol_file.specs.Files.{IsText};
+ghost use Rattle.leastfault_sweep.specs.Replies.{IsRefusedIn, IsReplyBy, RefusesBy, RepliesBy, text_of};
 
 use crate::by::By;
 use leastfault::{
@@ -27,12 +28,34 @@ impl Asker for Reading<'_> {
     fn reply(&self, alloc: Global, text: &[u8]) -> Result<Replied, SweepFault> {
         match self.protocol {
             None => Ok(reply_by(alloc, self.by, None, text)?),
-            Some(protocol) => match read_protocol(alloc, protocol) {
-                Ok(file) => Ok(reply_by(alloc, self.by, Some(&file), text)?),
-                Err(ProtocolError::Memory) => Err(SweepFault::Memory),
-                Err(_) => Err(SweepFault::Protocol),
-            },
+            Some(protocol) => {
+                let file = known(alloc, protocol)?;
+                Ok(reply_by(alloc, self.by, Some(&file), text)?)
+            }
         }
+    }
+}
+
+/// The protocol file that a text is. The fault is that it is none, or that memory has run out.
+fn known(alloc: Global, text: &[u8]) -> Result<ProtocolFile, SweepFault>
+    ensures file { IfOk result (λ file. IsText file text.now) }
+    ensures fault { IfErr result (λ e. (e ≡ SweepFault.Memory) ⊎ ((e ≡ SweepFault.Protocol) × IsRefusedIn (Some text.now))) }
+{
+    match read_protocol(alloc, text) {
+        Ok(file) => Ok(file),
+        Err(error) => Err(fault_of(&error)),
+    }
+}
+
+/// What the refusal of a protocol file is to a sweep.
+fn fault_of(error: &ProtocolError) -> SweepFault
+    ensures { ((error.now ≡ ProtocolError.Memory) × (result ≡ SweepFault.Memory))
+        ⊎ ((error.now ≢ ProtocolError.Memory) × (result ≡ SweepFault.Protocol)) }
+{
+    if matches!(error, ProtocolError::Memory) {
+        SweepFault::Memory
+    } else {
+        SweepFault::Protocol
     }
 }
 

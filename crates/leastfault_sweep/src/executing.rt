@@ -1,8 +1,9 @@
 //! Sweeps, from the sources of their texts to the lines.
 
-ghost use Rattle.std.specs.Prelude.{◌≡◌, ◌+◌, false, true, option_map, IfErr, IfOk};
+ghost use Rattle.std.specs.Prelude.{◌≡◌, ◌≢◌, ◌+◌, false, true, option_map, string_bytes, IfErr, IfOk};
 ghost use Rattle.lf_scenario.specs.Limits.{longest};
 ghost use Rattle.leastfault.specs.Engines.{IsFront, TookAtMost};
+ghost use Rattle.leastfault.specs.Protocols.{protocol_refusal};
 ghost use Rattle.lf_sweeping.specs.Sweeps.{WasSwept};
 ghost use Rattle.leastfault_sweep.specs.Executed.{IsExecuted, IsFrontOf, IsPastProtocol, IsSweptOrNot, end_status, is_read, is_reading};
 ghost use Rattle.leastfault_sweep.specs.Replies.{RefusesBy, RepliesBy, text_of};
@@ -188,7 +189,16 @@ fn refused_file(alloc: Global, protocol: Option<&[u8]>) -> Result<Option<String>
     };
     match read_protocol(alloc, text) {
         Ok(_) => Ok(None),
-        Err(ProtocolError::Memory) => Err(AllocError),
-        Err(error) => Ok(Some(protocol_refusal(alloc, &error)?)),
+        Err(error) => Ok(Some(refused_line(alloc, &error)?)),
     }
+}
+
+/// The line of a refusal. The error is that memory has run out, here or in the reading.
+fn refused_line(alloc: Global, error: &ProtocolError) -> Result<String, AllocError>
+    ensures { IfOk result (λ line. (error.now ≢ ProtocolError.Memory) × (string_bytes line ≡ protocol_refusal error.now)) }
+{
+    if matches!(error, ProtocolError::Memory) {
+        return Err(AllocError);
+    }
+    protocol_refusal(alloc, error)
 }

@@ -11,6 +11,8 @@ mod machines;
 #[cfg(test)]
 mod plain;
 #[cfg(test)]
+mod player;
+#[cfg(test)]
 mod runs;
 #[cfg(test)]
 mod settings;

@@ -1,13 +1,10 @@
-//! A run that is made that of one set after another.
-
-ghost use Rattle.std.specs.Prelude.{◌≡◌};
-ghost use Rattle.lf_sim.specs.Settings.{IsRun, set_of, world_of};
+//! Walks of a player over sets.
 
 use crate::beacons::{Beacon, Rumour, Tally};
+use crate::player::Player;
 use crate::settings::setting;
 use crate::texts::{agrees, set};
 use lf_faults::{FaultSet, admits, next_set};
-use lf_player::rerun;
 use lf_sim::{Machine, Run, Setting, run};
 use std::alloc::{AllocError, Global};
 use std::process::Abort;
@@ -80,34 +77,26 @@ fn is_same<M: Machine>(one: &Run<M>, other: &Run<M>) -> bool {
     same
 }
 
-/// Whether a run that is made that of a set is the set's own.
+/// Whether a player that plays a set has its run.
 fn plays<M: Machine>(
     alloc: Global,
-    setting: &Setting<M>,
-    played: &mut Run<M>,
+    player: &mut Player<'_, M>,
     set: &FaultSet,
-) -> Result<bool, AllocError>
-    requires { IsRun (world_of setting.now) played.old }
-    ensures { IsRun (world_of setting.now) played.new }
-{
-    rerun(setting, played, set);
-    let own = run(alloc, setting, set)?;
-    Ok(is_same(played, &own))
+) -> Result<bool, AllocError> {
+    player.play(set);
+    let own = run(alloc, player.setting, set)?;
+    Ok(is_same(player.run(), &own))
 }
 
-/// Whether a run is that of each of two sets that it is made in turn.
+/// Whether a player has the runs of two sets that it plays in turn.
 fn plays_both<M: Machine>(
     alloc: Global,
-    setting: &Setting<M>,
-    played: &mut Run<M>,
+    player: &mut Player<'_, M>,
     one: &FaultSet,
     other: &FaultSet,
-) -> bool
-    requires { IsRun (world_of setting.now) played.old }
-    ensures { IsRun (world_of setting.now) played.new }
-{
+) -> bool {
     for set in [other, one, other] {
-        if !plays(alloc, setting, played, set).unwrap_or(false) {
+        if !plays(alloc, player, set).unwrap_or(false) {
             return false;
         }
     }
@@ -115,27 +104,18 @@ fn plays_both<M: Machine>(
 }
 
 /// Each set of the list, after the one before and back again.
-fn plays_rows<M: Machine>(rt: &impl Abort, alloc: Global, setting: &Setting<M>, played: &mut Run<M>)
-    requires { IsRun (world_of setting.now) played.old }
-{
+fn plays_rows<M: Machine>(rt: &impl Abort, alloc: Global, player: &mut Player<'_, M>) {
     let mut before = FaultSet::empty();
     for row in SETS.lines() {
         let next = set(row).unwrap_or(before);
-        agrees(rt, plays_both(alloc, setting, played, &before, &next), row);
+        agrees(rt, plays_both(alloc, player, &before, &next), row);
         before = next;
     }
 }
 
-/// Whether a run can be made that of each allowed set, one after another, and of a set far from it in between.
-fn plays_all<M: Machine>(
-    alloc: Global,
-    setting: &Setting<M>,
-    played: &mut Run<M>,
-    far: &FaultSet,
-) -> bool
-    requires { IsRun (world_of setting.now) played.old }
-{
-    let spec = setting.spec;
+/// Whether a player has the run of each allowed set, one after another, and of a set far from it in between.
+fn plays_all<M: Machine>(alloc: Global, player: &mut Player<'_, M>, far: &FaultSet) -> bool {
+    let spec = player.setting.spec;
     let mut set = FaultSet::empty();
     for number in 1..MOST_SETS {
         if !admits(&spec, &set) {
@@ -144,10 +124,10 @@ fn plays_all<M: Machine>(
         let Some(next) = next_set(&spec, &set) else {
             return true;
         };
-        if number % 7 == 0 && !plays(alloc, setting, played, far).unwrap_or(false) {
+        if number % 7 == 0 && !plays(alloc, player, far).unwrap_or(false) {
             return false;
         }
-        if !plays(alloc, setting, played, &next).unwrap_or(false) {
+        if !plays(alloc, player, &next).unwrap_or(false) {
             return false;
         }
         set = next;
@@ -155,14 +135,14 @@ fn plays_all<M: Machine>(
     false
 }
 
-/// The rows in the setting, if there is one.
+/// A player of the setting, if there are both.
 fn walk<M: Machine + Drop>(rt: &impl Abort, alloc: Global, setting: Option<Setting<M>>) {
     let Some(setting) = setting else {
         agrees(rt, false, "no setting");
         return;
     };
-    match run(alloc, &setting, &FaultSet::empty()) {
-        Ok(mut played) => plays_rows(rt, alloc, &setting, &mut played),
+    match Player::new(alloc, &setting, &FaultSet::empty()) {
+        Ok(mut player) => plays_rows(rt, alloc, &mut player),
         Err(_) => agrees(rt, false, "no memory"),
     }
 }
@@ -174,18 +154,14 @@ fn walk_all<M: Machine + Drop>(rt: &impl Abort, alloc: Global, setting: Option<S
         return;
     };
     let far = set("crash 1 @2,pause 0 @1,omit 2>1 @1").unwrap_or(FaultSet::empty());
-    match run(alloc, &setting, &far) {
-        Ok(mut played) => agrees(
-            rt,
-            plays_all(alloc, &setting, &mut played, &far),
-            "all sets",
-        ),
+    match Player::new(alloc, &setting, &far) {
+        Ok(mut player) => agrees(rt, plays_all(alloc, &mut player, &far), "all sets"),
         Err(_) => agrees(rt, false, "no memory"),
     }
 }
 
 #[test]
-fn a_run_becomes_that_of_each_set(rt: HostRuntime) {
+fn a_player_has_the_run_of_each_set(rt: HostRuntime) {
     for (least, spread, length) in [(1, 0, 2), (1, 3, 3), (2, 5, 1), (1, 9, 8)] {
         walk(&rt, rt.alloc(), setting(Beacon, 14, least, spread, length));
         walk(&rt, rt.alloc(), setting(Tally, 14, least, spread, length));
@@ -194,7 +170,7 @@ fn a_run_becomes_that_of_each_set(rt: HostRuntime) {
 }
 
 #[test]
-fn a_run_goes_through_all_sets_in_order(rt: HostRuntime) {
+fn a_player_goes_through_all_sets_in_order(rt: HostRuntime) {
     walk_all(&rt, rt.alloc(), setting(Tally, 5, 1, 1, 2));
     walk_all(&rt, rt.alloc(), setting(Rumour, 4, 1, 0, 1));
     walk_all(&rt, rt.alloc(), setting(Beacon, 4, 1, 2, 3));
