@@ -1,15 +1,14 @@
 #!/usr/bin/env bash
-# Tests the built program: every command and option, the examples beside this script, and the commands that the pages show. Besides,
-# it compares the protocol files that a test repeats with those of the examples.
+# Tests the built program: the tables of cases/, every command and option, the examples beside this script, and the commands that the pages show.
 #
 #     check.sh [--built]
 #
-# With --built the program is the one that `rt ci` leaves in crates/leastfault_cli/out/. Without it, `rt run` proves and builds
+# With --built the program is the one that `rt ci` leaves in crates/leastfault_cli/out/. Without it `rt run` proves and builds
 # the program first, which takes the Rattle kit and some twenty minutes. The tests themselves need bash and coreutils alone; where
 # `rsvg-convert` is installed they render pictures, too.
 #
 # A test runs one command and compares the status, standard output to the last byte, and standard error. What standard error says
-# in words may change, so most tests ask only whether it says anything. Prints each test that fails, with the lines that differ,
+# in words may change, so most tests outside the tables ask only whether it says anything. Prints each test that fails, with the lines that differ,
 # and last `N passed, M failed`. The status is 1 if a test fails.
 set -euo pipefail
 export LC_ALL=C
@@ -103,6 +102,11 @@ holds() {
 
 # put FILE TEXT: makes a file.
 put() { printf '%s' "$2" >"$room/desk/$1"; }
+
+# ---- tables of cases ----
+
+# shellcheck source=tables.sh
+. "$here/tables.sh"
 
 # ---- the examples ----
 
@@ -278,31 +282,6 @@ test_built_ins() {
     for example in "$room"/desk/examples/*.toml; do
         example=examples/${example##*/}
         [ "$example" = examples/out_of_range.toml ] || test_built_in "$example"
-    done
-}
-
-# bare FILE: the lines of a protocol file, without comments and empty lines.
-bare() {
-    local line
-    while IFS= read -r line; do
-        line=${line%% # *}
-        line=${line%"${line##*[! ]}"}
-        case $line in
-        '' | '#'*) ;;
-        *) printf '%s\n' "$line" ;;
-        esac
-    done <"$1"
-}
-
-# The tests of made scenarios have the files of the built-in protocols in their source, without comments.
-test_copies() {
-    local name first source='' copy
-    slurp source "$top/crates/made_rules_examples/src/files.rt"
-    for name in retry redundant two_phase three_phase primary_backup; do
-        first='name = "'$name'"'$'\n'
-        copy=${source#*'r#"'$'\n'"$first"}
-        copy=$first${copy%%'"#;'*}
-        count "$name.toml and its copy in a test" "$(differ "$name.toml" "$(bare "$here/protocols/$name.toml")"$'\n' "$copy")"
     done
 }
 
@@ -763,7 +742,7 @@ paste -d '\\n' part.1 part.2 part.3 | grep ."
     expect 2 '' '--vary outcome=a,x?1?: value 2 has a bracket or a quote further in;*' "leastfault sweep $commit --vary 'outcome=a,x[1]'"
     expect 2 '' $'--vary budget=1,,2: value 2 is missing\n' "leastfault sweep $commit --vary budget=1,,2"
     # Nothing varies twice, nor within something else that varies.
-    expect 2 '' $'--vary: the key budget is there twice\n' "leastfault sweep $commit --vary budget=1 --vary crashes=1 --vary budget=2"
+    expect 2 '' $'--vary: the key budget is there twice; give all its values in one --vary\n' "leastfault sweep $commit --vary budget=1 --vary crashes=1 --vary budget=2"
     expect 2 '' $'--vary: the key given.stable stands within given; vary one of them\n' "leastfault sweep $commit --vary given.stable=true --vary given=1"
     expect 2 '' $'--vary: the key a.b stands within a; vary one of them\n' "leastfault sweep $commit --vary a.b=1 --vary a=2"
     expect 2 '' $'--part: it takes I/N, as in 2/3, with I from 1 to N, and N up to 1000000\n' "leastfault sweep $commit --vary budget=1 --part 1/1000001"
@@ -958,6 +937,8 @@ build() {
     fi
 }
 
+room=$(mktemp -d)
+trap 'rm -rf "$room"' EXIT
 case $* in
 '') build ;;
 --built) ;;
@@ -966,23 +947,21 @@ case $* in
     exit 2
     ;;
 esac
-echo 'The built program: its commands and options, the examples, and what the pages show'
 if [ ! -f "$program" ]; then
     echo 'FAILED: the program is not there; rt ci builds it'
     echo '0 passed, 1 failed'
     exit 1
 fi
-room=$(mktemp -d)
-trap 'rm -rf "$room"' EXIT
 mkdir "$room/bin" "$room/desk"
 install -m 755 "$program" "$room/bin/leastfault"
 cp -R "$here" "$room/desk/examples"
 export PATH="$room/bin:$PATH"
+echo 'The built program: the tables of examples/cases/, its commands and options, the examples, and what the pages show'
+test_tables
 test_examples
 test_longer_runs
 test_protocols
 test_built_ins
-test_copies
 test_search
 test_tree
 test_own_file

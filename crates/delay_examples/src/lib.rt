@@ -1,4 +1,5 @@
-//! Worked examples of answers over every delay, found with an exchange of alike nodes' names and without one.
+//! Worked examples of answers over every delay, found without an exchange of alike nodes' names. Those with one are the program's: they stand in
+//! `examples/cases/delays/`.
 //!
 //! The answers of the tables were found by a run of each allowed set under each assignment of delays.
 //!
@@ -7,9 +8,9 @@
 #![tactic(auto)]
 
 #[cfg(test)]
-mod alike;
-#[cfg(test)]
 mod known;
+#[cfg(test)]
+mod laws;
 #[cfg(test)]
 mod texts;
 #[cfg(test)]

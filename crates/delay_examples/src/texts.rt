@@ -46,14 +46,9 @@ fn told(alloc: Global, set: Option<FaultSet>, budget: u32) -> Result<String, All
     Ok(text)
 }
 
-/// What is found for a scenario: its set, and when the notes come.
+/// What is found for a scenario without an exchange of names: its set, and when the notes come.
 fn found(alloc: Global, scenario: &Scenario) -> Option<Option<(FaultSet, Arrivals)>> {
     lf_windows::answer_every_delay(alloc, scenario).ok()
-}
-
-/// What is found for it where alike nodes exchange their names.
-fn found_alike(alloc: Global, scenario: &Scenario) -> Option<Option<(FaultSet, Arrivals)>> {
-    lf_exchanging::answer_every_delay(alloc, scenario).ok()
 }
 
 /// Whether an answer to a scenario is told so.
@@ -93,28 +88,10 @@ fn row_agrees(alloc: Global, row: &str) -> bool {
     }
 }
 
-/// The same, where alike nodes exchange their names.
-fn row_agrees_alike(alloc: Global, row: &str) -> bool {
-    match asked(alloc, row) {
-        Some((scenario, wanted)) => {
-            let budget = scenario.setting().spec.budget();
-            is_told(alloc, found_alike(alloc, &scenario), budget, wanted)
-        }
-        None => false,
-    }
-}
-
 /// Each scenario of the table is answered as its row says.
 pub(crate) fn answers(rt: &impl Abort, alloc: Global, table: &str) {
     for row in table.lines() {
         agrees(rt, row_agrees(alloc, row), row);
-    }
-}
-
-/// The same, where alike nodes exchange their names.
-pub(crate) fn answers_alike(rt: &impl Abort, alloc: Global, table: &str) {
-    for row in table.lines() {
-        agrees(rt, row_agrees_alike(alloc, row), row);
     }
 }
 

@@ -7,3 +7,5 @@ mod hints;
 mod lines;
 #[cfg(test)]
 mod streams;
+#[cfg(test)]
+mod sweep_lines;

@@ -1,10 +1,7 @@
 //! Files that are opened or made, and standard input and output.
 
-ghost use Rattle.std.specs.Prelude.{◌≡◌, false, IfOk};
-
-use crate::kept::Kept;
 use crate::stop::Stop;
-use leastfault::{BytesFault, FromRead, Source};
+use leastfault::BytesFault;
 use std::fs::File;
 use std::io;
 use std::io::{Read, Stdin, Write};
@@ -16,8 +13,6 @@ pub(crate) enum Input {
     Standard(Stdin),
     /// A file.
     File(File),
-    /// Nothing: it is at its end.
-    Nothing,
 }
 
 impl Read for Input {
@@ -25,40 +20,13 @@ impl Read for Input {
         match self {
             Input::Standard(input) => input.read(buf),
             Input::File(file) => file.read(buf),
-            Input::Nothing => Ok(0),
         }
     }
 }
 
-/// A source whose bytes are kept.
-pub(crate) type Text = Kept<FromRead<Input>>;
-
 /// What the program calls the file that a word names: standard input is `-`.
 pub(crate) fn name_of(file: &str) -> &str {
     if file == "-" { "standard input" } else { file }
-}
-
-/// A file that can be read, standard input where it is `-`, or nothing where none is named.
-pub(crate) fn opened(rt: &HostRuntime, file: Option<&str>) -> Result<Text, Stop>
-    ensures { IfOk result (λ text. ⟦<Text as Source>⟧.has_failed text ≡ false) }
-{
-    let input = match file {
-        None => Input::Nothing,
-        Some("-") => Input::Standard(rt.stdin()),
-        Some(file) => opened_input(rt, file)?,
-    };
-    Ok(Kept::new(rt.alloc(), FromRead::new(input)))
-}
-
-/// A file of this name that can be read, also where it is `-`, or nothing where none is named.
-pub(crate) fn opened_by_name(rt: &HostRuntime, file: Option<&str>) -> Result<Text, Stop>
-    ensures { IfOk result (λ text. ⟦<Text as Source>⟧.has_failed text ≡ false) }
-{
-    let input = match file {
-        None => Input::Nothing,
-        Some(file) => opened_input(rt, file)?,
-    };
-    Ok(Kept::new(rt.alloc(), FromRead::new(input)))
 }
 
 /// A file that can be read.

@@ -52,15 +52,12 @@ mod combination;
 mod devices;
 mod disk;
 mod json_line;
-mod kept;
 mod line;
 mod report;
 mod same_file;
 mod stop;
-mod sweep_words;
 mod sweeping;
 mod tally;
-mod varying;
 
 use devices::print;
 use disk::Disk;

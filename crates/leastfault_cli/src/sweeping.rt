@@ -1,13 +1,16 @@
 //! The command `sweep`: its devices, and what to say on standard error.
 
 use crate::combination::refused_words;
-use crate::devices::{Text, name_of, opened, opened_by_name, print};
+use crate::devices::print;
+use crate::disk::Disk;
+use crate::line::Line;
 use crate::report::{Report, Unwritten};
 use crate::stop::Stop;
-use crate::sweep_words::{SweepUnasked, sweep_asked};
-use crate::varying::names_of;
 use leastfault::{BytesFault, read_protocol};
-use leastfault_sweep::{Counts, Ended, Study, SweepAsked, execute};
+use leastfault_sweep::{
+    Counts, Ended, Study, SweepAsked, SweepExecuted, SweepTexts, SweepUnasked, execute, names_of,
+    sweep_asked,
+};
 use lf_hints::search_hint;
 use lf_protocol_hints::protocol_hint;
 use std::alloc::AllocError;
@@ -21,13 +24,20 @@ pub(crate) fn sweep_done(
 ) -> Result<u8, Stop> {
     match sweep_asked(rt.alloc(), words) {
         Ok(asked) => done(rt, threads, &asked),
-        Err(SweepUnasked::Told(text)) => {
-            print(rt, text.as_str())?;
-            Ok(0)
-        }
-        Err(SweepUnasked::Wrong(text)) => told(rt, text.as_str()),
-        Err(SweepUnasked::Memory) => Err(Stop::from(BytesFault::Memory)),
+        Err(unasked) => unasked_told(rt, &unasked),
     }
+}
+
+/// Tells why the words ask for nothing: help on standard output, and anything else on standard error. The answer is the status.
+fn unasked_told(rt: &HostRuntime, unasked: &SweepUnasked) -> Result<u8, Stop> {
+    if unasked.status() == 3 {
+        return Err(Stop::from(BytesFault::Memory));
+    }
+    if unasked.is_error() {
+        return told(rt, unasked.text());
+    }
+    print(rt, unasked.text())?;
+    Ok(unasked.status())
 }
 
 /// Says on standard error what is wrong. The answer is the status.
@@ -38,38 +48,21 @@ fn told(rt: &HostRuntime, text: &str) -> Result<u8, Stop> {
     }
 }
 
-/// The files that a sweep reads.
-#[derive(Drop)]
-struct Files {
-    /// That of the protocol besides the shipped ones.
-    protocol: Text,
-    scenario: Text,
-}
-
 /// Sweeps as it is asked, with the files that are named. The answer is the status.
 fn done(rt: &HostRuntime, threads: &(impl Threads + Sync), asked: &SweepAsked) -> Result<u8, Stop> {
     let alloc = rt.alloc();
     let Ok(names) = names_of(alloc, asked.plan.varied()) else {
         return Err(Stop::from(BytesFault::Memory));
     };
-    let mut protocol = opened_by_name(rt, asked.protocol.as_deref())?;
-    let mut scenario = opened(rt, Some(asked.file.as_str()))?;
+    let line = Line::new(rt, true);
+    let mut disk = Disk::new(rt, &line);
     let mut report = Report::new(alloc, rt.stdout(), names.as_slice(), asked.json);
-    let ended = execute(
-        threads,
-        alloc,
-        asked,
-        &mut protocol,
-        &mut scenario,
-        &mut report,
-    );
-    let files = Files { protocol, scenario };
-    match ended {
-        Ok(ended) => {
-            said(rt, asked, names.as_slice(), &ended, &report, &files)?;
-            Ok(ended.status())
+    match execute(threads, alloc, asked, &mut disk, &mut report) {
+        Ok(done) => {
+            said(rt, asked, names.as_slice(), &done, &report)?;
+            Ok(done.ended.status())
         }
-        Err(fault) => Err(stopped(rt, fault, asked, &report, &files)),
+        Err(fault) => Err(stopped(rt, fault, disk, &report)),
     }
 }
 
@@ -78,20 +71,19 @@ fn said(
     rt: &HostRuntime,
     asked: &SweepAsked,
     names: &[String],
-    ended: &Ended,
+    done: &SweepExecuted,
     report: &Report<'_>,
-    files: &Files,
 ) -> Result<(), Stop> {
-    match ended {
+    match &done.ended {
         Ended::Swept(counts) => {
             if !asked.quiet {
-                counted(rt, asked, names, counts, report, files);
+                counted(rt, asked, names, counts, report, &done.texts);
             }
             Ok(())
         }
         Ended::Refused(line) => {
             print(rt, line.as_str())?;
-            hinted(rt, refused(rt, line.as_str(), files));
+            hinted(rt, refused(rt, line.as_str(), &done.texts));
             Ok(())
         }
         Ended::Undated => {
@@ -108,33 +100,37 @@ fn counted(
     names: &[String],
     counts: &Counts,
     report: &Report<'_>,
-    files: &Files,
+    texts: &SweepTexts,
 ) {
     hinted(rt, report.tally().words(rt.alloc(), counts, names));
-    let (Some(line), Some(scenario)) = (report.tally().first_refused(), files.scenario.bytes())
-    else {
+    let Some(line) = report.tally().first_refused() else {
         return;
     };
-    let protocol = match asked.protocol {
-        Some(_) => files.protocol.bytes(),
-        None => None,
-    };
     let study = Study {
-        scenario,
+        scenario: texts.scenario.as_slice(),
         plan: &asked.plan,
     };
-    hinted(rt, refused_words(rt.alloc(), protocol, &study, names, line));
+    hinted(
+        rt,
+        refused_words(rt.alloc(), protocol_of(texts), &study, names, line),
+    );
+}
+
+/// The text of the protocol's file, where one is named.
+fn protocol_of(texts: &SweepTexts) -> Option<&[u8]> {
+    match &texts.protocol {
+        Some(bytes) => Some(bytes.as_slice()),
+        None => None,
+    }
 }
 
 /// What is wrong with a protocol file or a scenario that is refused as a whole, by the line that says so.
-fn refused(rt: &HostRuntime, line: &str, files: &Files) -> Result<String, AllocError> {
+fn refused(rt: &HostRuntime, line: &str, texts: &SweepTexts) -> Result<String, AllocError> {
     let alloc = rt.alloc();
-    let (Some(protocol), Some(scenario)) = (files.protocol.bytes(), files.scenario.bytes()) else {
-        return Err(AllocError);
-    };
     if !line.starts_with("refused protocol") {
-        return search_hint(alloc, scenario, line.as_bytes());
+        return search_hint(alloc, texts.scenario.as_slice(), line.as_bytes());
     }
+    let protocol = protocol_of(texts).unwrap_or(&[]);
     match read_protocol(alloc, protocol) {
         Ok(_) => Ok(String::new(alloc)),
         Err(error) => protocol_hint(alloc, protocol, &error),
@@ -142,31 +138,13 @@ fn refused(rt: &HostRuntime, line: &str, files: &Files) -> Result<String, AllocE
 }
 
 /// Why a sweep has no whole output: a fault, and the device that failed with the system's reason, where one did.
-fn stopped(
-    rt: &HostRuntime,
-    fault: BytesFault,
-    asked: &SweepAsked,
-    report: &Report<'_>,
-    files: &Files,
-) -> Stop {
-    let alloc = rt.alloc();
-    if let Some(error) = files.protocol.device().error() {
-        return Stop::at(
-            alloc,
-            fault,
-            asked.protocol.as_deref().unwrap_or("-"),
-            error,
-        );
-    }
-    if let Some(error) = files.scenario.device().error() {
-        return Stop::at(alloc, fault, name_of(asked.file.as_str()), error);
-    }
+fn stopped(rt: &HostRuntime, fault: BytesFault, disk: Disk<'_>, report: &Report<'_>) -> Stop {
     match (fault, report.unwritten()) {
         (BytesFault::Write, Some(Unwritten::Output(error))) => {
-            Stop::at(alloc, fault, "standard output", error)
+            Stop::at(rt.alloc(), fault, "standard output", error)
         }
         (BytesFault::Write, _) => Stop::from(BytesFault::Memory),
-        _ => Stop::from(fault),
+        _ => disk.stopped(fault),
     }
 }
 

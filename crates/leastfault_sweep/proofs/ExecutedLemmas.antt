@@ -26,12 +26,17 @@ use Rattle.lf_sweeping.specs.Sweeps.{WasSwept}
 use Rattle.lf_written.specs.declared.declared.Declared.{Declared}
 use Rattle.leastfault.specs.declared.fault.BytesFault.{BytesFault}
 use Rattle.leastfault.specs.declared.fault.BytesFault.TheVariants as bytes
-use Rattle.leastfault.specs.Engines.{IsFront, TookAtMost, tells_read}
+use Rattle.leastfault.specs.Engines.{tells_read, tells_write}
+use Rattle.leastfault.specs.Places.{WereRead}
+use Rattle.lf_streams.specs.Files.{Desk}
 use Rattle.leastfault.specs.Reports.{refusal}
-use Rattle.leastfault_sweep.specs.declared.asked.SweepAsked.{SweepAsked}
+use Rattle.lf_sweep_words.specs.declared.types.SweepAsked.{SweepAsked}
 use Rattle.leastfault_sweep.specs.declared.executing.Ended.{Ended}
 use Rattle.leastfault_sweep.specs.declared.executing.Ended.TheVariants as ended
-use Rattle.leastfault_sweep.specs.Executed.{HasBegun, IsEnd, IsExecuted, IsFrontOf, IsReadable, IsSweptOrNot, is_read, is_reading}
+use Rattle.leastfault_sweep.specs.declared.executing.SweepExecuted.{SweepExecuted}
+use Rattle.leastfault_sweep.specs.declared.reading.SweepTexts.{SweepTexts}
+use Rattle.leastfault_sweep.specs.Executed.{AreFronts, HasBegun, IsEnd, IsExecuted, IsReadable, IsSweptOrNot, given_of, reads_of}
+use Rattle.leastfault_sweep.proofs.ReadLemmas.{read_told}
 use Rattle.leastfault_sweep.specs.Replies.{IsKnownIn, IsRefusedIn, RefusesBy, RepliesBy}
 
 abbrev mark : SweepFault → ℕ
@@ -212,98 +217,102 @@ module _ {W : Type 0} (written : W → Option (List ℕ)) (has_failed : W → Bo
       let s = subst (λ x. Swept old new x) is swept in
       record { done = tt; front = s.front; sink = s.sink; source = refl; pool = λ n bad. absurd (omega (arith, ap mark_in bad)) }
 
-pub took_none : (most : ℕ) (held : Option (List ℕ)) → TookAtMost most held held
-took_none most None = tt
-took_none most (Some h) = (0, omega arith, refl)
+-- whatever there would be, a fault tells of a write or of none, and of no pool or of one
+write_told : (e : BytesFault) → tells_write (fault_as e) ≡ tells_write {X = SweepExecuted} (Err e)
+write_told bytes.Read = refl
+write_told bytes.Write = refl
+write_told bytes.Memory = refl
+write_told (bytes.Pool n) = refl
 
-neither : (x y : Bool) → x ≡ false → y ≡ false → (x || y) ≡ false
-neither x y first second = rw (first, second) refl
+pool_told : (e : BytesFault) → ((number : ℕ) → ¬ (fault_as e ≡ Err (bytes.Pool number))) → (r : Result SweepExecuted BytesFault) → r ≡ Err e
+    → (number : ℕ) → ¬ (r ≡ Err (bytes.Pool number))
+pool_told bytes.Read none r is number bad = absurd (omega (arith, ap mark_in is, ap mark_in bad))
+pool_told bytes.Write none r is number bad = absurd (omega (arith, ap mark_in is, ap mark_in bad))
+pool_told bytes.Memory none r is number bad = absurd (omega (arith, ap mark_in is, ap mark_in bad))
+pool_told (bytes.Pool n) none r is number bad = none n refl
 
-one_of : (x y : Bool) → x ≡ true → (x || y) ≡ true
-one_of x y first = rw first refl
+module _ {W : Type 0} (written : W → Option (List ℕ)) (has_failed : W → Bool) (asked : SweepAsked) (old new : Desk) (before : W) where
+  abbrev pub Executed : W → Result SweepExecuted BytesFault → Type 0
+  Executed after r = IsExecuted written has_failed asked old new before after r
 
-other_of : (x y : Bool) → y ≡ true → (x || y) ≡ true
-other_of true y second = refl
-other_of false y second = second
+  abbrev pub Read : Result SweepTexts BytesFault → Type 0
+  Read r = WereRead (AreFronts asked old.holds) (reads_of asked) old new r
 
-module _ {P R W : Type 0} (left : P → Option (List ℕ)) (failed : P → Bool) (left_too : R → Option (List ℕ)) (failed_too : R → Bool)
-    (written : W → Option (List ℕ)) (has_failed : W → Bool) (asked : SweepAsked) (old new : P) (old_too new_too : R) where
-  abbrev pub Executed : W → W → Result Ended BytesFault → Type 0
-  Executed before after r = IsExecuted left failed left_too failed_too written has_failed asked old new old_too new_too before after r
-
-  -- a source wasn't read
-  pub unread : (w : W) (e : BytesFault) → is_reading e ≡ true → (failed new || failed_too new_too) ≡ tells_read (fault_as e) → has_failed w ≡ false
-      → TookAtMost (longest + 1) (left old) (left new) → TookAtMost (longest + 1) (left_too old_too) (left_too new_too)
-      → (is_some asked.protocol ≡ false → new ≡ old) → Executed w w (Err e)
-  unread w bytes.Read is source well taken taken_too unnamed = record {
+  -- a text wasn't read
+  pub unread : (e : BytesFault) → has_failed before ≡ false → Read (Err e) → Executed before (Err e)
+  unread bytes.Read well read = record {
     done = tt;
-    front = inl (Appends-nil (written w));
-    source = source;
+    begun = inl (Appends-nil (written before));
+    front = read.front;
+    unwritten = read.unwritten;
+    well = read.well;
+    source = read.source;
     sink = well;
     pool = λ n bad. absurd (omega (arith, ap mark_in bad));
-    taken = (taken, taken_too);
-    unnamed = unnamed;
   }
-  unread w bytes.Write is source well taken taken_too unnamed = absurd (false≢true is)
-  unread w bytes.Memory is source well taken taken_too unnamed = record {
+  unread bytes.Memory well read = record {
     done = tt;
-    front = inl (Appends-nil (written w));
-    source = source;
+    begun = inl (Appends-nil (written before));
+    front = read.front;
+    unwritten = read.unwritten;
+    well = read.well;
+    source = read.source;
     sink = well;
     pool = λ n bad. absurd (omega (arith, ap mark_in bad));
-    taken = (taken, taken_too);
-    unnamed = unnamed;
   }
-  unread w (bytes.Pool n) is source well taken taken_too unnamed = absurd (false≢true is)
+  unread bytes.Write well read = absurd (neither bytes.Write refl read.fault)
+    where
+      neither : (e : BytesFault) → mark_of e ≡ 1 → (e ≡ bytes.Read) ⊎ (e ≡ bytes.Memory) → ⊥
+      neither e is (inl read_is) = absurd (omega (arith, is, ap mark_of read_is))
+      neither e is (inr memory) = absurd (omega (arith, is, ap mark_of memory))
+  unread (bytes.Pool number) well read = absurd (neither (bytes.Pool number) refl read.fault)
+    where
+      neither : (e : BytesFault) → mark_of e ≡ 3 → (e ≡ bytes.Read) ⊎ (e ≡ bytes.Memory) → ⊥
+      neither e is (inl read_is) = absurd (omega (arith, is, ap mark_of read_is))
+      neither e is (inr memory) = absurd (omega (arith, is, ap mark_of memory))
 
-  pub comes_to : (before after : W) (protocol shown : Option (List ℕ)) (text shown_too : List ℕ) (r : Result Ended BytesFault)
-      → (failed new || failed_too new_too) ≡ false → shown ≡ protocol → shown_too ≡ text
-      → IsFrontOf (is_some asked.protocol) longest (left old) protocol → IsFront longest (left_too old_too) text
-      → TookAtMost (longest + 1) (left old) (left new) → TookAtMost (longest + 1) (left_too old_too) (left_too new_too)
-      → (is_some asked.protocol ≡ false → new ≡ old) → IsSweptOrNot written has_failed asked shown shown_too before after r → Executed before after r
-  comes_to before after protocol shown text shown_too (Ok e) well shown_is shown_too_is front front_too taken taken_too unnamed s = record {
-    done = (
-      shown,
-      shown_too,
-      subst (IsFrontOf (is_some asked.protocol) longest (left old)) (sym shown_is) front,
-      subst (IsFront longest (left_too old_too)) (sym shown_too_is) front_too,
-      s.done,
-    );
-    front = tt;
-    source = well ∙ sym s.source;
+  -- both were, and come to this
+  by_texts : (texts : SweepTexts) (shown : Option (List ℕ)) (shown_too : List ℕ) (after : W) (r : Result Ended BytesFault) → shown ≡ given_of texts
+      → shown_too ≡ texts.scenario.items → IsSweptOrNot written has_failed asked shown shown_too before after r
+      → IsSweptOrNot written has_failed asked (given_of texts) texts.scenario.items before after r
+  by_texts texts shown shown_too after r is is_too s =
+      subst (λ (text : List ℕ). IsSweptOrNot written has_failed asked (given_of texts) text before after r) is_too
+      (subst (λ (protocol : Option (List ℕ)). IsSweptOrNot written has_failed asked protocol shown_too before after r) is s)
+
+  ended_by : (texts : SweepTexts) (after : W) (e : Ended) → Read (Ok texts)
+      → IsSweptOrNot written has_failed asked (given_of texts) texts.scenario.items before after (Ok e)
+      → Executed after (Ok (record { ended = e; texts = texts }))
+  ended_by texts after e read s = record {
+    done = (read.one, read.whole, s.done);
+    begun = tt;
+    front = read.front;
+    unwritten = read.unwritten;
+    well = read.well;
+    source = read.source;
     sink = s.sink;
-    pool = s.pool;
-    taken = (taken, taken_too);
-    unnamed = unnamed;
+    pool = λ n bad. absurd (omega (arith, ap mark_in bad));
   }
-  comes_to before after protocol shown text shown_too (Err e) well shown_is shown_too_is front front_too taken taken_too unnamed s = record {
+
+  stopped_by : (texts : SweepTexts) (after : W) (e : BytesFault) → Read (Ok texts)
+      → IsSweptOrNot written has_failed asked (given_of texts) texts.scenario.items before after (Err e) → Executed after (Err e)
+  stopped_by texts after e read s = record {
     done = tt;
-    front = inr (
-      shown,
-      shown_too,
-      subst (IsFrontOf (is_some asked.protocol) longest (left old)) (sym shown_is) front,
-      subst (IsFront longest (left_too old_too)) (sym shown_too_is) front_too,
-      s.front,
-    );
-    source = well ∙ sym s.source;
-    sink = s.sink;
-    pool = s.pool;
-    taken = (taken, taken_too);
-    unnamed = unnamed;
+    begun = inr (texts, read.one, read.whole, s.front);
+    front = read.front;
+    unwritten = read.unwritten;
+    well = read.well;
+    source = read.source ∙ sym s.source ∙ read_told Ended SweepExecuted e;
+    sink = s.sink ∙ write_told e;
+    pool = pool_told e s.pool (Err e) refl;
   }
 
--- which source failed, where one did
-pub first_failed : (x y : Bool) (e : BytesFault) → y ≡ false → x ≡ is_read e → (x || y) ≡ tells_read (fault_as e)
-first_failed x y bytes.Read well is = one_of x y is
-first_failed x y bytes.Write well is = neither x y is well
-first_failed x y bytes.Memory well is = neither x y is well
-first_failed x y (bytes.Pool n) well is = neither x y is well
+  pub ended_so : (texts : SweepTexts) (shown : Option (List ℕ)) (shown_too : List ℕ) (after : W) (e : Ended) → Read (Ok texts) → shown ≡ given_of texts
+      → shown_too ≡ texts.scenario.items → IsSweptOrNot written has_failed asked shown shown_too before after (Ok e)
+      → Executed after (Ok (record { ended = e; texts = texts }))
+  ended_so texts shown shown_too after e read is is_too s = ended_by texts after e read (by_texts texts shown shown_too after (Ok e) is is_too s)
 
-pub second_failed : (x y : Bool) (e : BytesFault) → x ≡ false → y ≡ is_read e → (x || y) ≡ tells_read (fault_as e)
-second_failed x y bytes.Read well is = other_of x y is
-second_failed x y bytes.Write well is = neither x y well is
-second_failed x y bytes.Memory well is = neither x y well is
-second_failed x y (bytes.Pool n) well is = neither x y well is
-
-pub both_well : (x y : Bool) → x ≡ false → y ≡ false → (x || y) ≡ false
-both_well = neither
+  pub stopped_so : (texts : SweepTexts) (shown : Option (List ℕ)) (shown_too : List ℕ) (after : W) (e : BytesFault) → Read (Ok texts)
+      → shown ≡ given_of texts → shown_too ≡ texts.scenario.items → IsSweptOrNot written has_failed asked shown shown_too before after (Err e)
+      → Executed after (Err e)
+  stopped_so texts shown shown_too after e read is is_too s =
+      stopped_by texts after e read (by_texts texts shown shown_too after (Err e) is is_too s)

@@ -1,2 +1,3 @@
 mod ExecutedLemmas
 mod OneLemmas
+mod ReadLemmas

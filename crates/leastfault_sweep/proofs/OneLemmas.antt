@@ -15,8 +15,8 @@ use Rattle.lf_sweeping.specs.Counts.{Told, counts_of}
 use Rattle.lf_sweeping.specs.Rows.{AreReplies, AreToldAt, IsReplyAt, told_lines}
 use Rattle.lf_written.specs.declared.declared.Declared.{Declared}
 use Rattle.leastfault.specs.Replies.{HasOneReply, IsAnswerReply, IsSearchReply}
-use Rattle.leastfault_sweep.specs.declared.by.By.{By}
-use Rattle.leastfault_sweep.specs.declared.by.By.TheVariants as by
+use Rattle.lf_sweep_words.specs.declared.types.By.{By}
+use Rattle.lf_sweep_words.specs.declared.types.By.TheVariants as by
 use Rattle.leastfault_sweep.specs.Replies.{IsKnownIn, IsReplyBy, IsSweep, RepliesBy}
 
 abbrev good : {A E : Type 0} → Result A E → A → A

@@ -1,5 +1,6 @@
 -- What a sweep comes to.
-use Rattle.std.specs.Prelude.{◌≡◌, ◌≢◌, ◌⊎◌, ℕ, ◌+◌, ◌<◌, ◌≤◌, ◌||◌, Bool, true, false, List, [], length, take, is_some, Option, None, Some, Result, Err, IfOk, IfErr, String, string_bytes}
+use Rattle.std.specs.Prelude.{◌≡◌, ◌≢◌, ◌⊎◌, ℕ, ◌<◌, ◌≤◌, Bool, false, List, [], ◌∷◌, ◌++◌, length, Option, None, Some, Result, Err, IfOk, IfErr, String, string_bytes}
+use Rattle.std.specs.Option.{option_map}
 use Rattle.std.specs.Io.KnownBytes.{Appends}
 use Rattle.std.specs.declared.alloc.Global.{Global}
 use Rattle.toml.specs.Data.{Members, members_have_valid_dates}
@@ -15,11 +16,15 @@ use Rattle.lf_sweeping.specs.Sweeps.{WasBegun}
 use Rattle.lf_written.specs.declared.declared.Declared.{Declared}
 use Rattle.leastfault.specs.declared.fault.BytesFault.{BytesFault}
 use Rattle.leastfault.specs.declared.fault.BytesFault.TheVariants as faults
-use Rattle.leastfault.specs.Engines.{IsFront, TookAtMost, tells_read, tells_write}
+use Rattle.leastfault.specs.Engines.{IsFront, tells_read, tells_write}
+use Rattle.leastfault.specs.Places.{AddsFront, IsFrontAt, place_of, read_of}
+use Rattle.lf_streams.specs.Files.{Adds, Desk}
 use Rattle.leastfault.specs.Protocols.{protocol_refusal}
 use Rattle.leastfault.specs.Reports.{refusal}
-use Rattle.leastfault_sweep.specs.declared.asked.SweepAsked.{SweepAsked}
+use Rattle.lf_sweep_words.specs.declared.types.SweepAsked.{SweepAsked}
 use Rattle.leastfault_sweep.specs.declared.executing.Ended.{Ended}
+use Rattle.leastfault_sweep.specs.declared.executing.SweepExecuted.{SweepExecuted}
+use Rattle.leastfault_sweep.specs.declared.reading.SweepTexts.{SweepTexts}
 use Rattle.leastfault_sweep.specs.declared.executing.Ended.TheVariants as ended
 use Rattle.leastfault_sweep.specs.Replies.{IsKnownIn, IsSweep, RefusesBy, RepliesBy}
 
@@ -29,26 +34,25 @@ end_status (ended.Swept counts) = status_of counts
 end_status (ended.Refused line) = 2
 end_status ended.Undated = 2
 
--- the bytes were read at the front of a source that is asked for, and there are none where it isn't
-abbrev pub IsFrontOf : Bool → ℕ → Option (List ℕ) → Option (List ℕ) → Type 0
-IsFrontOf false most held None = Unit {0}
-IsFrontOf false most held (Some bytes) = ⊥
-IsFrontOf true most held None = ⊥
-IsFrontOf true most held (Some bytes) = IsFront most held bytes
+-- which files a sweep reads: that of the protocol, where one is named, which is a file also where it is `-`, and that of the scenario
+abbrev pub protocol_place : SweepAsked → Option (Option (List ℕ))
+protocol_place a = option_map (λ name. Some (string_bytes name)) a.protocol
 
--- the fault is one of a read
-abbrev pub is_reading : BytesFault → Bool
-is_reading faults.Read = true
-is_reading faults.Write = false
-is_reading faults.Memory = true
-is_reading (faults.Pool number) = false
+abbrev pub scenario_place : SweepAsked → Option (List ℕ)
+scenario_place a = place_of (string_bytes a.file)
 
--- a source failed
-abbrev pub is_read : BytesFault → Bool
-is_read faults.Read = true
-is_read faults.Write = false
-is_read faults.Memory = false
-is_read (faults.Pool number) = false
+-- what a sweep reads, in this order
+abbrev pub reads_of : SweepAsked → List (Option (List ℕ) × ℕ)
+reads_of a = read_of (protocol_place a) longest ++ ((scenario_place a, longest) ∷ [])
+
+-- the text of a protocol file, where one is named
+abbrev pub given_of : SweepTexts → Option (List ℕ)
+given_of texts = option_map (λ bytes. bytes.items) texts.protocol
+
+-- the texts are those at the front of what the files hold
+abbrev pub AreFronts : SweepAsked → (Option (List ℕ) → Option (List ℕ)) → SweepTexts → Type 0
+AreFronts a holds texts =
+    IsFrontAt holds (protocol_place a) longest (given_of texts) × IsFront longest (holds (scenario_place a)) texts.scenario.items
 
 -- no protocol file is given, or it is one
 abbrev pub IsReadable : Option (List ℕ) → Type 0
@@ -98,20 +102,21 @@ module _ {W : Type 0} (written : W → Option (List ℕ)) (has_failed : W → Bo
     pub source : tells_read result ≡ false
     pub pool : (number : ℕ) → ¬ (result ≡ Err (faults.Pool number))
 
--- what is read of two sources, of a protocol file, where one is named, and of a scenario, comes to that
-pub record IsExecuted {P R W : Type 0} (left : P → Option (List ℕ)) (has_failed : P → Bool) (left_too : R → Option (List ℕ)) (has_failed_too : R → Bool)
-    (written : W → Option (List ℕ)) (has_failed_last : W → Bool) (asked : SweepAsked) (old new : P) (old_too new_too : R) (old_last new_last : W)
-    (result : Result Ended BytesFault) : Type 0 where
-  pub done : IfOk result (λ end. (protocol : Option (List ℕ)) × (text : List ℕ) × IsFrontOf (is_some asked.protocol) longest (left old) protocol
-      × IsFront longest (left_too old_too) text × IsEnd written has_failed_last asked protocol text old_last new_last end)
-  -- else a front of the lines was written, or nothing
-  pub front : IfErr result (λ _. Appends (written old_last) (written new_last) []
-      ⊎ ((protocol : Option (List ℕ)) × (text : List ℕ) × IsFrontOf (is_some asked.protocol) longest (left old) protocol
-      × IsFront longest (left_too old_too) text × HasBegun written has_failed_last asked protocol text old_last new_last))
-  -- `Read` says that a source failed, and `Write` that the sink did
-  pub source : (has_failed new || has_failed_too new_too) ≡ tells_read result
-  pub sink : has_failed_last new_last ≡ tells_write result
+-- what the files hold that the words name comes to that
+pub record IsExecuted {W : Type 0} (written : W → Option (List ℕ)) (has_failed : W → Bool) (asked : SweepAsked) (old new : Desk) (before after : W)
+    (result : Result SweepExecuted BytesFault) : Type 0 where
+  -- both texts were read, each once, and they come to this
+  pub done : IfOk result (λ x. AreFronts asked old.holds x.texts × Adds (reads_of asked) old.reads new.reads
+      × IsEnd written has_failed asked (given_of x.texts) x.texts.scenario.items before after x.ended)
+  -- else a front of the lines was written, once both were read, or nothing
+  pub begun : IfErr result (λ _. Appends (written before) (written after) []
+      ⊎ ((texts : SweepTexts) × AreFronts asked old.holds texts × Adds (reads_of asked) old.reads new.reads
+      × HasBegun written has_failed asked (given_of texts) texts.scenario.items before after))
+  -- no more than this was read, and nothing was written into files
+  pub front : AddsFront (reads_of asked) old.reads new.reads
+  pub unwritten : new.writes ≡ old.writes
+  pub well : new.write_failed ≡ old.write_failed
+  -- `Read` says that a read failed, and `Write` that the sink did
+  pub source : new.read_failed ≡ tells_read result
+  pub sink : has_failed after ≡ tells_write result
   pub pool : (number : ℕ) → ¬ (result ≡ Err (faults.Pool number))
-  -- no more than one byte past the longest text was taken of each, and nothing of a protocol file that isn't named
-  pub taken : TookAtMost (longest + 1) (left old) (left new) × TookAtMost (longest + 1) (left_too old_too) (left_too new_too)
-  pub unnamed : is_some asked.protocol ≡ false → new ≡ old

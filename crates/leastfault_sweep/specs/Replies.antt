@@ -15,8 +15,8 @@ use Rattle.lf_sweeping.specs.declared.error.SweepFault.{SweepFault}
 use Rattle.lf_sweeping.specs.declared.error.SweepFault.TheVariants as faults
 use Rattle.lf_written.specs.declared.declared.Declared.{Declared}
 use Rattle.leastfault.specs.Replies.{IsAnswerReply, IsSearchReply}
-use Rattle.leastfault_sweep.specs.declared.by.By.{By}
-use Rattle.leastfault_sweep.specs.declared.by.By.TheVariants as by
+use Rattle.lf_sweep_words.specs.declared.types.By.{By}
+use Rattle.lf_sweep_words.specs.declared.types.By.TheVariants as by
 
 -- the text that is given, where one is
 abbrev pub text_of : Option (Bor (List ℕ)) → Option (List ℕ)

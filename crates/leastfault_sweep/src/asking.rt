@@ -5,10 +5,10 @@ ghost use Rattle.leastfault.specs.Known.{known_of};
 ghost use Rattle.lf_protocol_file.specs.Files.{IsText};
 ghost use Rattle.leastfault_sweep.specs.Replies.{IsRefusedIn, IsReplyBy, RefusesBy, RepliesBy, text_of};
 
-use crate::by::By;
 use leastfault::{
     ProtocolError, ProtocolFile, Reply, Wanted, answer_reply, read_protocol, search_reply,
 };
+use lf_sweep_words::By;
 use lf_sweeping::{Asker, Replied, SweepFault};
 use lf_watch::NoWatch;
 use std::alloc::{AllocError, Global};

@@ -1,20 +1,18 @@
-//! Sweeps, from the sources of their texts to the lines.
+//! Sweeps, from the files of their texts to the lines.
 
-ghost use Rattle.std.specs.Prelude.{◌≡◌, ◌≢◌, ◌+◌, false, true, option_map, string_bytes, IfErr, IfOk};
-ghost use Rattle.lf_scenario.specs.Limits.{longest};
-ghost use Rattle.leastfault.specs.Engines.{IsFront, TookAtMost};
+ghost use Rattle.std.specs.Prelude.{◌≡◌, ◌≢◌, false, option_map, string_bytes, IfOk};
 ghost use Rattle.leastfault.specs.Protocols.{protocol_refusal};
 ghost use Rattle.lf_sweeping.specs.Sweeps.{WasSwept};
-ghost use Rattle.leastfault_sweep.specs.Executed.{IsExecuted, IsFrontOf, IsPastProtocol, IsSweptOrNot, end_status, is_read, is_reading};
+ghost use Rattle.leastfault_sweep.specs.Executed.{IsExecuted, IsPastProtocol, IsSweptOrNot, end_status};
 ghost use Rattle.leastfault_sweep.specs.Replies.{RefusesBy, RepliesBy, text_of};
 
-use crate::asked::SweepAsked;
+use crate::reading::{SweepTexts, read_sweep};
 use crate::sweeping::{sweep, sweep_shared};
 use leastfault::{
-    BytesFault, LONGEST, ProtocolError, ScenarioError, Sink, Source, protocol_refusal,
+    BytesFault, Files, LONGEST, ProtocolError, ScenarioError, Sink, protocol_refusal,
     read_protocol, refusal,
 };
-use lf_streams::{ReadFault, read_up_to};
+use lf_sweep_words::SweepAsked;
 use lf_sweeping::{Counts, Study, SweepFault};
 use std::alloc::{AllocError, Global};
 use std::thread::Threads;
@@ -42,31 +40,45 @@ impl Ended {
     }
 }
 
+/// What a sweep came to, and the texts that it read.
+#[derive(Debug, Drop)]
+pub struct SweepExecuted {
+    /// What it came to.
+    pub ended: Ended,
+    /// The texts that the words name.
+    pub texts: SweepTexts,
+}
+
 /// Sweeps as it is asked, and writes the line of each combination as it comes, in order.
 ///
-/// The protocol's file, where one is named, is read from the first source, and the scenario from the second; a source that isn't asked for
-/// is left alone. Both are read before anything is refused, up to one byte past the longest text; then the protocol's refusal comes first.
-/// The lines are those of one worker, by however many.
+/// The protocol's file is read first, where one is named, and then the scenario: of each at most one byte past the longest text. Both are
+/// read before anything is refused; then the protocol's refusal comes first. The lines are those of one worker, by however many. Nothing is
+/// written but the lines.
 ///
-/// The fault is `Read` exactly where a source failed, `Write` exactly where the sink did, and else `Memory`.
-pub fn execute<T: Threads + Sync, P: Source, R: Source, W: Sink>(
+/// The fault is `Read` exactly where the files failed, `Write` exactly where the sink did, and else `Memory`. No read of the files may have
+/// failed.
+pub fn execute<T: Threads + Sync, F: Files, W: Sink>(
     threads: &T,
     alloc: Global,
     asked: &SweepAsked,
-    protocol_reader: &mut P,
-    scenario_reader: &mut R,
+    files: &mut F,
     writer: &mut W,
-) -> Result<Ended, BytesFault>
-    requires protocol { P.has_failed protocol_reader.old ≡ false }
-    requires scenario { R.has_failed scenario_reader.old ≡ false }
+) -> Result<SweepExecuted, BytesFault>
+    requires read { (F.desk files.old).read_failed ≡ false }
     requires writer { W.has_failed writer.old ≡ false }
-    ensures { IsExecuted P.left P.has_failed R.left R.has_failed W.written W.has_failed asked.now protocol_reader.old protocol_reader.new
-        scenario_reader.old scenario_reader.new writer.old writer.new result }
+    ensures { IsExecuted W.written W.has_failed asked.now (F.desk files.old) (F.desk files.new) writer.old writer.new result }
 {
-    let protocol = read_where(alloc, asked.protocol.is_some(), protocol_reader)?;
-    let scenario = read_text(alloc, scenario_reader)?;
-    let given = given(&protocol);
-    come_to(threads, alloc, asked, given, scenario.as_slice(), writer)
+    let texts = read_sweep(alloc, asked, files)?;
+    let given = given(&texts.protocol);
+    let ended = come_to(
+        threads,
+        alloc,
+        asked,
+        given,
+        texts.scenario.as_slice(),
+        writer,
+    )?;
+    Ok(SweepExecuted { ended, texts })
 }
 
 /// The bytes of a text, where there is one.
@@ -76,43 +88,6 @@ fn given(text: &Option<Vec<u8>>) -> Option<&[u8]>
     match text {
         Some(text) => Some(text.as_slice()),
         None => None,
-    }
-}
-
-/// What a source holds, or as much of it as tells that it is longer than a text may be.
-fn read_text<R: Source>(alloc: Global, reader: &mut R) -> Result<Vec<u8>, BytesFault>
-    requires { R.has_failed reader.old ≡ false }
-    ensures text { IfOk result (λ text. IsFront longest (R.left reader.old) text.items) }
-    ensures well { IfOk result (λ _. R.has_failed reader.new ≡ false) }
-    ensures source { IfErr result (λ e. R.has_failed reader.new ≡ is_read e) }
-    ensures fault { IfErr result (λ e. is_reading e ≡ true) }
-    ensures taken { TookAtMost (longest + 1) (R.left reader.old) (R.left reader.new) }
-{
-    match read_up_to(alloc, reader, LONGEST) {
-        Ok(text) => Ok(text),
-        Err(ReadFault::Failed) => Err(BytesFault::Read),
-        Err(ReadFault::Memory) => Err(BytesFault::Memory),
-    }
-}
-
-/// The same of a source that may not be asked for, which is left alone then.
-fn read_where<R: Source>(
-    alloc: Global,
-    is_asked: bool,
-    reader: &mut R,
-) -> Result<Option<Vec<u8>>, BytesFault>
-    requires { R.has_failed reader.old ≡ false }
-    ensures text { IfOk result (λ text. IsFrontOf is_asked longest (R.left reader.old) (option_map (λ bytes. bytes.items) text)) }
-    ensures well { IfOk result (λ _. R.has_failed reader.new ≡ false) }
-    ensures source { IfErr result (λ e. R.has_failed reader.new ≡ is_read e) }
-    ensures fault { IfErr result (λ e. is_reading e ≡ true) }
-    ensures taken { TookAtMost (longest + 1) (R.left reader.old) (R.left reader.new) }
-    ensures unread { is_asked ≡ false → reader.new ≡ reader.old }
-{
-    if is_asked {
-        Ok(Some(read_text(alloc, reader)?))
-    } else {
-        Ok(None)
     }
 }
 

@@ -4,17 +4,16 @@
 //! combinations, whatever the number of workers.
 #![tactic(auto)]
 
-mod asked;
 mod asking;
-mod by;
 mod executing;
 mod laws;
+mod reading;
 mod sweeping;
 
-pub use asked::SweepAsked;
-pub use by::By;
-pub use executing::{Ended, execute};
+pub use executing::{Ended, SweepExecuted, execute};
 pub use laws::sweeps_are_one;
 pub use lf_sweep::{Part, Place, Plan, PlanError, Varied, VaryError, Words, read_varied};
+pub use lf_sweep_words::{By, SweepAsked, SweepUnasked, names_of, sweep_asked};
 pub use lf_sweeping::{Counts, Study, SweepFault};
+pub use reading::SweepTexts;
 pub use sweeping::{sweep, sweep_shared};

@@ -5,9 +5,9 @@ ghost use Rattle.lf_sweeping.specs.Sweeps.{WasSwept};
 ghost use Rattle.leastfault_sweep.specs.Replies.{RefusesBy, RepliesBy, text_of};
 
 use crate::asking::Reading;
-use crate::by::By;
 use lf_streams::Sink;
 use lf_sweep::Part;
+use lf_sweep_words::By;
 use lf_sweeping::{Counts, Study, SweepFault};
 use std::alloc::Global;
 use std::thread::Threads;

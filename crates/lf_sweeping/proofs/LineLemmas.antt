@@ -178,13 +178,14 @@ fault_there P xs i x e is err holds = subst (λ r. IfErr r P) (sym is ∙ err) h
 -- the line of a combination, by what it is made of
 pub row_told : (Replies : List ℕ → List ℕ → ℕ → Type 0) (scenario : List ℕ) (vs : List Varied) (number : ℕ) (ws : List Varied)
     (given given_too : List (List ℕ)) (text seen reply shown shown_too line : List ℕ) (status : ℕ) (c : Counts) (k : Kind)
-    → ws ≡ vs → given ≡ words_at vs number → given_too ≡ words_at vs number → IsTextWith scenario ws given text → seen ≡ text
+    → number < combinations vs → ws ≡ vs → given ≡ words_at vs number → given_too ≡ words_at vs number → IsTextWith scenario ws given text → seen ≡ text
     → Replies seen reply status → shown ≡ reply → shown_too ≡ reply → k ≡ kind_by shown status → c ≡ of_one k → line ≡ line_of given_too shown_too
     → (told : Told) × IsReplyAt Replies scenario vs number told × (line ≡ told_line vs number told) × (c ≡ counts_of (told ∷ []))
-row_told Replies scenario vs number ws given given_too text seen reply shown shown_too line status c k same words words_too asked is replied told told_too kind
-    count made_is = (
+row_told Replies scenario vs number ws given given_too text seen reply shown shown_too line status c k inside same words words_too asked is replied told
+    told_too kind count made_is = (
       (reply, status),
       record {
+        inside = inside;
         text = text;
         asked = subst (λ l. IsTextWith scenario l (words_at vs number) text) same (subst (λ l. IsTextWith scenario ws l text) words asked);
         replied = subst (λ t. Replies t reply status) is replied;

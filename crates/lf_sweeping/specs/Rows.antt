@@ -25,8 +25,9 @@ module _ (vs : List Varied) where
   told_lines part place (told ∷ more) = told_line (number_at part place) told ++ told_lines part (place + 1) more
 
 module _ (Replies : List ℕ → List ℕ → ℕ → Type 0) (scenario : List ℕ) (vs : List Varied) where
-  -- the reply is one to the text of the scenario that has the values of the combination with this number
+  -- there is a combination with this number, and the reply is one to the text of the scenario that has its values
   pub record IsReplyAt (number : ℕ) (told : Told) : Type 0 where
+    pub inside : number < combinations vs
     pub text : List ℕ
     pub asked : IsTextWith scenario vs (words_at vs number) text
     pub replied : Replies text told.0 told.1

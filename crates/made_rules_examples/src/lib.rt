@@ -1,16 +1,12 @@
 //! Answers to made scenarios, by a search, by merged states, and by a run of each allowed set.
 //!
-//! Made protocols are the texts of a grammar, and so are the scenarios of each. The built-in protocols stand beside themselves as files.
+//! Made protocols are the texts of a grammar, and so are the scenarios of each. Besides, pairs of texts say the same scenario.
 #![tactic(auto)]
 
 #[cfg(test)]
 mod answers;
 #[cfg(test)]
-mod built_in;
-#[cfg(test)]
 mod cases;
-#[cfg(test)]
-mod files;
 #[cfg(test)]
 mod grammar;
 #[cfg(test)]
@@ -18,6 +14,6 @@ mod made;
 #[cfg(test)]
 mod protocols;
 #[cfg(test)]
-mod scenarios;
+mod same;
 #[cfg(test)]
 mod tally;

@@ -1,4 +1,4 @@
-//! Late arrivals: lists that are read or refused, and what is told of runs by them.
+//! Late arrivals: lists that are read, and what is told of runs by them.
 
 ghost use Rattle.lf_latency.specs.Arrivals.{IsPlace};
 
@@ -26,14 +26,6 @@ fn arrival(alloc: Global, list: &str, from: u32, to: u32, step: u32) -> Option<u
     }
 }
 
-/// Whether a list names no arrivals.
-fn is_refused(alloc: Global, list: &str) -> bool {
-    match read_delays(alloc, &network(), list) {
-        Ok(read) => read.is_none(),
-        Err(_) => false,
-    }
-}
-
 #[test]
 fn lists_of_late_arrivals_are_read(rt: HostRuntime) {
     let alloc = rt.alloc();
@@ -47,26 +39,6 @@ fn lists_of_late_arrivals_are_read(rt: HostRuntime) {
         arrival(alloc, "1>2 @20 21", 1, 2, 20) == Some(21),
         "as early as it can",
     );
-}
-
-/// Lists that name no arrivals, with `#` between any two.
-const REFUSED: &str = concat!(
-    // Other words, and signs between notes.
-    " 0>1 @9 13#0>1 @9 13,#,0>1 @9 13#0>1 @9 13,,2>0 @5 8#0>1 @9 13, 2>0 @5 8#0>1 @9 13;2>0 @5 8#,# #0>1 @9#0>1 @9 #0>1 13#",
-    "0>1 @9  13#0>1 @9 13 #0>1 @9 013#0>1 @09 13#0>1 @9 +13#0>1 @9 13\n#omit 0>1 @9 13#0>1  @9 13#0-1 @9 13#",
-    // A slot twice.
-    "0>1 @9 13,0>1 @9 13#0>1 @9 13,2>0 @5 8,0>1 @9 12#",
-    // Before the window, and past it.
-    "0>1 @9 9#0>1 @9 14#0>1 @9 113#",
-    // No slots of the network.
-    "0>0 @1 2#3>1 @1 2#0>3 @1 2#0>1 @0 1#0>1 @21 22",
-);
-
-#[test]
-fn other_lists_name_no_arrivals(rt: HostRuntime) {
-    for list in REFUSED.split('#') {
-        agrees(&rt, is_refused(rt.alloc(), list), list);
-    }
 }
 
 /// The lines of the late notes of the run of a set.

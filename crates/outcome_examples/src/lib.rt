@@ -1,6 +1,6 @@
-//! Worked examples of outcomes, evidence and reaches: runs told line by line, formulas with their truth, size and evidence, and the reaches
+//! Worked examples of outcomes, evidence and reaches: formulas with their truth, size and evidence, and the reaches
 //! and required edges of small scenarios, by hand and beside a plain search over all reaches and all faults. Besides, the light-cone law
-//! at a run, lists of faults and of late arrivals, names of outcomes, and why answers are ones.
+//! at a run, lists of late arrivals, and why answers are ones. Runs, and answers that are known, stand in `examples/cases/`.
 //!
 //! A table of examples is one text, a line for each, in which `|` parts the columns, `,` the items of a list, and blanks the
 //! words. A formula stands behind its parts: `all 2` is of the two formulas before it.
@@ -13,19 +13,13 @@ mod delays;
 #[cfg(test)]
 mod evidence;
 #[cfg(test)]
-mod fewest;
-#[cfg(test)]
 mod formulas;
 #[cfg(test)]
 mod law;
 #[cfg(test)]
-mod listed;
-#[cfg(test)]
 mod plain;
 #[cfg(test)]
 mod reaches;
-#[cfg(test)]
-mod runs;
 #[cfg(test)]
 mod searched;
 #[cfg(test)]
@@ -34,5 +28,3 @@ mod sizes;
 mod texts;
 #[cfg(test)]
 mod why;
-#[cfg(test)]
-mod words;

@@ -13,7 +13,11 @@ mod facts;
 #[cfg(test)]
 mod formulas;
 #[cfg(test)]
+mod laws;
+#[cfg(test)]
 mod notes;
+#[cfg(test)]
+mod own_laws;
 #[cfg(test)]
 mod states;
 #[cfg(test)]

@@ -1,6 +1,6 @@
-//! What the words of a command line come to.
+//! Which files the words of a command line name, and how many workers may search.
 
-use crate::asking::{LOST, Texts, executed, words_of};
+use crate::asking::{LOST, words_of};
 use crate::texts::{agrees, behind, columns, is_reply, text_of};
 use leastfault::{
     Asked, BytesFault, Certified, Executed, NoWatch, Reply, asked, certificate_file, execute,
@@ -28,73 +28,6 @@ fn is_done(done: &Reply<Certified>, wanted: &str) -> bool {
         None => kind == "plain",
     };
     is_right && is_reply(done.text.as_bytes(), done.value.status, reply)
-}
-
-/// Whether the words of a row come to what it says.
-fn row_is_done(rt: &(impl Threads + Wait + Clock + Sync), alloc: Global, row: &str) -> bool {
-    let (words, rest) = columns(row);
-    let Ok(text) = text_of(alloc, rest) else {
-        return false;
-    };
-    let texts = Texts {
-        protocol: "",
-        scenario: text.as_str(),
-        tree: LOST,
-    };
-    match executed(rt, alloc, words, texts, &NoWatch) {
-        Some(done) => is_done(&done.reply, behind(rest)),
-        None => false,
-    }
-}
-
-/// Words, a scenario, whether a certificate is to be written, the status and the reply.
-const DONE: &str = concat!(
-    // one lost note is enough, whoever searches
-    "search+-|3 4 3 0 2|protocol = \"retry\";tries = 1;outcome = \"delivered\"|plain|1|least 1;omit 0>1 @1\n",
-    "search+-+--tree+t|3 4 3 0 2|protocol = \"retry\";tries = 1;outcome = \"delivered\"|certified|1|least 1;omit 0>1 @1\n",
-    "search+-+--tree+t+--workers+3|3 4 3 0 2|protocol = \"retry\";tries = 1;outcome = \"delivered\"|certified|1|least 1;omit 0>1 @1\n",
-    "search+-+--all|3 4 3 0 2|protocol = \"retry\";tries = 1;outcome = \"delivered\"|plain|1|all 1 2;omit 0>1 @1;omit 0>2 @1\n",
-    "search+-+--all+--tree+t|3 4 3 0 2|protocol = \"retry\";tries = 1;outcome = \"delivered\"|certified|1|",
-    "all 1 2;omit 0>1 @1;omit 0>2 @1\n",
-    "search+-+--all+--workers+2|3 4 3 0 2|protocol = \"retry\";tries = 1;outcome = \"delivered\"|plain|1|all 1 2;omit 0>1 @1;omit 0>2 @1\n",
-    "answer+-|3 4 3 0 2|protocol = \"retry\";tries = 1;outcome = \"delivered\"|plain|1|least 1;omit 0>1 @1\n",
-    // over every delay a note that comes too late is enough, unless the horizon leaves room for it
-    "answer+-+--every-delay|2 3 1 0 1|protocol = \"retry\";tries = 1;outcome = \"delivered\";spread = 2|plain|1|least 0;arrive 0>1 @1 4\n",
-    "answer+-+--every-delay|2 4 1 0 1|protocol = \"retry\";tries = 1;outcome = \"delivered\";spread = 2|plain|1|least 1;omit 0>1 @1\n",
-    "answer+-+--every-delay|2 4 0 0 1|protocol = \"retry\";tries = 1;outcome = \"delivered\";spread = 2|plain|0|none 1\n",
-    "answer+-+--every-delay|2 4 0 0 1|protocol = \"retry\";tries = 1;outcome = \"agreement\"|plain|2|refused 10 outcome\n",
-    // a run where the note comes so, and words that name no delays of the network
-    "run+-++--delays+0>1 @1 4|2 3 1 0 1|protocol = \"retry\";tries = 1;outcome = \"delivered\";spread = 2|plain|1|",
-    "step 1;0 has;1 lacks;0>1 data lost;step 2;0 has;1 lacks;step 3;0 has;1 lacks;misses\n",
-    "run+-++--delays+0>1 @1 4+--changes|2 4 1 0 1|protocol = \"retry\";tries = 1;outcome = \"delivered\";spread = 2|plain|0|",
-    "step 1;0>1 data 4;step 4;1 has;reaches\n",
-    "run+-++--delays+0>1 @1 4+--beside+omit 0>1 @1|2 4 1 0 1|protocol = \"retry\";tries = 1;outcome = \"delivered\";spread = 2|plain|0|",
-    "step 1;- 0>1 data omitted;+ 0>1 data 4;step 4;- 1 lacks;+ 1 has;- misses;+ reaches\n",
-    "run+-+omit 0>1 @2+--delays+0>1 @1 4|2 4 1 0 1|protocol = \"retry\";tries = 1;outcome = \"delivered\";spread = 2|plain|2|refused faults\n",
-    "run+-+,+--delays+0>1 @1 5|2 4 1 0 1|protocol = \"retry\";tries = 1;outcome = \"delivered\";spread = 2|plain|2|refused delays\n",
-    "draw+-++--delays+1>0 @1 1|2 4 1 0 1|protocol = \"retry\";tries = 1;outcome = \"delivered\";spread = 2|plain|2|refused delays\n",
-    // what the fault is needed for, and what stands behind none
-    "why+-|3 4 3 0 2|protocol = \"retry\";tries = 1;outcome = \"delivered\"|plain|1|",
-    "least 1;omit 0>1 @1;without omit 0>1 @1: reaches;step 2;- 1 has;+ 1 lacks\n",
-    "why+-|2 3 1 0 1|protocol = \"retry\";tries = 2;outcome = \"delivered\"|plain|0|none 1;runs at level 0: 1;runs at level 1: 1;",
-    "rests on node 0 up to step 3;rests on node 1 up to step 3\n",
-    "why+-|3 4 3 0 3|protocol = \"retry\";tries = 3;outcome = \"delivered\";max_sets = 14|plain|2|full 2 15\n",
-    // the certificate is the scenario's
-    "check+-+t|3 4 3 0 2|protocol = \"retry\";tries = 1;outcome = \"delivered\"|plain|0|yes\n",
-    "check+-+t|3 4 2 0 6|protocol = \"retry\";tries = 3;outcome = \"delivered\"|plain|1|no 6 -\n",
-    // a run of no fault, of words that name none, and of a set that misses
-    "run+-+|2 1 0 0 0|protocol = \"retry\";tries = 1;outcome = \"delivered\"|plain|1|step 1;0 has;1 lacks;0>1 data lost;misses\n",
-    "run+-+,|3 4 3 0 2|protocol = \"retry\";tries = 1;outcome = \"delivered\"|plain|2|refused faults\n",
-    // where there is no answer there is no certificate
-    "search+-+--tree+t|3 4 3 0 3|protocol = \"retry\";tries = 3;outcome = \"delivered\";max_sets = 14|plain|2|full 2 15\n",
-    "search+-+--tree+t|3 4 3 0 3|protocol = \"retry\";tries = 3;outcome = \"agreement\"|plain|2|refused 10 outcome\n",
-);
-
-#[test]
-fn words_come_to_a_reply_and_a_certificate(rt: HostRuntime) {
-    for row in DONE.lines() {
-        agrees(&rt, row_is_done(&rt, rt.alloc(), row), row);
-    }
 }
 
 /// Whether the words of a row name these files: the scenario's, the certificate's that is judged and the one's that is written, and `/` for

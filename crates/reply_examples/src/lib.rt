@@ -1,4 +1,5 @@
-//! Worked examples of scenarios and runs, and the replies to them.
+//! Worked examples of replies that no command shows: searches beside a run of each allowed set, by several workers and under watches, files in memory, devices
+//! that fail, and numbers of workers that words can't ask for. What commands show stands in `examples/cases/`.
 //!
 //! A table of examples is one text, a line for each, in which `|` parts the columns and `;` stands for the end of a line.
 #![tactic(auto)]
@@ -6,21 +7,13 @@
 #[cfg(test)]
 mod asking;
 #[cfg(test)]
-mod checks;
-#[cfg(test)]
 mod commands;
 #[cfg(test)]
 mod devices;
 #[cfg(test)]
 mod files;
 #[cfg(test)]
-mod known;
-#[cfg(test)]
-mod protocols;
-#[cfg(test)]
-mod runs;
-#[cfg(test)]
-mod searches;
+mod plain;
 #[cfg(test)]
 mod texts;
 #[cfg(test)]

@@ -2,6 +2,10 @@
 #![tactic(auto)]
 
 #[cfg(test)]
+mod executed;
+#[cfg(test)]
+mod laws;
+#[cfg(test)]
 mod reading;
 #[cfg(test)]
 mod sweeps;

@@ -1,5 +1,5 @@
-//! Worked examples of texts: scenarios, what is read of them and how they are refused; and certificates, small trees written, counted and
-//! read, texts that are refused, trees of all shapes, and texts as long as may be.
+//! Worked examples of texts: what is read of scenarios, and the words of refusals; and certificates, small trees written, counted and read, trees of all shapes, and
+//! texts as long as may be. Texts that are refused stand in `examples/cases/`.
 //!
 //! A table of examples is one text, a line for each, in which `|` parts the columns and, in scenarios, `;` stands for the end of a line. A
 //! row of a scenario is a key, lines that stand in the scenario in place of that key's, what is looked at, and what is found there.
@@ -15,8 +15,6 @@ mod refusals;
 mod rows;
 #[cfg(test)]
 mod same;
-#[cfg(test)]
-mod sizes;
 #[cfg(test)]
 mod texts;
 #[cfg(test)]

@@ -36,7 +36,7 @@ fn scenarios_are_read(rt: HostRuntime) {
     are_told(&rt, rt.alloc(), READ);
 }
 
-/// Lines of scenarios whose protocols wait: the protocol and the outcome that are read of them, or how they are refused.
+/// Lines of scenarios whose protocols wait: the protocol and the outcome that are read of them.
 const PATIENT: &str = concat!(
     "patient|nodes = 3;protocol = \"two_phase\";outcome = \"agreement\";patience = 5;votes = [true, false]|protocol|TwoPhase { nodes: 3, ",
     "patience: 5, votes: [true, true, false, true, true, true, true, true] }\n",
@@ -54,29 +54,10 @@ const PATIENT: &str = concat!(
     "patient|nodes = 3;protocol = \"primary_backup\";outcome = \"one_primary\";patience = 2|one_primary 3 4|promised\n",
     "patient|nodes = 4;protocol = \"primary_backup\";outcome = \"durable\";patience = 2|protocol|PrimaryBackup { nodes: 4, patience: 2 }\n",
     "patient|nodes = 4;protocol = \"primary_backup\";outcome = \"durable\";patience = 2|durable 4 4|promised\n",
-    // Refused.
-    "patient|nodes = 3;protocol = \"two_phase\";outcome = \"agreement\";||3 patience\n",
-    "patient|nodes = 3;protocol = \"two_phase\";outcome = \"agreement\";tries = 1||4 tries\n",
-    "patient|nodes = 3;protocol = \"two_phase\";outcome = \"agreement\";patience = 0||6 patience\n",
-    "patient|nodes = 3;protocol = \"three_phase\";outcome = \"agreement\";patience = 49||6 patience\n",
-    "patient|nodes = 3;protocol = \"two_phase\";outcome = \"agreement\";patience = true||5 patience\n",
-    "patient|nodes = 3;protocol = \"two_phase\";outcome = \"agreement\";patience = 1;votes = [true]||6 votes\n",
-    "patient|nodes = 3;protocol = \"two_phase\";outcome = \"agreement\";patience = 1;votes = [true, true, true]||6 votes\n",
-    "patient|nodes = 3;protocol = \"two_phase\";outcome = \"agreement\";patience = 1;votes = []||6 votes\n",
-    "patient|nodes = 3;protocol = \"two_phase\";outcome = \"agreement\";patience = 1;votes = [true, 1]||5 votes\n",
-    "patient|nodes = 3;protocol = \"two_phase\";outcome = \"agreement\";patience = 1;votes = [1]||5 votes\n",
-    "patient|nodes = 3;protocol = \"three_phase\";outcome = \"agreement\";patience = 1;votes = true||5 votes\n",
-    "patient|nodes = 3;protocol = \"primary_backup\";outcome = \"durable\";patience = 1;votes = [true, true]||4 votes\n",
-    "patient|nodes = 3;protocol = \"primary_backup\";outcome = \"durable\";tries = 1||4 tries\n",
-    "patient|nodes = 3;protocol = \"primary_backup\";outcome = \"durable\";||3 patience\n",
-    "patient|nodes = 2;protocol = \"primary_backup\";outcome = \"durable\";patience = 1||9 protocol\n",
-    "patient|nodes = 3;protocol = \"primary_backup\";outcome = \"agreement\";patience = 1||10 outcome\n",
-    "patient|nodes = 3;protocol = \"two_phase\";outcome = \"durable\";patience = 1||10 outcome\n",
-    "patient|nodes = 3;protocol = \"three_phase\";outcome = \"delivered\";patience = 1||10 outcome\n",
 );
 
 #[test]
-fn votes_and_patience_are_read_or_refused(rt: HostRuntime) {
+fn votes_and_patience_are_read(rt: HostRuntime) {
     are_told(&rt, rt.alloc(), PATIENT);
 }
 

@@ -1,6 +1,5 @@
-//! How a row of a table is taken apart and compared, and how long texts are made.
+//! How a row of a table is taken apart and compared.
 
-use std::alloc::AllocError;
 use std::process::Abort;
 
 /// What is found at the row is what it says. Each comparison ends here: an assertion is dear to prove.
@@ -21,12 +20,4 @@ pub(crate) fn words(text: &str) -> (&str, &str) {
 /// The number that a word writes.
 pub(crate) fn number(word: &str) -> Option<u32> {
     word.parse::<u32>().ok()
-}
-
-/// Adds a part so many times.
-pub(crate) fn push_times(text: &mut String, part: &str, times: usize) -> Result<(), AllocError> {
-    for _ in 0..times {
-        text.push_str(part)?;
-    }
-    Ok(())
 }

@@ -1,0 +1,8 @@
+mod Cuts
+mod Help
+mod Lists
+mod One
+mod Planned
+mod Reading
+mod Refusing
+mod Sameness

@@ -1,0 +1,87 @@
+//! The laws of the grammars at texts that are read: each call cites a law, and has no premise left.
+
+ghost use Rattle.std.specs.Prelude.{◌≡◌, ◌+◌, suc, Bool, [], codes, IfOk, Ok};
+ghost use Rattle.lf_rules.specs.Terms as terms;
+ghost use Rattle.lf_rules.specs.declared.expr.Binary.TheVariants as twos;
+ghost use Rattle.lf_rules.specs.declared.expr.Leaf.TheVariants as leaves;
+ghost use Rattle.lf_rules.specs.declared.sort.Scope.TheVariants as scopes;
+ghost use Rattle.lf_rules.specs.declared.sort.Sort.TheVariants as sorts;
+ghost use Rattle.lf_tokens.specs.Tokens.{tokens_of};
+ghost use Rattle.lf_grammar.specs.Expressions as expressions;
+ghost use Rattle.lf_grammar.specs.Places.{Context, context_of};
+ghost use Rattle.lf_grammar.specs.Readings.{said};
+ghost use Rattle.lf_promises.specs.Promises as promises;
+
+use crate::build::{agrees, definition};
+use lf_grammar::{
+    Place, Typed, Unread, bracketed_is_read_back, enough_steps_read_the_same, read_truth,
+};
+use lf_rules::{Definition, Scope};
+use lf_tokens::{Token, TokenError, read_tokens};
+use std::alloc::Global;
+
+/// Where no name is declared, in a rule that is on no note.
+fn place(definition: &Definition) -> Place<'_>
+    ensures { context_of result ≡ record { definition = definition.now; fields = []; names = []; scope = scopes.Plain } }
+{
+    Place {
+        definition,
+        names: &[],
+        fields: &[],
+        scope: Scope::Plain,
+    }
+}
+
+/// The expression of a text that has every bracket: the step after this one, and what is left of it by the number of nodes.
+fn read_back<'t>(
+    alloc: Global,
+    definition: &Definition,
+    tokens: &'t [Token],
+) -> Result<(Typed, &'t [Token]), Unread>
+    requires { tokens_of (codes "((t + 1) mod nodes)") ≡ Ok tokens.now }
+    ensures { IfOk result (λ r. said r.0 ≡ record {
+      term = terms.Binary twos.Remainder (terms.Binary twos.Add (terms.Leaf leaves.Step) (terms.Leaf (leaves.Number 1))) (terms.Leaf leaves.Nodes);
+      sort = sorts.Number;
+    }) }
+{
+    bracketed_is_read_back();
+    let place = place(definition);
+    read_truth(alloc, &place, tokens)
+}
+
+/// Whether it is read.
+fn is_read_back(alloc: Global, definition: &Definition) -> bool {
+    match read_tokens(alloc, "((t + 1) mod nodes)".as_bytes()) {
+        Ok(tokens) => read_back(alloc, definition, tokens.as_slice()).is_ok(),
+        Err(_) => false,
+    }
+}
+
+/// The tokens of a text. Whatever is read of them, as an expression or as a promise, ninety steps more than are enough read the same.
+fn tokens(alloc: Global, text: &[u8]) -> Result<Vec<Token>, TokenError>
+    ensures expressions { IfOk result (λ ts. (at : Context) (next : expressions.Next)
+        → expressions.read at (suc (expressions.steps next ts.items)) next ts.items
+        ≡ expressions.read at (91 + expressions.steps next ts.items) next ts.items) }
+    ensures promises { IfOk result (λ ts. (at : Context) (timed : Bool) (next : promises.Next)
+        → promises.read at (suc (promises.steps next ts.items)) timed next ts.items
+        ≡ promises.read at (91 + promises.steps next ts.items) timed next ts.items) }
+{
+    enough_steps_read_the_same();
+    lf_promises::enough_steps_read_the_same();
+    read_tokens(alloc, text)
+}
+
+#[test]
+fn laws_have_no_premise_left(rt: HostRuntime) {
+    let alloc = rt.alloc();
+    let is_read = match definition(alloc, "late", "0") {
+        Ok(definition) => is_read_back(alloc, &definition),
+        Err(_) => false,
+    };
+    agrees(&rt, is_read, "an expression");
+    agrees(
+        &rt,
+        tokens(alloc, b"always down 0 or ever down 1").is_ok(),
+        "tokens",
+    );
+}
