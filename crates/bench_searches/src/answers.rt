@@ -8,7 +8,7 @@ use crate::words::{Asked, Word};
 use leastfault::plain_answer;
 use lf_faults::{FaultSet, fault_text};
 use lf_merged::merged_answer;
-use lf_scenario::Scenario;
+use lf_outcome::Scenario;
 use std::alloc::{AllocError, Global};
 
 /// The most bytes that are read.

@@ -10,10 +10,9 @@
 
 use crate::running::{plain, runs};
 use crate::words::{Asked, Word};
-use lf_alone::finish;
-use lf_book::{Book, Counts, Deepened, Event, Reply, Scratch, Taken, work_up};
+use lf_book::{Book, Counts, Deepened, Event, Reply, Scratch, Taken, finish, work_up};
 use lf_faults::FaultSet;
-use lf_scenario::Scenario;
+use lf_outcome::Scenario;
 use std::alloc::{AllocError, Global};
 use std::sync::Arc;
 

@@ -6,10 +6,10 @@
 
 use crate::running::runs;
 use crate::words::{Asked, Word};
-use lf_alone::{Ended, solve};
+use lf_book::{Ended, solve};
 use lf_check::{Verdict, check, check_rows};
 use lf_faults::FaultSet;
-use lf_scenario::Scenario;
+use lf_outcome::Scenario;
 use lf_tree::{Node, Tree, count};
 use std::alloc::{AllocError, Global};
 use std::sync::Arc;

@@ -1,6 +1,7 @@
 //! Standard input.
 
-use lf_scenario::{LONGEST, Scenario, ScenarioError, read};
+use lf_outcome::Scenario;
+use lf_scenario::{LONGEST, ScenarioError, read};
 use lf_streams::{FromRead, ReadFault, read_up_to};
 use std::alloc::{AllocError, Global};
 use std::sync::Arc;

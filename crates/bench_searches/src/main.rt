@@ -23,7 +23,7 @@ mod runs;
 mod trees;
 mod words;
 
-use lf_scenario::Scenario;
+use lf_outcome::Scenario;
 use std::alloc::AllocError;
 use std::process::ExitCode;
 use std::rt::Clock;

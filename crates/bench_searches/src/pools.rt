@@ -6,9 +6,9 @@
 //! held the lock, waited, or weren't there.
 
 use crate::words::{Asked, Word};
-use lf_alone::Ended;
+use lf_book::Ended;
+use lf_outcome::Scenario;
 use lf_pool::{Gate, NoGate, PoolError, Solved};
-use lf_scenario::Scenario;
 use lf_work::{Finding, Job, Scratch, work_suited};
 use std::alloc::{AllocError, Global};
 use std::rt::Clock;
@@ -101,7 +101,7 @@ fn search<R: Threads + Wait + Clock + Sync>(
 
 /// What a search in one thread finds.
 fn found_alone(alloc: Global, scenario: Arc<Scenario>) -> Result<Found, AllocError> {
-    match lf_alone::solve(alloc, scenario)? {
+    match lf_book::solve(alloc, scenario)? {
         Ended::Finished(book) => {
             let runs = book.answered();
             let _made = book.into_tree().is_ok();

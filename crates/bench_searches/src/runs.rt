@@ -14,8 +14,7 @@ use lf_cone::{put_edges, sharp};
 use lf_faults::{Fault, FaultSet, FaultSpec};
 use lf_latency::{Links, Network};
 use lf_outcome::Point;
-use lf_player::rerun;
-use lf_sim::{Letter, Machine, Out, Run, Setting, Stepped, run};
+use lf_sim::{Letter, Machine, Out, Run, Setting, Stepped, rerun, run};
 use std::alloc::{AllocError, Global};
 
 /// Eight nodes, each of which tells all others a number, and adds the first note that it gets to it.

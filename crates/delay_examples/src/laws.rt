@@ -1,16 +1,16 @@
 //! Late notes that can't be spared, at the answer to a scenario: the call's premises are what the answer is, and none is left.
 
 ghost use Rattle.std.specs.Prelude.{IfOk, Some};
-ghost use Rattle.lf_arrivals.specs.Answers.{IsFirstUnder};
+ghost use Rattle.lf_delays.specs.Answers.{IsFirstUnder};
 ghost use Rattle.lf_sim.specs.Settings.{world_of};
-ghost use Rattle.lf_sparing.specs.Trials.{IsTightBy, MissesBy};
+ghost use Rattle.lf_delays.specs.Trials.{IsTightBy, MissesBy};
 
 use crate::texts::{agrees, scenario};
-use lf_exchanging::answer_every_delay;
+use lf_delays::tight_arrivals;
 use lf_faults::FaultSet;
 use lf_latency::Arrivals;
-use lf_scenario::Scenario;
-use lf_sparing::tight_arrivals;
+use lf_outcome::Scenario;
+use lf_symmetry::answer_every_delay;
 use std::alloc::{AllocError, Global};
 
 /// Arrivals by which the set of the answer misses, where no late note can be spared.

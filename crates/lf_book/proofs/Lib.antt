@@ -13,3 +13,9 @@ mod ReplyLemmas
 mod SameLemmas
 mod StateLemmas
 mod TaskLemmas
+mod BookLemmas
+mod CountedLemmas
+mod FullLemmas
+mod KeepLemmas
+pub mod AloneLaws
+mod TurnLemmas

@@ -2,10 +2,16 @@
 //! tree's answer is the answer.
 //!
 //! Nothing here says how a tree is found. What is said holds of every machine, every network and all bounds.
+//!
+//! What a search is: its states, the events that change them, and what it finds whoever makes it and in whatever order.
+//!
+//! Nothing here says how a search is made. What is said holds of every machine, every network and all bounds.
 #![tactic(auto)]
 
 mod promises;
 mod reason;
+mod search_promises;
 
 pub use promises::{accepted_answers, first_faults, one_tree, settings_are_bounded};
 pub use reason::Reason;
+pub use search_promises::{searches_find_the_answer, searches_stay_closed};

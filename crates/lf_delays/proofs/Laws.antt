@@ -1,7 +1,7 @@
 -- What crates above may cite of this one beside its contracts.
 use Rattle.std.proofs.Common.{◌≡◌, ℕ, ◌≤◌, false, List, refl, sym, ap, ◌∙◌, subst}
-use Rattle.lf_arrivals.specs.Answers.{IsOn}
-use Rattle.lf_arrivals.specs.Windows.{under}
+use Rattle.lf_delays.specs.Answers.{IsOn}
+use Rattle.lf_delays.specs.Windows.{under}
 use Rattle.lf_faults.specs.declared.fault.Parts.{Parts}
 use Rattle.lf_latency.specs.declared.arrivals.Arrivals.{Arrivals}
 use Rattle.lf_latency.specs.declared.links.Links.{Links}

@@ -19,6 +19,9 @@ use Rattle.lf_outcome.proofs.MeasuresLemmas as measures
 use Rattle.lf_outcome.proofs.PointsLemmas as pages
 use Rattle.lf_outcome.proofs.TruthLemmas.{truth-All, truth-Any, truth-Down, truth-Shows}
 use Rattle.lf_outcome.proofs.formula.Formula.TheLaws.TheKnot as formula
+use Rattle.lf_outcome.specs.declared.scenario.Scenario.{Scenario}
+use Rattle.lf_outcome.specs.Sameness.{AreSame}
+use Rattle.lf_sim.specs.Settings.{world_of}
 
 module _ {Fact : Type 0} where
   -- All and Any are one deeper than their deepest part
@@ -125,3 +128,13 @@ module _ {State Note Fact : Type 0} (w : World State Note Fact) (faults : List P
 
 -- formulas may cross threads where their facts may: a set for `search`
 pub ruleset formulas_cross = (formula.crosses)
+
+-- scenarios that are the same run in one world
+pub worlds_are_one : (s t : Scenario) → AreSame s t → world_of s.setting ≡ world_of t.setting
+worlds_are_one s t same = rw (same.protocol, same.network, same.bounds)
+
+-- and of each list of faults they say the same: whether it reaches the outcome
+pub answers_are_one : (s t : Scenario) → AreSame s t → (faults : List Parts)
+    → reaches (world_of s.setting) faults s.formula ≡ reaches (world_of t.setting) faults t.formula
+answers_are_one s t same faults =
+    ap (λ w. reaches w faults s.formula) (worlds_are_one s t same) ∙ ap (reaches (world_of t.setting) faults) same.formula

@@ -6,17 +6,17 @@ ghost use Rattle.lf_faults.specs.Allowed.{IsInLimits};
 ghost use Rattle.lf_faults.specs.declared.spec.Bounds.{Bounds};
 ghost use Rattle.lf_rules.specs.Forms.{is_well_formed};
 ghost use Rattle.lf_rules.specs.declared.definition.Given.{Given};
-ghost use Rattle.lf_ruled.specs.Instances.{Instance};
-ghost use Rattle.lf_ruled.specs.Machines.{is_machine};
+ghost use Rattle.lf_rule_machine.specs.Instances.{Instance};
+ghost use Rattle.lf_rule_machine.specs.Machines.{is_machine};
 ghost use Rattle.lf_protocols.specs.declared.fact.Fact.{Fact};
 ghost use Rattle.lf_protocols.specs.declared.protocol.Kind.TheVariants as kinds;
 ghost use Rattle.lf_outcome.specs.declared.formula.Formula.{Formula};
 ghost use Rattle.lf_promises.specs.declared.promise.Promise.{Promise};
 ghost use Rattle.lf_promises.specs.Facts.{names_facts};
-ghost use Rattle.lf_unfolding.specs.declared.scene.Scene.{Scene};
-ghost use Rattle.lf_unfolding.specs.Unfolding.{unfolded};
-ghost use Rattle.lf_written.specs.declared.declared.Declared.{Declared};
-ghost use Rattle.lf_scenario.specs.Formulas.{IsFormulaOf};
+ghost use Rattle.lf_own_scenario.specs.declared.scene.Scene.{Scene};
+ghost use Rattle.lf_own_scenario.specs.Unfolding.{unfolded};
+ghost use Rattle.lf_protocol_file.specs.declared.declared.Declared.{Declared};
+ghost use Rattle.lf_outcome.specs.Formulas.{IsFormulaOf};
 ghost use Rattle.lf_own_scenario.specs.Constants.{given_in};
 
 /// The formula of a promise that names facts of its protocol alone is a formula of the scenario, for every protocol of rules and all bounds.

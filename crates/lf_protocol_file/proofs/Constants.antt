@@ -16,13 +16,14 @@ use Rattle.lf_rules.specs.declared.definition.Value.{Value}
 use Rattle.lf_rules.specs.declared.definition.Value.TheVariants as values
 use Rattle.lf_texts.specs.Values.{nodes_in, value_in}
 use Rattle.lf_texts.proofs.Laws.{nodes-sorted}
-use Rattle.lf_document.specs.declared.fault.Fault.TheVariants as faults
-use Rattle.lf_document.specs.Readings.{◌>>=◌, as_value}
-use Rattle.lf_document.specs.Texts.{tokens_in, count_items}
-use Rattle.lf_draft.specs.declared.draft.Draft.{Draft}
-use Rattle.lf_draft.specs.Constants as constants
-use Rattle.lf_draft.specs.Constants.{value_sort, found_of_sort, is_of_sort, are_all, listed_sort, given_sort, number_in, nodes_value, values_behind, given_in}
-use Rattle.lf_draft.specs.Drafts.{place_in}
+use Rattle.lf_protocol_file.specs.declared.fault.Fault.TheVariants as faults
+use Rattle.lf_protocol_file.specs.Readings.{◌>>=◌, as_value}
+use Rattle.lf_protocol_file.specs.Texts.{tokens_in, count_items}
+use Rattle.lf_protocol_file.specs.declared.draft.Draft.{Draft}
+use Rattle.lf_protocol_file.specs.Constants as constants
+use Rattle.lf_protocol_file.specs.Constants.{value_sort, found_of_sort, is_of_sort, are_all, listed_sort, given_sort}
+use Rattle.lf_protocol_file.specs.Constants.{number_in, nodes_value, values_behind, given_in}
+use Rattle.lf_protocol_file.specs.Drafts.{place_in}
 use Rattle.lf_protocol_file.proofs.Growing.{all-push}
 use Rattle.lf_protocol_file.proofs.Readings.{step-inv, as_value-inv, through}
 use Rattle.lf_protocol_file.proofs.Sounding.{one-longer}

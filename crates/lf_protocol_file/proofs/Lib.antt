@@ -1,3 +1,5 @@
+pub mod DocumentLaws
+mod WordsLemmas
 pub mod Laws
 mod Growing
 mod Readings

@@ -7,3 +7,5 @@ mod FoldsLemmas
 mod Orders
 mod Exactness
 pub mod Laws
+pub mod SharingLaws
+mod Parts

@@ -1,10 +1,10 @@
 //! Answers to scenarios, found in several ways.
 
-use lf_alone::{Ended, solve};
+use lf_book::{Ended, solve};
 use lf_faults::FaultSet;
 use lf_merged::merged_answer;
+use lf_outcome::Scenario;
 use lf_plain::first_missing;
-use lf_scenario::Scenario;
 use std::alloc::Global;
 use std::sync::Arc;
 

@@ -3,10 +3,9 @@
 use crate::grammar::{Choices, made};
 use crate::protocols::CASES;
 use lf_faults::FaultSet;
-use lf_outcome::holds;
+use lf_outcome::{Scenario, holds};
 use lf_own_scenario::read_with;
 use lf_protocol_file::read_protocol;
-use lf_scenario::Scenario;
 use lf_sim::run;
 use std::alloc::{AllocError, Global};
 

@@ -1,8 +1,8 @@
 //! Pairs of texts that say the same scenario of a protocol file.
 
+use lf_outcome::Scenario;
 use lf_own_scenario::read_with;
 use lf_protocol_file::{ProtocolFile, read_protocol};
-use lf_scenario::Scenario;
 use std::alloc::{AllocError, Global};
 use std::process::Abort;
 

@@ -3,8 +3,8 @@
 use crate::states::state;
 use crate::texts::{agrees, columns, number, protocol};
 use crate::words::is_among;
-use lf_lasting::{lasting_facts, lasts};
 use lf_protocols::{Protocol, State};
+use lf_residual::{lasting_facts, lasts};
 use std::process::Abort;
 
 /// Whether the machine has a fact of this word, and the fact lasts in the state or not.

@@ -1,4 +1,5 @@
-//! Worked examples of texts: what is read of scenarios, and the words of refusals; and certificates, small trees written, counted and read, trees of all shapes, and
+//! Worked examples of texts: what is read of scenarios, and the words of refusals; and certificates, small trees written, counted and read, trees of all
+//! shapes, and
 //! texts as long as may be. Texts that are refused stand in `examples/cases/`.
 //!
 //! A table of examples is one text, a line for each, in which `|` parts the columns and, in scenarios, `;` stands for the end of a line. A

@@ -4,7 +4,8 @@ use crate::formulas::{is_formula, is_promised};
 use crate::rows::{number, words};
 use crate::texts::SCENARIO;
 use lf_latency::Network;
-use lf_scenario::{Scenario, ScenarioError, read};
+use lf_outcome::Scenario;
+use lf_scenario::{ScenarioError, read};
 use std::alloc::{AllocError, Global};
 
 /// Whether this is found in the text's scenario, which is the same as itself, or the text is refused like this: by the number of the

@@ -1,5 +1,5 @@
 use Rattle.std.proofs.Common.{subst}
-use Rattle.lf_arrivals.specs.Answers.{IsFirstUnder}
+use Rattle.lf_delays.specs.Answers.{IsFirstUnder}
 use Rattle.lf_sim.specs.Settings.{world_of}
 use Rattle.delay_examples.proofs.laws.has_tight.Goals as goal
 
