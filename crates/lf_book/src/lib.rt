@@ -1,8 +1,8 @@
 //! The search as a machine over events: whichever open set each take picks, and whenever and in whatever order its finding is filed, the
 //! book stays right, and a finished one has the answer and the one tree of its scenario.
 //!
-//! A search that one thread makes: its sets are taken, worked and filed one after another, level by level, until it has ended or a level
-//! is too full. It begins anew, or goes on from a book that others left.
+//! One thread makes a search by itself: it takes, works and files sets one after another, level by level, until the book has ended or a level is too full. It
+//! begins anew, or goes on from a book that others left.
 #![tactic(auto)]
 
 mod alone_facts;

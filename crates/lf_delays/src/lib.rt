@@ -3,15 +3,9 @@
 //! An assignment gives each slot a step in its window. The answer over every delay is the first allowed set of faults that misses under
 //! some assignment. Delays cost nothing, and no seed plays a part.
 //!
-//! Late arrivals as text: which notes arrive later than they could, and when.
-//!
 //! A run whose notes arrive as chosen is told by its late notes, and played again from them: `0>1 @9 13` is the note that node 0 sends to node 1
-//! at step 9, which arrives at step 13. Every other note arrives as early as it can.
-//!
-//! The late notes without which a set of faults doesn't miss.
-//!
-//! An answer over every delay comes with when each note arrives. Not all that is late has to be: notes are left out, and then arrive as early as
-//! they can, until none can be left out any more.
+//! at step 9, which arrives at step 13. Every other note arrives as early as it can. Not all that is late in an answer has to be: notes are left out, and then
+//! arrive as early as they can, until none can be left out any more.
 #![tactic(auto)]
 
 mod arrival_laws;

@@ -5,7 +5,7 @@ mod Growing
 mod Readings
 mod Sounding
 mod VariableKinds
-mod Constants
+mod ConstantLemmas
 mod Stages
 mod RuleStages
 mod SectionLemmas

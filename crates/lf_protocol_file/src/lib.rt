@@ -1,14 +1,10 @@
-//! What protocol files have: their sections, the places in them, and what is said of a file that is refused.
-//!
-//! Protocols as designers write them, once they are read: rules, with what names mean and what is promised.
-//!
-//! What a protocol file declares: constants, variables, notes, named expressions, named guards, outcomes, and what a trace shows.
-//!
-//! A draft is a protocol as far as it is read. Each reader takes one, and gives it with one thing more.
-//!
 //! The reader of protocol files, in which a designer writes a protocol as rules.
 //!
-//! A file is TOML. Its sections are read in the order of `file_in`, each from its first entry to its last, and the first fault is the refusal.
+//! A file is TOML. Its sections are read in the order of `file_in`, each from its first entry to its last, and the first fault is the refusal, with its place.
+//! What a file declares are constants, variables, notes, named expressions, named guards, outcomes, and what a trace shows.
+//!
+//! A draft is a protocol as far as it is read: each reader takes one, and gives it with one thing more. Once all is read it is rules, with what names mean and
+//! what is promised.
 #![tactic(auto)]
 
 mod chains;

@@ -1,11 +1,8 @@
-//! The trace of a run, and the words that name a set of faults.
+//! The trace of a run, what changes in it, how it differs from another, and the words that name a set of faults.
 //!
 //! A trace tells a run line by line: at each step the state of every node and what becomes of every note, and at the end
-//! whether the run reaches the outcome.
-//!
-//! What changes in a run from step to step, how a run differs from another, and where first: traces of that alone.
-//!
-//! The trace of a run of a protocol of rules, with the rules that nodes took.
+//! whether the run reaches the outcome. That of a protocol of rules also tells the rules that nodes took. What changes from step to step, how a run
+//! differs from another, and where first, are traces of that alone.
 #![tactic(auto)]
 
 mod beyond;
