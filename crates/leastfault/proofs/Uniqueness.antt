@@ -13,7 +13,7 @@ use Rattle.lf_sim.specs.Settings.{world_of}
 use Rattle.lf_outcome.specs.declared.formula.Formula.{Formula}
 use Rattle.lf_outcome.specs.Truth.{reaches}
 use Rattle.lf_book.specs.Ends.{IsFull, IsNeverFull}
-use Rattle.lf_book.proofs.AloneLaws.{full_is_one}
+use Rattle.lf_book.proofs.Laws.{full_is_one}
 use Rattle.lf_certificate.specs.Grown.{IsTreeOf}
 use Rattle.lf_certificate.proofs.Laws.{accepted_has_none, first_fault_one, tree_one}
 use Rattle.lf_protocol_file.specs.declared.declared.Declared.{Declared}

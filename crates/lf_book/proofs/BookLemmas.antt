@@ -6,7 +6,7 @@ use Rattle.lf_outcome.specs.Sameness.{AreSame}
 use Rattle.lf_certificate.specs.Events.{Claims, TakesSet}
 use Rattle.lf_certificate.specs.States.{State}
 use Rattle.lf_certificate.specs.Tasks.{Task}
-use Rattle.lf_certificate.proofs.SearchLaws.{take_tasks}
+use Rattle.lf_certificate.proofs.Laws.{take_tasks}
 use Rattle.lf_work.specs.Jobs.{IsOfJob}
 use Rattle.lf_work.specs.declared.finding.Finding.{Finding}
 use Rattle.lf_work.specs.declared.job.Job.{Job}

@@ -17,7 +17,7 @@ use Rattle.lf_certificate.specs.Closed.{IsClosed, IsFirstMissing, MissesAt}
 use Rattle.lf_certificate.specs.Events.{IsDone, FindsAnswer, FindsNone}
 use Rattle.lf_certificate.specs.Levels.{AreAscending, AreAllLeast}
 use Rattle.lf_certificate.specs.States.{State}
-use Rattle.lf_certificate.proofs.SearchLaws.{finds_tree, finds_least}
+use Rattle.lf_certificate.proofs.Laws.{finds_tree, finds_least}
 use Rattle.lf_book.proofs.AgainLemmas.{tree-again, all-least-again}
 use Rattle.lf_book.proofs.StateLemmas.{none-misses, some-misses}
 

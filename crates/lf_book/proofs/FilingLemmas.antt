@@ -19,8 +19,8 @@ use Rattle.lf_certificate.specs.Events.{FilesMark, GivesBack, Reclaims, Claims}
 use Rattle.lf_certificate.specs.Found.{IsFound}
 use Rattle.lf_certificate.specs.States.{State, KeepsTurn}
 use Rattle.lf_certificate.specs.Tasks.{Task}
-use Rattle.lf_certificate.proofs.SearchLaws.{file_closed, file_first, miss_first, miss_before, miss_after}
-use Rattle.lf_certificate.proofs.SearchLaws.{give_back_closed, give_back_first, reclaim_closed, reclaim_first}
+use Rattle.lf_certificate.proofs.Laws.{file_closed, file_first, miss_first, miss_before, miss_after}
+use Rattle.lf_certificate.proofs.Laws.{give_back_closed, give_back_first, reclaim_closed, reclaim_first}
 use Rattle.lf_book.specs.Books.{IsClosedFor, IsRefusedFor, IsClaimOf}
 use Rattle.lf_book.specs.declared.book.Book.{Book}
 use Rattle.lf_book.specs.declared.filing.Refusal.{Refusal}

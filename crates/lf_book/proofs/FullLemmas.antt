@@ -8,7 +8,7 @@ use Rattle.lf_certificate.specs.Accepted.{IsBounded}
 use Rattle.lf_certificate.specs.Closed.{IsClosed}
 use Rattle.lf_certificate.specs.Levels.{IsFullAt}
 use Rattle.lf_certificate.specs.States.{State}
-use Rattle.lf_certificate.proofs.SearchLaws.{finds_never_full}
+use Rattle.lf_certificate.proofs.Laws.{finds_never_full}
 
 pub is_never_full : {Local Note Fact : Type 0} (w : World Local Note Fact) (b : Bounds) (formula : Formula Fact) (most : ℕ) (s : State)
     → ∥ IsClosed w b formula most s ∥₁ → IsBounded w b → s.finished ≡ true → (k count : ℕ) → IsFullAt w b formula most k count → ⊥

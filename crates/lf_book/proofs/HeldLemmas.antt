@@ -23,7 +23,7 @@ use Rattle.lf_certificate.specs.Events.{TakesSet, Claims, FilesMark, GivesBack, 
 use Rattle.lf_certificate.specs.Found.{IsFound}
 use Rattle.lf_certificate.specs.States.{State, IsSameState}
 use Rattle.lf_certificate.specs.Tasks.{Task, task_at}
-use Rattle.lf_certificate.proofs.SearchLaws.{take_tasks, give_back_tasks, reclaim_tasks, file_tasks, down_tasks}
+use Rattle.lf_certificate.proofs.Laws.{take_tasks, give_back_tasks, reclaim_tasks, file_tasks, down_tasks}
 use Rattle.lf_book.specs.Books.{IsClosedFor, Deepens, task_of_job}
 use Rattle.lf_book.specs.Holding.{IsHeldOf}
 use Rattle.lf_book.specs.declared.deepening.Deepened.{Deepened}

@@ -17,5 +17,4 @@ mod BookLemmas
 mod CountedLemmas
 mod FullLemmas
 mod KeepLemmas
-pub mod AloneLaws
 mod TurnLemmas

@@ -21,7 +21,7 @@ use Rattle.lf_marks.specs.Steps as mark
 use Rattle.lf_certificate.specs.Closed.{IsClosed, MissesAt}
 use Rattle.lf_certificate.specs.States.{State}
 use Rattle.lf_certificate.specs.Tasks.{Task, task_at}
-use Rattle.lf_certificate.proofs.SearchLaws.{stands_once}
+use Rattle.lf_certificate.proofs.Laws.{stands_once}
 use Rattle.lf_book.specs.Finished.{AreDifferent}
 
 -- the set that a path leads to

@@ -23,7 +23,7 @@ use Rattle.lf_certificate.specs.Events.{TakesSet, IsDone, FindsFull}
 use Rattle.lf_certificate.specs.Levels.{IsFullAt}
 use Rattle.lf_certificate.specs.States.{State, IsSameState, last_ticket}
 use Rattle.lf_certificate.specs.Tasks.{Task, task_at}
-use Rattle.lf_certificate.proofs.SearchLaws.{take_closed, take_first, task_stands, stands_once, finds_answer, finds_full}
+use Rattle.lf_certificate.proofs.Laws.{take_closed, take_first, task_stands, stands_once, finds_answer, finds_full}
 use Rattle.lf_book.specs.Books.{state_of}
 use Rattle.lf_book.specs.declared.book.Book.{Book}
 use Rattle.lf_book.proofs.CountLemmas.{count-most}

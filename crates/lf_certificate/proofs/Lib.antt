@@ -21,7 +21,6 @@ mod FiledLemmas
 mod FindLemmas
 mod FirstLemmas
 mod KeptLemmas
-pub mod SearchLaws
 mod OnceLemmas
 mod PathLemmas
 mod TaskLemmas

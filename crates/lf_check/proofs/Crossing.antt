@@ -19,7 +19,7 @@ use Rattle.lf_protocols.specs.contracts.machine.ProtocolMachine.TheImpl as machi
 use Rattle.lf_protocols.specs.contracts.state.StatePartialEq.TheImpl as states
 use Rattle.lf_protocols.specs.contracts.note.NotePartialEq.TheImpl as notes
 use Rattle.lf_protocols.specs.contracts.fact.FactPartialEq.TheImpl as facts
-use Rattle.lf_protocols.proofs.SharingLaws.{protocols_cross}
+use Rattle.lf_protocols.proofs.Laws.{protocols_cross}
 use Rattle.lf_tree.proofs.Laws.{nodes_cross}
 use Rattle.lf_check.specs.contracts.failing.FirstFailing as failing
 use Rattle.lf_check.specs.contracts.places.Places as places

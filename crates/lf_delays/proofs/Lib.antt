@@ -1,6 +1,6 @@
 mod Agreeing
 mod Answering
-pub mod ArrivalLaws
+pub mod ArrivalLemmas
 mod Below
 pub mod Laws
 mod Late

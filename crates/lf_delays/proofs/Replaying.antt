@@ -5,7 +5,7 @@ use Rattle.std.specs.List.{Contains}
 use Rattle.std.proofs.lemmas.Bool.{cases_lt, false_from_ne_true}
 use Rattle.lf_delays.specs.Answers.{IsOn}
 use Rattle.lf_delays.specs.Windows.{AgreeUpTo, under}
-use Rattle.lf_delays.proofs.ArrivalLaws.{did_agree, reaches_agree}
+use Rattle.lf_delays.proofs.ArrivalLemmas.{did_agree, reaches_agree}
 use Rattle.lf_faults.specs.declared.fault.Parts.{Parts}
 use Rattle.lf_faults.specs.Faults.{set_omits}
 use Rattle.lf_latency.specs.declared.network.Timing.{Timing}

@@ -126,7 +126,11 @@ fn atoms_hint(
 ) -> Result<String, AllocError> {
     let (upto, atoms) = (if size.has_sets { "up to " } else { "" }, size.atoms);
     let mut hint = format!(in alloc;
-        "outcome = {text:?}: too large: its formula has {upto}{atoms} atoms, and may have {MOST_ATOMS}. An atom asks one node at one step; there are {nodes} nodes"
+        "outcome = {text:?}: too large: its formula has {upto}{atoms} atoms, and may have {MOST_ATOMS}. "
+    )?;
+    write!(
+        &mut hint,
+        "An atom asks one node at one step; there are {nodes} nodes"
     )?;
     if size.has_steps {
         write!(

@@ -31,9 +31,8 @@ use Rattle.lf_own_scenario.specs.Elements.{Member}
 use Rattle.lf_own_scenario.specs.Members.{is_in, members, others}
 use Rattle.lf_own_scenario.specs.Quantities.{ruled, shows, each, any_of, all_but_one, where_any, so_many}
 use Rattle.lf_own_scenario.specs.Unfolding.{formula_at, names_nodes, limited, unfolded}
-use Rattle.lf_own_scenario.proofs.Laws.{all-from, kept-at, range-at, all-flat}
+use Rattle.lf_own_scenario.proofs.Laws.{all-from, kept-at, range-at, all-flat, names-All, names-Any, names-Always, names-Ever, names-Down, names-At}
 use Rattle.lf_own_scenario.proofs.Laws.{formula-All, formula-Any, formula-Always, formula-Ever, formula-Nodes, formula-Down, formula-At}
-use Rattle.lf_own_scenario.proofs.Laws.{names-All, names-Any, names-Always, names-Ever, names-Down, names-At}
 use Rattle.lf_outcome.specs.Formulas.{is_point, is_fact_of, range_step, is_in_range, IsFormulaOf}
 use Rattle.lf_outcome.specs.Limits.{deepest, most_atoms}
 use Rattle.lf_own_scenario.proofs.FactMembers.{own-fact}

@@ -26,7 +26,7 @@ use Rattle.lf_pool.specs.contracts.locked.Locked as locked
 use Rattle.lf_pool.specs.contracts.share.Share as share
 use Rattle.lf_pool.specs.contracts.shared.SharedBook as shared
 use Rattle.lf_outcome.specs.contracts.scenario.Scenario as scenario
-use Rattle.lf_protocols.proofs.SharingLaws.{protocols_cross}
+use Rattle.lf_protocols.proofs.Laws.{protocols_cross}
 use Rattle.lf_tree.proofs.Laws.{nodes_cross}
 use Rattle.lf_work.specs.contracts.finding.Finding as finding
 use Rattle.lf_work.specs.contracts.job.Job as job

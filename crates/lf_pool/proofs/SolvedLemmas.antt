@@ -15,7 +15,7 @@ use Rattle.lf_marks.specs.Counting.{OfKind}
 use Rattle.lf_marks.specs.Steps as mark
 use Rattle.lf_certificate.specs.Levels.{IsFullAt}
 use Rattle.lf_certificate.specs.States.{State}
-use Rattle.lf_certificate.proofs.SearchLaws.{finds_never_full}
+use Rattle.lf_certificate.proofs.Laws.{finds_never_full}
 use Rattle.lf_book.specs.Books.{scenario_of, state_of, IsClosedFor}
 use Rattle.lf_book.specs.declared.book.Book.{Book}
 use Rattle.lf_pool.specs.Holds.{IsAnsweredCount}

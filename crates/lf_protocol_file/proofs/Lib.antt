@@ -1,4 +1,4 @@
-pub mod DocumentLaws
+pub mod Counts
 mod WordsLemmas
 pub mod Laws
 mod Growing

@@ -49,7 +49,7 @@ fn given_sort(value: &Value) -> Result<Sort, Fault>
 }
 
 /// What all values of a list are, of which there are 1 to 8.
-#[tactic(auto, using(crate::proofs::Laws::counted_items), unfolding(crate::specs::Constants::listed_sort))]
+#[tactic(auto, using(crate::proofs::Counts::counted_items), unfolding(crate::specs::Constants::listed_sort))]
 fn listed_sort(items: &[Value]) -> Result<Sort, Fault>
     ensures { result ≡ listed_sort (items_view items.now) }
 {

@@ -54,7 +54,7 @@ fn with_table(
 }
 
 /// Whether a section may have so many entries.
-#[tactic(auto, using(crate::proofs::Laws::counted_members))]
+#[tactic(auto, using(crate::proofs::Counts::counted_members))]
 fn is_fit_table(naming: Naming, entries: &Table) -> bool
     ensures { result ≡ is_fit_table naming (table_view entries.now) }
 {
@@ -62,7 +62,7 @@ fn is_fit_table(naming: Naming, entries: &Table) -> bool
 }
 
 /// Whether a section may have so many items.
-#[tactic(auto, using(crate::proofs::Laws::counted_items))]
+#[tactic(auto, using(crate::proofs::Counts::counted_items))]
 fn is_fit_list(listing: Listing, items: &[Value]) -> bool
     ensures { result ≡ is_fit_list listing (items_view items.now) }
 {

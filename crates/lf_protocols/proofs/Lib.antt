@@ -7,5 +7,4 @@ mod FoldsLemmas
 mod Orders
 mod Exactness
 pub mod Laws
-pub mod SharingLaws
 mod Parts

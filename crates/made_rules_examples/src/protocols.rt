@@ -76,7 +76,8 @@ pub(crate) const CASES: &str = concat!(
     "see~, set = 'seen = seen + y'~, set = 'seen = y + sender, ready = z'~, set = 'ready = z and late'~$hear$\n",
     "show_on~~, send = 'SHOW(seen, z) to all - y'~, send = 'SHOW(y, not z) to sender'\n",
     // What all rules may have.
-    "wake~  { on = 'wake', set = 'since = t' },;~  { on = 'wake'$when$$set$ },;~  { on = 'wake', when = 'not loud', set = 'round = 0, phase = idle, seen = {}' },;\n",
+    "wake~  { on = 'wake', set = 'since = t' },;~  { on = 'wake'$when$$set$ },;~  { on = 'wake', when = 'not loud'",
+    ", set = 'round = 0, phase = idle, seen = {}' },;\n",
     "start~  { on = 'start'$when$$set$ },;~  { who = '0', on = 'start', set = 'phase = done, round = limit' },;\n",
     "who~~~who = '0', ~who = '{1..}', ~who = 'peers', ~who = 'nodes - 1', \n",
     "when~~, when = '$truth$'~, when = '$truth$'\n",
@@ -88,7 +89,8 @@ pub(crate) const CASES: &str = concat!(
     "word~idle~busy~done\n",
     "to~all~all~0~1~seen~all - 0~peers~lowest(seen)\n",
     // Expressions.
-    "number~round~$small$~limit~me~more~count(seen)~t~t - since~round + 1~min(round, limit)~nodes - 1~round mod 2~t mod period~lowest(seen)~highest(peers)~max(round, 1)\n",
+    "number~round~$small$~limit~me~more~count(seen)~t~t - since~round + 1",
+    "~min(round, limit)~nodes - 1~round mod 2~t mod period~lowest(seen)~highest(peers)~max(round, 1)\n",
     "nodes~all~{}~{me}~seen + me~seen - me~{0}~{1..}~peers~seen - 0~all - seen~{0..round}\n",
     "truth~$compared$~$compared$~ready~not ready~$compared$ and $compared$~$compared$ or ready~not ($compared$)~late~loud~clamped~not replaced\n",
     "compared~phase = $word$~phase != $word$~phase = aim~$number$ = $number$~$number$ < $number$~$number$ >= $number$~me in seen",

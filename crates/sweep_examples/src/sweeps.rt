@@ -7,8 +7,10 @@ use std::process::Abort;
 use std::thread::Threads;
 
 /// Three nodes that commit, of which one may crash.
-const COMMIT: &str =
-    "nodes = 3\nhorizon = 5\nlast_omission = 0\ncrashes = 1\nbudget = 1\nprotocol = \"two_phase\"\npatience = 3\nvotes = [true, true]\noutcome = \"unblocked\"\n";
+const COMMIT: &str = concat!(
+    "nodes = 3\nhorizon = 5\nlast_omission = 0\ncrashes = 1\nbudget = 1\n",
+    "protocol = \"two_phase\"\npatience = 3\nvotes = [true, true]\noutcome = \"unblocked\"\n"
+);
 
 /// What is found is what is wanted. Each comparison ends here: an assertion is dear to prove.
 fn agrees(rt: &impl Abort, truth: bool, what: &str) {

@@ -1,4 +1,4 @@
-use Rattle.lf_certificate.proofs.SearchLaws.{finds_answer, finds_tree, finds_full, finds_never_full, finds_least}
+use Rattle.lf_certificate.proofs.Laws.{finds_answer, finds_tree, finds_full, finds_never_full, finds_least}
 use Rattle.lf_certificate.proofs.search_promises.searches_find_the_answer.Goals as goal
 
 pub returns-clause-answer : goal.returns-clause-answer

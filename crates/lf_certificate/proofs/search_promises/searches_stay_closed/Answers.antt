@@ -1,5 +1,5 @@
-use Rattle.lf_certificate.proofs.SearchLaws.{start_closed, take_closed, file_closed, give_back_closed, reclaim_closed, answer_closed, none_closed, down_closed}
-use Rattle.lf_certificate.proofs.SearchLaws.{stands_once}
+use Rattle.lf_certificate.proofs.Laws.{start_closed, take_closed, file_closed, give_back_closed, reclaim_closed, answer_closed, none_closed, down_closed}
+use Rattle.lf_certificate.proofs.Laws.{stands_once}
 use Rattle.lf_certificate.proofs.search_promises.searches_stay_closed.Goals as goal
 
 pub returns : goal.returns

@@ -1,4 +1,4 @@
-use Rattle.lf_outcome.proofs.FailingLaws.{stays_missed}
+use Rattle.lf_outcome.proofs.Laws.{stays_missed}
 use Rattle.lf_outcome.proofs.promises.what_fails_stays_missed.Goals as goal
 
 pub returns : goal.returns

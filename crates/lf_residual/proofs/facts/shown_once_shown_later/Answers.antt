@@ -1,4 +1,4 @@
-use Rattle.lf_residual.proofs.LastingLaws.{lasts-shows, lasts-next, lasting-shown}
+use Rattle.lf_residual.proofs.Laws.{lasts-shows, lasts-next, lasting-shown}
 use Rattle.lf_residual.proofs.facts.shown_once_shown_later.Goals as goal
 
 pub returns-clause-shows : goal.returns-clause-shows

@@ -6,7 +6,7 @@ use Rattle.lf_marks.specs.Marks.{mark_at, level_of}
 use Rattle.lf_sim.specs.Settings.{world_of}
 use Rattle.lf_certificate.specs.Events.{FindsAnswer, FindsNone, GoesDown}
 use Rattle.lf_certificate.specs.States.{State}
-use Rattle.lf_certificate.proofs.SearchLaws.{answer_closed, none_closed, down_closed, down_first}
+use Rattle.lf_certificate.proofs.Laws.{answer_closed, none_closed, down_closed, down_first}
 use Rattle.lf_book.specs.Books.{state_of}
 use Rattle.lf_book.proofs.CountLemmas.{some-ready, some-claimed}
 use Rattle.lf_book.proofs.StateLemmas.{all-done, few-waiting, full-again, none-misses, some-misses, level-within}

@@ -1,19 +1,14 @@
--- What crates above may cite of this one beside its contracts.
+-- What arrivals that agree have in common, and sets that reach by them.
 use Rattle.std.proofs.Common.{◌≡◌, ℕ, ◌≤◌, true, List, length}
-use Rattle.std.specs.Prelude.{Option}
 use Rattle.lf_faults.specs.declared.fault.Parts.{Parts}
-use Rattle.lf_faults.specs.declared.spec.Bounds.{Bounds}
 use Rattle.lf_latency.specs.declared.network.Timing.{Timing}
-use Rattle.lf_latency.specs.Arrivals.{IsSlot, IsArrivals}
-use Rattle.lf_layers.specs.Worlds.{IsFirstOver}
+use Rattle.lf_latency.specs.Arrivals.{IsSlot}
 use Rattle.lf_outcome.specs.declared.formula.Formula.{Formula}
 use Rattle.lf_outcome.specs.Truth.{reaches}
 use Rattle.lf_sim.specs.Runs.{World, is_up, did, inbox}
-use Rattle.lf_latency.specs.declared.arrivals.Arrivals.{Arrivals}
-use Rattle.lf_delays.specs.Answers.{IsOn, IsFirstUnder, misses_by}
+use Rattle.lf_delays.specs.Answers.{IsOn}
 use Rattle.lf_delays.specs.Windows.{under, AreLevel, AgreeUpTo}
 use Rattle.lf_delays.proofs.Agreeing as agreeing
-use Rattle.lf_delays.proofs.Answering as answering
 
 module _ {State Note Fact : Type 0} (w : World State Note Fact) (fs : List Parts) (other : ℕ → ℕ → ℕ → ℕ) where
   -- Assignments that agree on what has arrived up to some steps make the same run up to them
@@ -36,9 +31,3 @@ module _ {State Note Fact : Type 0} (w : World State Note Fact) (fs : List Parts
 pub slots_reach : {State Note Fact : Type 0} (timing : Timing) (w : World State Note Fact) → IsOn timing w → (a d : ℕ → ℕ → ℕ → ℕ)
     → ((n m t : ℕ) → IsSlot timing n m t → a n m t ≡ d n m t) → (fs : List Parts) (f : Formula Fact) → reaches (under w a) fs f ≡ reaches (under w d) fs f
 slots_reach = agreeing.slots_reach
-
--- The first set over all tables is the first over all assignments
-pub from_tables : {State Note Fact : Type 0} (timing : Timing) (b : Bounds) (w : World State Note Fact) (formula : Formula Fact) → IsOn timing w
-    → (answer : Option (List Parts × Arrivals)) → IsFirstOver b (IsArrivals timing) (misses_by w formula) answer
-    → IsFirstUnder timing b w formula answer
-from_tables = answering.from_tables
