@@ -6,7 +6,7 @@ ghost use Rattle.lf_protocols.specs.RuledTurns.{as_any, as_ruled, any_out, ruled
 ghost use Rattle.lf_protocols.specs.RuledTurns.{hear_by_rules, end_by_rules, step_by_rules};
 
 use crate::{Note, State};
-use lf_meaning as rules;
+use lf_rule_machine as rules;
 use lf_rule_machine::Ruled;
 use lf_sim::{Letter, Out, Stepped};
 
