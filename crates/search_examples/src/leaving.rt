@@ -147,10 +147,21 @@ impl Prepared {
         }
     }
 
-    /// Waits until that is so, for twenty seconds at most.
-    fn wait<R: Clock>(&self, rt: &R, is_so: impl Fn() -> bool) {
+    /// Waits until all others are held, for twenty seconds at most.
+    fn wait_for_others<R: Clock>(&self, rt: &R) {
         for _ in 0..20_000 {
-            if is_so() {
+            if self.held.load(SeqCst) >= self.others {
+                return;
+            }
+            thread::sleep(rt, Duration::from_millis(1));
+        }
+        self.missed.store(true, SeqCst);
+    }
+
+    /// Waits until those that are held go on, for twenty seconds at most.
+    fn wait_to_go_on<R: Clock>(&self, rt: &R) {
+        for _ in 0..20_000 {
+            if self.open.load(SeqCst) {
                 return;
             }
             thread::sleep(rt, Duration::from_millis(1));
@@ -169,10 +180,10 @@ impl Gate for Prepared {
         self.calls.fetch_add(1, SeqCst);
         match self.course(job.ticket()) {
             Course::Work => {}
-            Course::Begin => self.wait(rt, || self.held.load(SeqCst) >= self.others),
+            Course::Begin => self.wait_for_others(rt),
             Course::Stay => {
                 self.held.fetch_add(1, SeqCst);
-                self.wait(rt, || self.open.load(SeqCst));
+                self.wait_to_go_on(rt);
             }
             Course::Leave => {
                 self.open.store(true, SeqCst);
