@@ -4,30 +4,22 @@
 # set's run, truth, evidence, sharp reach and edges, and of its taking and filing. They repeat exactly, whatever else the
 # machine does: they are the difference between two searches and one, so that what comes before falls out. Beside them stand
 # the instructions of the same sets' runs alone.
-# Wants the Rattle kit, GNU time and valgrind.
+# Wants the built program `bench_searches`, GNU time and valgrind.
 set -euo pipefail
 here=$(cd "$(dirname "$0")" && pwd)
-cd "$here/../crates/bench_searches"
-rt run -- books 0 search <stdin >/dev/null
+. "$here/measuring.sh"
+wants "$searches"
 
-# the instructions of TIMES times in MODE (search or runs) of a scenario
-instructions() {
-    valgrind --tool=callgrind --callgrind-out-file=/dev/null out/bench_searches books "$1" "$2" <"$3" 2>&1 >/dev/null |
-        awk '/Collected/ { print $NF }'
-}
+# the instructions of so many TIMES in MODE (search or runs) of a scenario
+counted() { instructions "$searches" books "$1" "$2" <"$3"; }
 
-# the number after a word at the start of a line
-number() { sed -n "s/^$1 *= *//p" "$2" | head -n 1 | tr -dc '0-9'; }
-
-scratch=$(mktemp -d)
-trap 'rm -r "$scratch"' EXIT
 for scenario in "$here"/searched/*.toml; do
-    /usr/bin/time -f '%M' -o "$scratch/memory" out/bench_searches books 1 search <"$scenario" >"$scratch/found"
-    found=$(cat "$scratch/found")
-    answered=$(sed 's/.*, \([0-9]*\) sets answered/\1/' "$scratch/found")
+    found=$(output "$searches" books 1 search <"$scenario")
+    answered=${found##*, }
+    answered=${answered%% *}
     points=$(($(number nodes "$scenario") * $(number horizon "$scenario")))
-    searched=$(($(instructions 2 search "$scenario") - $(instructions 1 search "$scenario")))
-    run=$(($(instructions 1 runs "$scenario") - $(instructions 0 runs "$scenario")))
+    searched=$(($(counted 2 search "$scenario") - $(counted 1 search "$scenario")))
+    run=$(($(counted 1 runs "$scenario") - $(counted 0 runs "$scenario")))
     echo "$(basename "$scenario" .toml): $found, $points points each, $(cat "$scratch/memory") KiB at most"
     echo "    $((searched / answered / points)) instructions a point, of which the run takes $((run / answered / points))"
 done

@@ -1,42 +1,65 @@
 #!/usr/bin/env bash
-# Compares the judging of trees of more than ten thousand nodes with the running of their nodes' sets alone, once each and
-# in the memory of one run. It counts instructions, which repeat exactly, whatever else the machine does: they are the
-# difference between two counts of times, so that the growing of the tree falls out. With --times, and where valgrind isn't
-# there, it compares times, best of five. By the clock it also compares judging in one thread with judging in several.
-# Wants the Rattle kit, GNU time, and valgrind if it is there.
+# Compares the judging of certificates of more than ten thousand sets by `leastfault check` with the running of the same searches' sets alone,
+# once each and in the memory of one run. It counts instructions, which repeat exactly, whatever else the machine does. With --times, and where
+# valgrind isn't there, it compares times by the clock, best of twenty; then it also compares judging on one processor with judging on all.
+#
+# What reading takes falls out, by a certificate whose answer isn't allowed: it is read to its end, and nothing of it is judged, but for the words on
+# standard error it is read once more. Beside it stands one with no branch, of which there is nothing to read.
+# Wants the built programs, `taskset`, and valgrind if it is there.
 set -euo pipefail
 here=$(cd "$(dirname "$0")" && pwd)
-cd "$here/../crates/bench_searches"
-rt run -- checks 0 runs <stdin >/dev/null
+. "$here/measuring.sh"
+wants "$program" "$searches"
 
-# the instructions of TIMES times in MODE (runs, check or rows) of a scenario's tree
-instructions() {
-    valgrind --tool=callgrind --callgrind-out-file=/dev/null out/bench_searches checks "$1" "$2" <"$3" 2>&1 >/dev/null |
-        awk '/Collected/ { print $NF }'
+# the shortest of twenty runs of the words, in microseconds
+microseconds() {
+    local begun took best=''
+    for _ in {1..20}; do
+        begun=${EPOCHREALTIME/[.,]/}
+        "$@" <"$scenario" >/dev/null 2>&1 || true
+        took=$((${EPOCHREALTIME/[.,]/} - begun))
+        if [ -z "$best" ] || [ "$took" -lt "$best" ]; then best=$took; fi
+    done
+    echo "$best"
 }
 
-# the shortest of five runs of the same, in hundredths of a second
-hundredths() {
-    for _ in 1 2 3 4 5; do
-        /usr/bin/time -f '%e' out/bench_searches checks "$1" "$2" <"$3" 2>&1 >/dev/null | tr -d .
-    done | sort -n | head -n 1 | sed 's/^0*\(.\)/\1/'
+# searched TIMES: what a search takes, with so many runs of its sets
+searched() { "$measure" "$searches" books "$1" runs <"$scenario"; }
+
+# checked NAME: what a check of that certificate takes
+checked() { "$measure" "$program" check "$scenario" "$scratch/$1.json" --quiet; }
+
+# judged PROCESSORS: what judging takes, in as many threads as there are processors
+judged() {
+    local right refused bare
+    taskset -cp "$1" $$ >/dev/null
+    right=$(checked right) refused=$(checked refused) bare=$(checked bare)
+    echo $((right - bare - (refused - bare) / 2))
 }
+
+# told MODE TOOK
+told() { echo "    $1: $2 $unit"; }
 
 if [ "${1:-}" != --times ] && command -v valgrind >/dev/null; then
-    measure=instructions unit=instructions times=1 modes='runs check'
+    measure=instructions unit=instructions times=1
 else
-    measure=hundredths unit='hundredths of a second' times=20 modes='runs check rows'
+    measure=microseconds unit=microseconds times=20
 fi
-declare -A took
+all=$(taskset -cp $$ | sed 's/.*: //')
 for scenario in "$here"/checked/*.toml; do
-    nodes=$(out/bench_searches checks 0 runs <"$scenario" | cut -d ' ' -f 1)
-    echo "$(basename "$scenario" .toml): $nodes nodes"
-    for mode in $modes; do
-        took[$mode]=$((($($measure "$times" "$mode" "$scenario") - $($measure 0 "$mode" "$scenario")) / times))
-        echo "    $mode: ${took[$mode]} $unit"
-    done
-    awk "BEGIN { printf \"    judging takes %.2f times as much as running\n\", ${took[check]} / ${took[runs]} }"
-    if [ -n "${took[rows]:-}" ]; then
-        awk "BEGIN { printf \"    in several threads it takes %.2f of that\\n\", ${took[rows]} / ${took[check]} }"
+    "$program" search "$scenario" --quiet --tree "$scratch/right.json" >/dev/null
+    sed -E 's/^\{"answer":(null|\[[^]]*\])/{"answer":["omit 0>1 @48"]/' "$scratch/right.json" >"$scratch/refused.json"
+    echo -n '{"answer":["omit 0>1 @48"],"format":1,"root":{"misses":false}}' >"$scratch/bare.json"
+    sets=$("$searches" books 1 search <"$scenario" | sed 's/.*, \([0-9]*\) sets answered/\1/')
+    echo "$(basename "$scenario" .toml): $sets sets"
+    run=$((($(searched "$times") - $(searched 0)) / times))
+    told runs "$run"
+    check=$(judged "${all%%[,-]*}")
+    told check "$check"
+    awk "BEGIN { printf \"    judging takes %.2f times as much as running\n\", $check / $run }"
+    if [ "$measure" = microseconds ]; then
+        rows=$(judged "$all")
+        told 'check on all processors' "$rows"
+        awk "BEGIN { printf \"    in several threads it takes %.2f of that\n\", $rows / $check }"
     fi
 done

@@ -11,7 +11,7 @@
 FILE of --rows has the answers to the scenarios of SEED, a line each. Of these are taken, for each protocol, the first ones that some set of faults
 defeats, the empty set left out, and a few of the others:
 
-    made_scenarios.py 18 1200 | bench_searches answers plain >answers
+    made_scenarios.py 18 1200 | while IFS= read -r -d '~' text; do leastfault answer - <<<"$text" | paste -sd,; done >answers
     made_scenarios.py 18 50 --rows answers crates/search_examples/src/made
 """
 import json

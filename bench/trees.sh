@@ -1,23 +1,36 @@
 #!/usr/bin/env bash
-# Times the writing and the reading of the text of a tree of about 16 MiB (38,000 branches of eight leaves), by the clock,
-# best of five, with serde_json's own untyped reading of it beside them, and says how much memory each takes at the most.
-# Wants the Rattle kit and GNU time.
+# Counts the instructions that the writing and the reading of a certificate of some 16 MiB take for each of its bytes, and says how much memory a search
+# that writes it and a check that reads it take at the most. Instructions repeat exactly, whatever else the machine does.
+#
+# Writing is the difference between a search that writes the certificate and one that doesn't. Reading is half of the difference between two checks of
+# certificates whose answer isn't allowed, this one and one with no branch: nothing of them is judged, and they are read twice, once for the words on standard
+# error.
+# Wants the built program, GNU time and valgrind.
 set -euo pipefail
-cd "$(dirname "$0")/../crates/bench_searches"
-rt run -- trees 1 read 3 >/dev/null
-kids=${1:-38000}
-more=5
+here=$(cd "$(dirname "$0")" && pwd)
+. "$here/measuring.sh"
+wants "$program"
+scenario="$here/hostile/sends_of_eight.toml"
 
-# the shortest of five times of TIMES calls in MODE, in seconds, and the most memory, in KiB
-best() {
-    for _ in 1 2 3 4 5; do
-        /usr/bin/time -f '%e %M' out/bench_searches trees "$1" "$2" "$kids" 2>&1 >/dev/null
-    done | sort -n | head -1
+output "$program" search "$scenario" --quiet --tree "$scratch/right.json" >/dev/null
+written=$(cat "$scratch/memory")
+output "$program" check "$scenario" "$scratch/right.json" --quiet >/dev/null
+read=$(cat "$scratch/memory")
+sed -E 's/^\{"answer":(null|\[[^]]*\])/{"answer":["omit 0>1 @48"]/' "$scratch/right.json" >"$scratch/refused.json"
+echo -n '{"answer":["omit 0>1 @48"],"format":1,"root":{"misses":false}}' >"$scratch/bare.json"
+bytes=$(stat -c %s "$scratch/right.json")
+
+# searched WORD..: the instructions of a search with these words more
+searched() { instructions "$program" search "$scenario" --quiet "$@"; }
+
+# checked FILE: the instructions of a check of a certificate
+checked() { instructions "$program" check "$scenario" "$scratch/$1" --quiet; }
+
+# told MODE INSTRUCTIONS MEMORY
+told() {
+    awk -v mode="$1" -v instructions="$2" -v bytes="$bytes" -v memory="$3" \
+        'BEGIN { printf "%s: %.1f instructions a byte, at most %.0f MiB in all\n", mode, instructions / bytes, memory / 1024 }'
 }
 
-for mode in write read json; do
-    read -r none _ < <(best 0 "$mode")
-    read -r some memory < <(best "$more" "$mode")
-    awk -v mode="$mode" -v none="$none" -v some="$some" -v more="$more" -v memory="$memory" \
-        'BEGIN { printf "%s: %.3f s each, at most %.0f MiB in all\n", mode, (some - none) / more, memory / 1024 }'
-done
+told write $(($(searched --tree "$scratch/right.json") - $(searched))) "$written"
+told read $((($(checked refused.json) - $(checked bare.json)) / 2)) "$read"

@@ -1,11 +1,11 @@
 #!/usr/bin/env bash
 # Tests the built program: the tables of cases/, every command and option, the examples beside this script, and the commands that the pages show.
 #
-#     check.sh [--built]
+#     check.sh [--built | --tables PROGRAM TABLE..]
 #
 # With --built the program is the one that `rt ci` leaves in crates/leastfault_cli/out/. Without it `rt run` proves and builds
-# the program first, which takes the Rattle kit and some twenty minutes. The tests themselves need bash and coreutils alone; where
-# `rsvg-convert` is installed they render pictures, too.
+# the program first, which takes the Rattle kit and some twenty minutes. With --tables it is PROGRAM, and nothing but these tables of cases/ is run, such
+# as words/help.txt. The tests themselves need bash and coreutils alone; where `rsvg-convert` is installed they render pictures, too.
 #
 # A test runs one command and compares the status, standard output to the last byte, and standard error. What standard error says
 # in words may change, so most tests outside the tables ask only whether it says anything. Prints each test that fails, with the lines that differ,
@@ -942,8 +942,9 @@ trap 'rm -rf "$room"' EXIT
 case $* in
 '') build ;;
 --built) ;;
+'--tables '*) program=${2-} ;;
 *)
-    echo 'usage: check.sh [--built]' >&2
+    echo 'usage: check.sh [--built | --tables PROGRAM TABLE..]' >&2
     exit 2
     ;;
 esac
@@ -956,6 +957,12 @@ mkdir "$room/bin" "$room/desk"
 install -m 755 "$program" "$room/bin/leastfault"
 cp -R "$here" "$room/desk/examples"
 export PATH="$room/bin:$PATH"
+if [ "${1-}" = --tables ]; then
+    for table in "${@:3}"; do test_table "$table"; done
+    echo "$passed passed, $failed failed"
+    [ "$failed" = 0 ]
+    exit
+fi
 echo 'The built program: the tables of examples/cases/, its commands and options, the examples, and what the pages show'
 test_tables
 test_examples

@@ -109,7 +109,7 @@ knows() {
     [ "$known" != 2 ]
 }
 
-# Each answer to a scenario: by a search, by merged states, and by a run of each allowed set; the checking of the search's certificate,
+# Each answer to a scenario: by a search, by merged states, and by a run of one allowed set after another; the checking of the search's certificate,
 # and runs of no fault and of the faults that are found.
 sweep_scenario() {
     local name=$1 more
@@ -122,7 +122,7 @@ sweep_scenario() {
     done
     sweep "answer $name" "$leastfault" answer "$name.toml"
     input=$name.toml
-    sweep "plain answer to $name" "$searches" answers plain
+    sweep "plain search of $name" "$searches" books 1000 plain
     input=/dev/null
     "$leastfault" search "$name.toml" --tree "$name.json" >found || true
     sweep "check $name" "$leastfault" check "$name.toml" "$name.json"
@@ -174,7 +174,6 @@ sweep 'help' "$leastfault" --help
 input=one_try.toml
 sweep 'search of standard input' "$leastfault" search -
 sweep 'no words' "$leastfault"
-sweep 'a plain search' "$searches" books 1000 plain
 
 # A book that is driven through events: a set is given back and taken again.
 for events in 0 1 2 3 4 5 6 7 8 9 10; do

@@ -9,11 +9,10 @@
 //! Where memory runs out standard output has nothing, and with `drive` standard error has where the book stands.
 
 use crate::running::{plain, runs};
-use crate::words::{Asked, Word};
-use lf_alone::finish;
-use lf_book::{Book, Counts, Deepened, Event, Reply, Scratch, Taken, work_up};
+use crate::words::{Asked, Way};
+use lf_book::{Book, Counts, Deepened, Event, Reply, Scratch, Taken, finish, work_up};
 use lf_faults::FaultSet;
-use lf_scenario::Scenario;
+use lf_outcome::Scenario;
 use std::alloc::{AllocError, Global};
 use std::sync::Arc;
 
@@ -38,9 +37,9 @@ pub(crate) fn measure(
     scenario: &Arc<Scenario>,
 ) -> Result<u8, AllocError> {
     match asked.way {
-        Word::Runs => print_runs(rt, scenario, asked.count),
-        Word::Plain => print_plain(rt, scenario, asked.count),
-        Word::Drive => drive(rt, scenario, asked.count),
+        Way::Runs => print_runs(rt, scenario, asked.count),
+        Way::Plain => print_plain(rt, scenario, asked.count),
+        Way::Drive => drive(rt, scenario, asked.count),
         _ => print_searches(rt, scenario, asked.count),
     }
 }

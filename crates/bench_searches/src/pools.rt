@@ -1,14 +1,11 @@
-//! `pools WORKERS [shares]` searches the scenario of standard input, to be measured by the clock.
+//! `pools WORKERS [shares]` searches the scenario of standard input by so many workers of a pool, also by one.
 //!
-//! With 0 workers it searches in one thread and without a lock, else by so many workers of a pool. It prints how many sets were run,
-//! `full`, or `refused` of the number of workers, and on standard error how many milliseconds the search took. With `shares` standard
-//! error also has how many milliseconds the workers had between them, and in how many of these they worked sets: in the others they
-//! held the lock, waited, or weren't there.
+//! It prints how many sets were run, `full`, or `refused` of the number of workers. With `shares` standard error has how many milliseconds
+//! the workers had between them, and in how many of these they worked sets: in the others they held the lock, waited, or weren't there.
 
-use crate::words::{Asked, Word};
-use lf_alone::Ended;
-use lf_pool::{Gate, NoGate, PoolError, Solved};
-use lf_scenario::Scenario;
+use crate::words::{Asked, Way};
+use lf_outcome::Scenario;
+use lf_pool::{Gate, NoGate, PoolError, Solved, solve};
 use lf_work::{Finding, Job, Scratch, work_suited};
 use std::alloc::{AllocError, Global};
 use std::rt::Clock;
@@ -59,59 +56,39 @@ fn nanoseconds_since<R: Clock>(rt: &R, start: Option<Instant>) -> u64 {
     }
 }
 
-/// Searches and prints what is found, and how long it took. The answer is the status.
+/// Searches, and prints what is found. The answer is the status.
 pub(crate) fn measure(
     rt: &HostRuntime,
     threads: &(impl Threads + Wait + Clock + Sync),
     asked: Asked,
     scenario: Arc<Scenario>,
 ) -> Result<u8, AllocError> {
+    let found = match asked.way {
+        Way::Shares => timed(rt, threads, asked.count, scenario)?,
+        _ => found_by(threads, rt.alloc(), scenario, asked.count, &NoGate)?,
+    };
+    Ok(print(rt, found))
+}
+
+/// What a search by so many workers finds. In how much of their time they worked goes to standard error.
+fn timed(
+    rt: &HostRuntime,
+    threads: &(impl Threads + Wait + Clock + Sync),
+    workers: u32,
+    scenario: Arc<Scenario>,
+) -> Result<Found, AllocError> {
     let gate = Timed {
         worked: AtomicU64::new(0),
     };
     let start = Instant::now(rt).ok();
-    let found = search(threads, rt.alloc(), asked, scenario, &gate)?;
-    let took = nanoseconds_since(rt, start) / 1_000_000;
-    let status = print(rt, found);
-    let _printed = eprintln!(rt; "{took} ms").is_ok();
-    if matches!(asked.way, Word::Shares) {
-        let had = took.saturating_mul(u64::from(asked.count));
-        let worked = gate.worked.load(SeqCst) / 1_000_000;
-        let _printed = eprintln!(rt; "{had} ms of workers, {worked} ms of work").is_ok();
-    }
-    Ok(status)
+    let found = found_by(threads, rt.alloc(), scenario, workers, &gate)?;
+    let had = (nanoseconds_since(rt, start) / 1_000_000).saturating_mul(u64::from(workers));
+    let worked = gate.worked.load(SeqCst) / 1_000_000;
+    let _printed = eprintln!(rt; "{had} ms of workers, {worked} ms of work").is_ok();
+    Ok(found)
 }
 
-/// What a search finds, by as many workers as the words ask for.
-fn search<R: Threads + Wait + Clock + Sync>(
-    rt: &R,
-    alloc: Global,
-    asked: Asked,
-    scenario: Arc<Scenario>,
-    gate: &Timed,
-) -> Result<Found, AllocError> {
-    if asked.count == 0 {
-        found_alone(alloc, scenario)
-    } else if matches!(asked.way, Word::Shares) {
-        found_by(rt, alloc, scenario, asked.count, gate)
-    } else {
-        found_by(rt, alloc, scenario, asked.count, &NoGate)
-    }
-}
-
-/// What a search in one thread finds.
-fn found_alone(alloc: Global, scenario: Arc<Scenario>) -> Result<Found, AllocError> {
-    match lf_alone::solve(alloc, scenario)? {
-        Ended::Finished(book) => {
-            let runs = book.answered();
-            let _made = book.into_tree().is_ok();
-            Ok(Found::Runs(runs))
-        }
-        Ended::Full { .. } => Ok(Found::Full),
-    }
-}
-
-/// What a search by several workers finds.
+/// What a search by so many workers finds.
 fn found_by<R: Threads + Wait + Clock + Sync, G: Gate>(
     rt: &R,
     alloc: Global,
@@ -119,7 +96,7 @@ fn found_by<R: Threads + Wait + Clock + Sync, G: Gate>(
     workers: u32,
     gate: &G,
 ) -> Result<Found, AllocError> {
-    match lf_pool::solve(rt, alloc, scenario, workers, gate) {
+    match solve(rt, alloc, scenario, workers, gate) {
         Ok(Solved::Answer { runs, .. }) => Ok(Found::Runs(runs)),
         Ok(Solved::Full(_)) => Ok(Found::Full),
         Err(PoolError::Memory) => Err(AllocError),

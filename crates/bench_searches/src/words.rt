@@ -5,42 +5,34 @@ use std::env;
 use std::env::Args;
 use std::io::ErrorKind;
 
-/// A word that names a module, or what is done there.
+/// Which module is asked for.
 #[derive(Clone, Copy)]
-pub(crate) enum Word {
-    Answers,
+pub(crate) enum Module {
     Books,
-    Checks,
     Pools,
-    Trees,
-    Plain,
-    Run,
-    Rerun,
-    Edges,
-    Runs,
-    Drive,
-    Check,
-    Rows,
-    Shares,
-    Read,
-    Json,
-    /// Any other word, or none: it names what a module does where no other word tells it otherwise.
+    /// None of them.
     Other,
+}
+
+/// What is done with a book, or told of a pool.
+#[derive(Clone, Copy)]
+pub(crate) enum Way {
+    Search,
+    Runs,
+    Plain,
+    Drive,
+    Shares,
 }
 
 /// What the words are.
 #[derive(Clone, Copy)]
 pub(crate) struct Asked {
-    /// The word for a module.
-    pub(crate) module: Word,
-    /// How many times or how many workers, or 0. Of `answers` it is 0.
+    /// The module.
+    pub(crate) module: Module,
+    /// How many times, how many sets or events, or how many workers; 0 where the word is no number.
     pub(crate) count: u32,
-    /// What is done there.
-    pub(crate) way: Word,
-    /// The number after that, or 0: how many kids a node has, or how many faults a set.
-    pub(crate) size: u32,
-    /// The number after that, or 0: how many faults are excluded.
-    pub(crate) excluded: u32,
+    /// What is done or told: a search where no word says otherwise.
+    pub(crate) way: Way,
 }
 
 /// What the command line asks for: no module where it can't be read.
@@ -49,55 +41,46 @@ pub(crate) fn parsed(rt: &HostRuntime) -> Result<Asked, AllocError> {
         Ok(words) => Ok(parsed_words(words)),
         Err(error) if error.kind() == ErrorKind::OutOfMemory => Err(AllocError),
         Err(_) => Ok(Asked {
-            module: Word::Other,
+            module: Module::Other,
             count: 0,
-            way: Word::Other,
-            size: 0,
-            excluded: 0,
+            way: Way::Search,
         }),
     }
 }
 
 /// What these words ask for, of which the first is the program's name.
 fn parsed_words(mut words: Args) -> Asked {
-    let _program = named(words.next());
-    let module = named(words.next());
-    let count = match module {
-        Word::Answers => 0,
-        _ => number(words.next()),
-    };
+    let _program = words.next();
     Asked {
-        module,
-        count,
-        way: named(words.next()),
-        size: number(words.next()),
-        excluded: number(words.next()),
+        module: module_of(words.next()),
+        count: number(words.next()),
+        way: way_of(words.next()),
     }
 }
 
-/// Which word it is.
-fn named(word: Option<String>) -> Word {
+/// The module that a word names.
+fn module_of(word: Option<String>) -> Module {
     let Some(word) = word else {
-        return Word::Other;
+        return Module::Other;
     };
     match word.as_str() {
-        "answers" => Word::Answers,
-        "books" => Word::Books,
-        "checks" => Word::Checks,
-        "pools" => Word::Pools,
-        "trees" => Word::Trees,
-        "plain" => Word::Plain,
-        "run" => Word::Run,
-        "rerun" => Word::Rerun,
-        "edges" => Word::Edges,
-        "runs" => Word::Runs,
-        "drive" => Word::Drive,
-        "check" => Word::Check,
-        "rows" => Word::Rows,
-        "shares" => Word::Shares,
-        "read" => Word::Read,
-        "json" => Word::Json,
-        _ => Word::Other,
+        "books" => Module::Books,
+        "pools" => Module::Pools,
+        _ => Module::Other,
+    }
+}
+
+/// What a word says is done or told.
+fn way_of(word: Option<String>) -> Way {
+    let Some(word) = word else {
+        return Way::Search;
+    };
+    match word.as_str() {
+        "runs" => Way::Runs,
+        "plain" => Way::Plain,
+        "drive" => Way::Drive,
+        "shares" => Way::Shares,
+        _ => Way::Search,
     }
 }
 

@@ -2,7 +2,7 @@
 
 use crate::texts::{agrees, begun, columns, counts_text, driven, events, is_text, scenario};
 use lf_book::{Counts, Event, Reply};
-use lf_scenario::Scenario;
+use lf_outcome::Scenario;
 use lf_tree::{Tree, to_text};
 use std::alloc::Global;
 use std::sync::Arc;

@@ -4,7 +4,7 @@ use crate::model::Model;
 use crate::searches::{End, is_accepted, plain_least, refusal_number, search};
 use crate::texts::{agrees, begun, columns, scenario};
 use lf_book::{Book, Deepened, Event, Job, Reply, Taken};
-use lf_scenario::Scenario;
+use lf_outcome::Scenario;
 use lf_tree::{read_tree, to_text};
 use std::alloc::Global;
 use std::process::Abort;

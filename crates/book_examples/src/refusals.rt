@@ -5,7 +5,7 @@ ghost use Rattle.std.specs.Prelude.{◌≡◌, ◌<◌};
 use crate::searches::refusal_number;
 use crate::texts::{agrees, columns, counts_text, driven, events, is_text, scenario};
 use lf_book::{Book, Job, Refusal, Steps, Taken, Unfinished};
-use lf_scenario::Scenario;
+use lf_outcome::Scenario;
 use std::alloc::Global;
 use std::error::Error;
 use std::marker::Brand;

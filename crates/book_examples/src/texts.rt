@@ -2,7 +2,8 @@
 
 use lf_book::{Book, Counts, Event};
 use lf_faults::{FaultSet, fault_text};
-use lf_scenario::{Scenario, read};
+use lf_outcome::Scenario;
+use lf_scenario::read;
 use std::alloc::{AllocError, Global};
 use std::process::Abort;
 use std::sync::Arc;

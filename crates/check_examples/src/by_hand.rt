@@ -3,7 +3,7 @@
 use crate::growing::grown;
 use crate::texts::{agrees, columns, scenario};
 use lf_check::{Verdict, check, check_rows};
-use lf_scenario::Scenario;
+use lf_outcome::Scenario;
 use lf_tree::{read_tree, to_text};
 use std::alloc::{AllocError, Global};
 use std::process::Abort;

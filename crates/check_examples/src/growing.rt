@@ -4,8 +4,7 @@
 
 use lf_cone::{edges, sharp};
 use lf_faults::{Fault, FaultSet};
-use lf_outcome::{evidence, holds};
-use lf_scenario::Scenario;
+use lf_outcome::{Scenario, evidence, holds};
 use lf_sim::run;
 use lf_tree::{Edges, Kids, Node, Tree};
 use std::alloc::{AllocError, Global};

@@ -4,7 +4,7 @@ use crate::by_hand::block_is_judged;
 use crate::growing::grown;
 use crate::texts::{agrees, scenario};
 use lf_check::{Verdict, check, check_rows};
-use lf_scenario::Scenario;
+use lf_outcome::Scenario;
 use lf_tree::{read_tree, to_text};
 use std::alloc::{AllocError, Global};
 use std::thread::Threads;

@@ -2,8 +2,7 @@
 
 use crate::required::{is_closed, wrong_edges};
 use lf_faults::{Fault, FaultSet, admits};
-use lf_outcome::{Reach, holds, holds_within};
-use lf_scenario::Scenario;
+use lf_outcome::{Reach, Scenario, holds, holds_within};
 use lf_sim::run;
 use lf_tree::{Node, Tree};
 use std::alloc::Global;

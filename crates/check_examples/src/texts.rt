@@ -1,6 +1,7 @@
 //! The texts of examples, and how they are compared.
 
-use lf_scenario::{Scenario, read};
+use lf_outcome::Scenario;
+use lf_scenario::read;
 use std::alloc::Global;
 use std::process::Abort;
 

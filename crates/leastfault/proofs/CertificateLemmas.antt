@@ -1,8 +1,8 @@
 -- A text has one reply of a search with a certificate.
 use Rattle.std.proofs.Common.{◌≡◌, ℕ, ◌<◌, ◌≤◌, List, length, sym, ap, ◌∙◌, subst, inl, inr, arith}
 use Rattle.std.specs.Prelude.{Option, Some}
-use Rattle.lf_written.specs.declared.declared.Declared.{Declared}
-use Rattle.lf_scenario.specs.declared.scenario.Scenario.{Scenario}
+use Rattle.lf_protocol_file.specs.declared.declared.Declared.{Declared}
+use Rattle.lf_outcome.specs.declared.scenario.Scenario.{Scenario}
 use Rattle.lf_tree.specs.declared.tree.Tree.{Tree}
 use Rattle.lf_tree.specs.Texts.{most_bytes, tree_text}
 use Rattle.leastfault.specs.Commands.{HasOneEnd, IsCertificate, IsCertified}

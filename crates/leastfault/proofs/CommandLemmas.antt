@@ -1,9 +1,9 @@
 -- What commands come to, from what their engines made.
 use Rattle.std.proofs.Common.{String, Global, ◌≡◌, ◌≢◌, ℕ, ◌+◌, Bool, List, refl, sym, ◌∙◌, subst, inl, inr, arith, string_bytes}
 use Rattle.std.specs.Prelude.{◌||◌, Option, None, Some, Result, Ok, Err, MatchOption}
-use Rattle.lf_written.specs.declared.declared.Declared.{Declared}
+use Rattle.lf_protocol_file.specs.declared.declared.Declared.{Declared}
 use Rattle.lf_scenario.specs.Limits.{longest}
-use Rattle.lf_scenario.specs.declared.scenario.Scenario.{Scenario}
+use Rattle.lf_outcome.specs.declared.scenario.Scenario.{Scenario}
 use Rattle.lf_tree.specs.declared.tree.Tree.{Tree}
 use Rattle.lf_tree.specs.Texts.{most_bytes}
 use Rattle.lf_words.specs.declared.types.Asked.{Asked}

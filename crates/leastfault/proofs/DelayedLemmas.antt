@@ -1,15 +1,15 @@
 -- Replies where notes arrive as words say, and over every delay.
 use Rattle.std.proofs.Common.{◌≡◌, ℕ, List, ◌++◌, inl, inr, refl, sym, ap, ◌∙◌, subst, true, false, string_bytes}
 use Rattle.std.specs.Prelude.{Bool, Option, None, Some, Result, Ok, Err}
-use Rattle.lf_arrivals.specs.Answers.{IsFirstUnder}
+use Rattle.lf_delays.specs.Answers.{IsFirstUnder}
 use Rattle.lf_faults.specs.declared.fault.Parts.{Parts}
 use Rattle.lf_latency.specs.declared.arrivals.Arrivals.{Arrivals}
 use Rattle.lf_latency.specs.Arrivals.{IsArrivals}
 use Rattle.lf_scenario.specs.Limits.{longest}
-use Rattle.lf_scenario.specs.declared.scenario.Scenario.{Scenario}
+use Rattle.lf_outcome.specs.declared.scenario.Scenario.{Scenario}
 use Rattle.lf_sim.specs.Settings.{world_of}
-use Rattle.lf_sparing.specs.Trials.{IsLike, IsTightBy, MissesBy}
-use Rattle.lf_written.specs.declared.declared.Declared.{Declared}
+use Rattle.lf_delays.specs.Trials.{IsLike, IsTightBy, MissesBy}
+use Rattle.lf_protocol_file.specs.declared.declared.Declared.{Declared}
 use Rattle.leastfault.specs.declared.reply.Reply.{Reply}
 use Rattle.leastfault.specs.Delayed.{HasDelays, IsAnswerAsked, IsDelayedReply, IsEveryDelayReply, IsGivenOf, IsGivenTo, RepliesEveryDelay, late_report}
 use Rattle.leastfault.specs.Known.{IsTextOf}

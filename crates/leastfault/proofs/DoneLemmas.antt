@@ -5,7 +5,7 @@ use Rattle.lf_scenario.specs.Limits.{longest}
 use Rattle.lf_tree.specs.Texts.{most_bytes}
 use Rattle.lf_words.specs.declared.types.Asked.{Asked}
 use Rattle.lf_words.specs.declared.types.Asked.TheVariants as asked
-use Rattle.lf_written.specs.declared.declared.Declared.{Declared}
+use Rattle.lf_protocol_file.specs.declared.declared.Declared.{Declared}
 use Rattle.leastfault.specs.declared.reply.Certified.{Certified}
 use Rattle.leastfault.specs.Commands.{IsCause, IsCauseFor, IsDone, IsDoneFor, wanted_of}
 use Rattle.leastfault.proofs.DelayedLemmas.{asked_by_front}

@@ -3,11 +3,11 @@ use Rattle.std.proofs.Common.{◌≡◌, ◌<◌, ◌≤◌, ◌+◌, ℕ, List,
 use Rattle.std.specs.Prelude.{Option, None, Some}
 use Rattle.std.proofs.lemmas.List.{length-take}
 use Rattle.toml.specs.Data.{Members}
-use Rattle.lf_written.specs.declared.declared.Declared.{Declared}
+use Rattle.lf_protocol_file.specs.declared.declared.Declared.{Declared}
 use Rattle.lf_scenario.specs.declared.error.ScenarioError.{ScenarioError}
-use Rattle.lf_scenario.specs.declared.scenario.Scenario.{Scenario}
+use Rattle.lf_outcome.specs.declared.scenario.Scenario.{Scenario}
 use Rattle.lf_scenario.specs.Limits.{longest}
-use Rattle.lf_scenario.specs.Sameness.{AreSame}
+use Rattle.lf_outcome.specs.Sameness.{AreSame}
 use Rattle.lf_scenario.specs.Scenarios.{Asked, IsDocument, IsRefused, IsScenario}
 use Rattle.lf_scenario.proofs.Laws as shipped
 use Rattle.lf_own_scenario.specs.Scenarios.{IsRefusedWith, IsTextWith, asked_with}

@@ -13,15 +13,16 @@ use Rattle.lf_scenario.specs.declared.key.Key.TheVariants as keys
 use Rattle.lf_scenario.specs.declared.error.ScenarioError.{ScenarioError}
 use Rattle.lf_scenario.specs.declared.error.ScenarioError.TheVariants as refusals
 use Rattle.lf_scenario.specs.declared.reading.Described.{Described}
-use Rattle.lf_scenario.specs.declared.scenario.Scenario.{Scenario}
+use Rattle.lf_outcome.specs.declared.scenario.Scenario.{Scenario}
 use Rattle.lf_scenario.specs.Keys.{key_name}
-use Rattle.lf_scenario.specs.Limits.{most_sets, usual_sets}
+use Rattle.lf_outcome.specs.Limits.{most_sets}
+use Rattle.lf_scenario.specs.Limits.{usual_sets}
 use Rattle.lf_scenario.specs.LinkTables.{all_links}
 use Rattle.lf_scenario.specs.Outcomes.{outcome_in}
 use Rattle.lf_scenario.specs.Reading.{bounds_in, delays_in, described_in, kind_in}
 use Rattle.lf_scenario.specs.Scenarios.{Asked, asked_in}
 use Rattle.lf_scenario.specs.Values.{Reading, ◌>>=◌, found_or, known, optional, required, whole}
-use Rattle.lf_written.specs.declared.declared.Declared.{Declared}
+use Rattle.lf_protocol_file.specs.declared.declared.Declared.{Declared}
 use Rattle.lf_own_scenario.specs.Keys as own
 use Rattle.lf_own_scenario.specs.Keys.{bounded_in, settled_in}
 use Rattle.lf_own_scenario.specs.Constants.{given_in}

@@ -3,8 +3,8 @@ use Rattle.std.proofs.Common.{◌≡◌, ℕ, Bool, true, false, List, [], ◌�
 use Rattle.std.specs.Prelude.{◌⊎◌, Option, None, Some, codes, if◌then◌else◌, unwrap_or}
 use Rattle.std.specs.Option.{option_map}
 use Rattle.std.proofs.lemmas.Bool.{both_ways}
-use Rattle.lf_arrivals.specs.Answers.{IsFirstUnder, IsOn}
-use Rattle.lf_arrivals.specs.Windows.{under}
+use Rattle.lf_delays.specs.Answers.{IsFirstUnder, IsOn}
+use Rattle.lf_delays.specs.Windows.{under}
 use Rattle.lf_delays.specs.declared.delay.Delay.{Delay}
 use Rattle.lf_delays.specs.Delays.{AreDelays, IsRead, Names as NamesDelays, arrive_lines, delayed, list_text}
 use Rattle.lf_delays.specs.Told.{told}
@@ -20,15 +20,15 @@ use Rattle.lf_latency.specs.Arrivals.{IsAssignment, IsTiming, arrival_in}
 use Rattle.lf_list.proofs.Laws.{each-from, each-in}
 use Rattle.lf_outcome.specs.declared.formula.Formula.{Formula}
 use Rattle.lf_outcome.specs.Truth.{reaches}
-use Rattle.lf_scenario.specs.declared.scenario.Scenario.{Scenario}
-use Rattle.lf_scenario.specs.Sameness.{AreSame}
-use Rattle.lf_scenario.proofs.Laws.{worlds_are_one}
+use Rattle.lf_outcome.specs.declared.scenario.Scenario.{Scenario}
+use Rattle.lf_outcome.specs.Sameness.{AreSame}
+use Rattle.lf_outcome.proofs.Laws.{worlds_are_one}
 use Rattle.lf_sim.specs.Runs.{World}
 use Rattle.lf_sim.specs.Settings.{world_of}
 use Rattle.lf_trace.specs.Lines.{line}
 use Rattle.lf_trace.specs.Namings.{AreDistinct, Names}
 use Rattle.lf_trace.specs.Traces.{end_word}
-use Rattle.lf_written.specs.declared.declared.Declared.{Declared}
+use Rattle.lf_protocol_file.specs.declared.declared.Declared.{Declared}
 use Rattle.leastfault.specs.Answers.{reaches_in}
 use Rattle.leastfault.specs.Delayed.{HasDelays, IsDelayedReply, IsEveryDelayReply, RepliesEveryDelay, RepliesNoDelays, every_delay_report, late_report}
 use Rattle.leastfault.specs.Known.{IsTextOf}
@@ -209,7 +209,8 @@ module _ (s : Scenario) (bounds : IsInLimits s.setting.spec) (timing : IsTiming 
         goes spelled rules again status (inr told_so) = of_text spelled rules again status told_so.0 told_so.1 told_so.2
           where
             of_text : words ≡ set_words set → (rules : Bool) (again : List ℕ) (status : ℕ) (t : Scenario) → IsTextOf known t text
-                → RepliesNoDelays (list_text late) t again status ⊎ ((given : Scenario) × HasDelays (list_text late) t given × RepliesRun rules words given again status)
+                → RepliesNoDelays (list_text late) t again status
+                ⊎ ((given : Scenario) × HasDelays (list_text late) t given × RepliesRun rules words given again status)
                 → EndsInMisses again status
             of_text spelled rules again status t of (inl none) = absurd (not_refused t (scenarios_are_one known text s t reads of) none.0)
             of_text spelled rules again status t of (inr run) =

@@ -2,20 +2,20 @@
 use Rattle.std.proofs.Common.{◌≡◌, ℕ, ◌+◌, ◌<◌, ◌≤◌, List, length, not, take, refl, sym, ap, ◌∙◌, subst, inl, inr, arith, string_bytes}
 use Rattle.std.specs.Prelude.{◌⊎◌, Bool, Option, None, Some, Result, Ok, Err, slice_get}
 use Rattle.std.proofs.lemmas.List.{length-take}
-use Rattle.lf_alone.specs.Ends.{IsFull, IsNeverFull}
+use Rattle.lf_book.specs.Ends.{IsFull, IsNeverFull}
 use Rattle.lf_faults.specs.declared.fault.Parts.{Parts}
 use Rattle.lf_faults.specs.Allowed.{IsAllowed}
 use Rattle.lf_faults.specs.declared.spec.Bounds.{Bounds}
 use Rattle.lf_faults.proofs.Laws.{first_is_one}
-use Rattle.lf_document.specs.declared.error.ProtocolError.{ProtocolError}
+use Rattle.lf_protocol_file.specs.declared.error.ProtocolError.{ProtocolError}
 use Rattle.lf_protocol_file.specs.Files as files
 use Rattle.lf_pool.specs.declared.error.PoolError.{PoolError}
 use Rattle.lf_pool.specs.declared.error.PoolError.TheVariants as errors
 use Rattle.lf_pool.specs.Solved.{IsRefused}
 use Rattle.lf_scenario.specs.declared.error.ScenarioError.{ScenarioError}
 use Rattle.lf_scenario.specs.Limits.{longest}
-use Rattle.lf_scenario.specs.declared.scenario.Scenario.{Scenario}
-use Rattle.lf_written.specs.declared.declared.Declared.{Declared}
+use Rattle.lf_outcome.specs.declared.scenario.Scenario.{Scenario}
+use Rattle.lf_protocol_file.specs.declared.declared.Declared.{Declared}
 use Rattle.lf_sim.specs.Settings.{world_of}
 use Rattle.lf_trace.specs.Namings.{Names}
 use Rattle.lf_check.specs.declared.verdict.Verdict.{Verdict}

@@ -3,10 +3,10 @@ use Rattle.std.proofs.Common.{◌≡◌, ℕ, List, inl, inr, sym, ◌∙◌, fa
 use Rattle.std.specs.Prelude.{Option, None, Some}
 use Rattle.lf_faults.specs.declared.fault.Parts.{Parts}
 use Rattle.lf_scenario.specs.Limits.{longest}
-use Rattle.lf_scenario.specs.declared.scenario.Scenario.{Scenario}
+use Rattle.lf_outcome.specs.declared.scenario.Scenario.{Scenario}
 use Rattle.lf_words.specs.declared.types.Shown.{Shown}
 use Rattle.lf_words.specs.declared.types.Shown.TheVariants as shown
-use Rattle.lf_written.specs.declared.declared.Declared.{Declared}
+use Rattle.lf_protocol_file.specs.declared.declared.Declared.{Declared}
 use Rattle.leastfault.specs.declared.shown.Told.{Told}
 use Rattle.leastfault.specs.declared.shown.Told.TheVariants as told
 use Rattle.leastfault.specs.Replies.{RepliesNoSet, tells_rules}

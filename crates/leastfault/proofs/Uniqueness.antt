@@ -2,7 +2,7 @@
 use Rattle.std.proofs.Common.{◌≡◌, ℕ, List, ◌++◌, not, refl, sym, ap, ◌∙◌, subst, inl, inr, arith}
 use Rattle.std.specs.Prelude.{◌⊎◌, Bool, Ok, Option, None, Some, slice_get}
 use Rattle.std.specs.Cmp.{IsTotalOrder}
-use Rattle.lf_document.specs.declared.error.ProtocolError.{ProtocolError}
+use Rattle.lf_protocol_file.specs.declared.error.ProtocolError.{ProtocolError}
 use Rattle.lf_faults.specs.declared.fault.Parts.{Parts}
 use Rattle.lf_faults.specs.Allowed.{IsAllowed, IsFirst}
 use Rattle.lf_faults.specs.Faults.{set_cmp}
@@ -12,16 +12,16 @@ use Rattle.lf_sim.specs.Runs.{World}
 use Rattle.lf_sim.specs.Settings.{world_of}
 use Rattle.lf_outcome.specs.declared.formula.Formula.{Formula}
 use Rattle.lf_outcome.specs.Truth.{reaches}
-use Rattle.lf_alone.specs.Ends.{IsFull, IsNeverFull}
-use Rattle.lf_alone.proofs.Laws.{full_is_one}
+use Rattle.lf_book.specs.Ends.{IsFull, IsNeverFull}
+use Rattle.lf_book.proofs.Laws.{full_is_one}
 use Rattle.lf_certificate.specs.Grown.{IsTreeOf}
 use Rattle.lf_certificate.proofs.Laws.{accepted_has_none, first_fault_one, tree_one}
-use Rattle.lf_written.specs.declared.declared.Declared.{Declared}
+use Rattle.lf_protocol_file.specs.declared.declared.Declared.{Declared}
 use Rattle.lf_protocol_file.specs.Files as files
-use Rattle.lf_scenario.specs.declared.scenario.Scenario.{Scenario}
-use Rattle.lf_scenario.specs.Sameness.{AreSame}
-use Rattle.lf_scenario.proofs.Laws.{worlds_are_one}
-use Rattle.lf_search.specs.Levels.{AreAllLeast, IsFullAt}
+use Rattle.lf_outcome.specs.declared.scenario.Scenario.{Scenario}
+use Rattle.lf_outcome.specs.Sameness.{AreSame}
+use Rattle.lf_outcome.proofs.Laws.{worlds_are_one}
+use Rattle.lf_certificate.specs.Levels.{AreAllLeast, IsFullAt}
 use Rattle.lf_trace.specs.Namings.{Names}
 use Rattle.lf_trace.specs.Words.{words_of}
 use Rattle.lf_why.specs.Answers.{IsWhy}

@@ -10,8 +10,8 @@ use Rattle.lf_faults.proofs.Laws.{fewer-before}
 use Rattle.lf_sim.specs.Settings.{world_of}
 use Rattle.lf_certificate.proofs.Laws.{answer_is}
 use Rattle.lf_plain.specs.Fewest.{IsFewest}
-use Rattle.lf_scenario.specs.declared.scenario.Scenario.{Scenario}
-use Rattle.lf_written.specs.declared.declared.Declared.{Declared}
+use Rattle.lf_outcome.specs.declared.scenario.Scenario.{Scenario}
+use Rattle.lf_protocol_file.specs.declared.declared.Declared.{Declared}
 use Rattle.lf_tree.specs.declared.tree.Tree.{Tree}
 use Rattle.leastfault.specs.Answers.{IsAnswer, IsLeast, reaches_in}
 use Rattle.leastfault.specs.Known.{IsTextOf}

@@ -5,8 +5,8 @@ use Rattle.lf_faults.specs.Allowed.{IsFirst}
 use Rattle.lf_sim.specs.Settings.{world_of}
 use Rattle.lf_outcome.specs.Truth.{reaches}
 use Rattle.lf_plain.specs.Fewest.{IsFewest}
-use Rattle.lf_scenario.specs.declared.scenario.Scenario.{Scenario}
-use Rattle.lf_search.specs.Levels.{AreAllLeast}
+use Rattle.lf_outcome.specs.declared.scenario.Scenario.{Scenario}
+use Rattle.lf_certificate.specs.Levels.{AreAllLeast}
 
 -- the run of the faults reaches the scenario's outcome, and elsewhere it misses
 abbrev pub reaches_in : Scenario → List Parts → Bool

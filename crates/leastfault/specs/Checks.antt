@@ -1,7 +1,7 @@
 -- What the texts of a scenario and of a tree give to be judged.
 use Rattle.std.specs.Prelude.{◌≡◌, ℕ, List, Option, string_bytes}
 use Rattle.lf_sim.specs.Settings.{world_of}
-use Rattle.lf_written.specs.declared.declared.Declared.{Declared}
+use Rattle.lf_protocol_file.specs.declared.declared.Declared.{Declared}
 use Rattle.leastfault.specs.declared.checking.Given.{Given}
 use Rattle.leastfault.specs.declared.checking.Given.TheVariants as given
 use Rattle.leastfault.specs.declared.reply.Reply.{Reply}

@@ -1,18 +1,18 @@
 -- The replies where notes arrive as words say, and over every delay.
 use Rattle.std.specs.Prelude.{◌≡◌, ◌⊎◌, ◌++◌, ℕ, Bool, true, false, List, Result, MatchResult, Option, None, Some, IfSome, codes, string_bytes}
 use Rattle.std.specs.Option.{option_map}
-use Rattle.lf_arrivals.specs.Answers.{IsFirstUnder}
-use Rattle.lf_arrivals.specs.Windows.{under}
+use Rattle.lf_delays.specs.Answers.{IsFirstUnder}
+use Rattle.lf_delays.specs.Windows.{under}
 use Rattle.lf_delays.specs.Delays.{IsRead, arrive_lines}
 use Rattle.lf_delays.specs.Told.{told}
 use Rattle.lf_faults.specs.declared.fault.Parts.{Parts}
 use Rattle.lf_latency.specs.declared.arrivals.Arrivals.{Arrivals}
 use Rattle.lf_latency.specs.Arrivals.{arrival_in, choosing}
-use Rattle.lf_scenario.specs.declared.scenario.Scenario.{Scenario}
+use Rattle.lf_outcome.specs.declared.scenario.Scenario.{Scenario}
 use Rattle.lf_sim.specs.Settings.{world_of}
-use Rattle.lf_sparing.specs.Trials.{IsTightBy}
+use Rattle.lf_delays.specs.Trials.{IsTightBy}
 use Rattle.lf_trace.specs.Lines.{line}
-use Rattle.lf_written.specs.declared.declared.Declared.{Declared}
+use Rattle.lf_protocol_file.specs.declared.declared.Declared.{Declared}
 use Rattle.leastfault.specs.declared.reply.Reply.{Reply}
 use Rattle.leastfault.specs.Known.{IsTextOf}
 use Rattle.leastfault.specs.Replies.{IsAnswerReply, RepliesRefusal}

@@ -1,11 +1,11 @@
 -- The replies to protocol files.
 use Rattle.std.specs.Prelude.{◌≡◌, ◌⊎◌, ℕ, List, [], ◌++◌, codes, Option, Some, None}
 use Rattle.std.specs.Fmt.{decimal}
-use Rattle.lf_document.specs.declared.error.ProtocolError.{ProtocolError}
-use Rattle.lf_document.specs.declared.path.Path.{Path}
-use Rattle.lf_document.specs.Refusals.{number_of, place_of}
-use Rattle.lf_document.specs.Spellings.{place_text}
-use Rattle.lf_written.specs.declared.declared.Declared.{Declared}
+use Rattle.lf_protocol_file.specs.declared.error.ProtocolError.{ProtocolError}
+use Rattle.lf_protocol_file.specs.declared.path.Path.{Path}
+use Rattle.lf_protocol_file.specs.Refusals.{number_of, place_of}
+use Rattle.lf_protocol_file.specs.Spellings.{place_text}
+use Rattle.lf_protocol_file.specs.declared.declared.Declared.{Declared}
 use Rattle.lf_protocol_file.specs.Files.{IsRefused, IsText}
 use Rattle.lf_trace.specs.Lines.{line}
 

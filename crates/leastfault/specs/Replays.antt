@@ -5,9 +5,9 @@ use Rattle.lf_delays.specs.declared.delay.Delay.{Delay}
 use Rattle.lf_delays.specs.Delays.{arrive_lines, list_text}
 use Rattle.lf_faults.specs.declared.fault.Parts.{Parts}
 use Rattle.lf_faults.specs.Texts.{spelling}
-use Rattle.lf_scenario.specs.declared.scenario.Scenario.{Scenario}
+use Rattle.lf_outcome.specs.declared.scenario.Scenario.{Scenario}
 use Rattle.lf_trace.specs.Lines.{line}
-use Rattle.lf_written.specs.declared.declared.Declared.{Declared}
+use Rattle.lf_protocol_file.specs.declared.declared.Declared.{Declared}
 use Rattle.leastfault.specs.Delayed.{IsDelayedReply}
 use Rattle.leastfault.specs.Reports.{report}
 use Rattle.leastfault.specs.Shown.{RepliesRun}

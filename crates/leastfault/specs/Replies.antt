@@ -4,7 +4,7 @@ use Rattle.lf_certificate.specs.declared.reason.Reason.{Reason}
 use Rattle.lf_certificate.specs.Accepted.{IsAccepted}
 use Rattle.lf_certificate.specs.Faults.{IsFirstFault}
 use Rattle.lf_certificate.specs.Grown.{IsTreeOf}
-use Rattle.lf_alone.specs.Ends.{IsFull, IsNeverFull}
+use Rattle.lf_book.specs.Ends.{IsFull, IsNeverFull}
 use Rattle.lf_book.specs.declared.book.Book.{Book}
 use Rattle.lf_faults.specs.declared.fault.Parts.{Parts}
 use Rattle.lf_faults.specs.Allowed.{IsAllowed}
@@ -18,16 +18,16 @@ use Rattle.lf_sim.specs.Runs.{World}
 use Rattle.lf_sim.specs.Settings.{world_of}
 use Rattle.lf_pool.specs.Solved.{AreWorkers, IsSpentBook}
 use Rattle.lf_scenario.specs.declared.error.ScenarioError.{ScenarioError}
-use Rattle.lf_scenario.specs.declared.scenario.Scenario.{Scenario}
+use Rattle.lf_outcome.specs.declared.scenario.Scenario.{Scenario}
 use Rattle.lf_trace.specs.Namings.{Names}
 use Rattle.lf_trace.specs.Traces.{trace}
-use Rattle.lf_rule_trace.specs.RuleTraces.{rule_trace}
+use Rattle.lf_trace.specs.RuleTraces.{rule_trace}
 use Rattle.lf_tree.specs.declared.fault.TreeFault.{TreeFault}
 use Rattle.lf_tree.specs.declared.tree.Tree.{Tree}
 use Rattle.lf_tree.specs.FirstFaults as trees
 use Rattle.lf_tree.specs.Texts.{IsInRange, tree_text}
 use Rattle.lf_tree.specs.Trees.{IsTree}
-use Rattle.lf_written.specs.declared.declared.Declared.{Declared}
+use Rattle.lf_protocol_file.specs.declared.declared.Declared.{Declared}
 use Rattle.leastfault.specs.declared.answering.Wanted.{Wanted}
 use Rattle.leastfault.specs.declared.answering.Wanted.TheVariants as wanted
 use Rattle.leastfault.specs.declared.reply.Searched.{Searched}

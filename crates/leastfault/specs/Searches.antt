@@ -3,9 +3,9 @@ use Rattle.std.specs.Prelude.{◌≡◌, ◌⊎◌, ℕ, List, Option, None, Som
 use Rattle.lf_pool.specs.declared.error.PoolError.{PoolError}
 use Rattle.lf_pool.specs.declared.error.PoolError.TheVariants as errors
 use Rattle.lf_pool.specs.Solved.{AreWorkers}
-use Rattle.lf_scenario.specs.declared.scenario.Scenario.{Scenario}
+use Rattle.lf_outcome.specs.declared.scenario.Scenario.{Scenario}
 use Rattle.lf_tree.specs.declared.tree.Tree.{Tree}
-use Rattle.lf_written.specs.declared.declared.Declared.{Declared}
+use Rattle.lf_protocol_file.specs.declared.declared.Declared.{Declared}
 use Rattle.leastfault.specs.declared.answering.Wanted.{Wanted}
 use Rattle.leastfault.specs.declared.fault.BytesFault.{BytesFault}
 use Rattle.leastfault.specs.declared.fault.BytesFault.TheVariants as faults

@@ -1,16 +1,16 @@
 -- The replies to runs, told as it is asked.
 use Rattle.std.specs.Prelude.{◌≡◌, ◌⊎◌, ⊤, ℕ, Bool, false, true, List, string_bytes, Option, None, Some}
-use Rattle.lf_changes.specs.Beside.{beside_by}
-use Rattle.lf_changes.specs.Changes.{changes_by}
+use Rattle.lf_trace.specs.Beside.{beside_by}
+use Rattle.lf_trace.specs.Changes.{changes_by}
 use Rattle.lf_faults.specs.declared.fault.Parts.{Parts}
 use Rattle.lf_faults.specs.Allowed.{IsAllowed}
 use Rattle.lf_sim.specs.Settings.{world_of}
-use Rattle.lf_scenario.specs.declared.scenario.Scenario.{Scenario}
+use Rattle.lf_outcome.specs.declared.scenario.Scenario.{Scenario}
 use Rattle.lf_trace.specs.Namings.{Names}
 use Rattle.lf_trace.specs.Words.{words_of}
 use Rattle.lf_words.specs.declared.types.Shown.{Shown}
 use Rattle.lf_words.specs.declared.types.Shown.TheVariants as shown
-use Rattle.lf_written.specs.declared.declared.Declared.{Declared}
+use Rattle.lf_protocol_file.specs.declared.declared.Declared.{Declared}
 use Rattle.leastfault.specs.declared.shown.Told.{Told}
 use Rattle.leastfault.specs.declared.shown.Told.TheVariants as told
 use Rattle.leastfault.specs.Answers.{reaches_in}

@@ -1,12 +1,12 @@
 -- The replies that tell why an answer is one.
 use Rattle.std.specs.Prelude.{◌≡◌, ℕ, List, ◌++◌, Option}
-use Rattle.lf_alone.specs.Ends.{IsNeverFull}
-use Rattle.lf_scenario.specs.declared.scenario.Scenario.{Scenario}
+use Rattle.lf_book.specs.Ends.{IsNeverFull}
+use Rattle.lf_outcome.specs.declared.scenario.Scenario.{Scenario}
 use Rattle.lf_sim.specs.Settings.{world_of}
 use Rattle.lf_trace.specs.Words.{words_of}
 use Rattle.lf_tree.specs.declared.tree.Tree.{Tree}
 use Rattle.lf_why.specs.Answers.{IsWhy}
-use Rattle.lf_written.specs.declared.declared.Declared.{Declared}
+use Rattle.lf_protocol_file.specs.declared.declared.Declared.{Declared}
 use Rattle.leastfault.specs.Replies.{IsReplyWith, IsTreeFor}
 use Rattle.leastfault.specs.Reports.{report, search_status}
 

@@ -2,7 +2,7 @@
 
 ghost use Rattle.std.specs.Prelude.{◌≡◌, ◌≢◌, ◌↔◌, List, Some, true, false, string_bytes, IfOk};
 ghost use Rattle.std.specs.Arc.{arc_value};
-ghost use Rattle.lf_alone.specs.Ends.{IsNeverFull};
+ghost use Rattle.lf_book.specs.Ends.{IsNeverFull};
 ghost use Rattle.lf_book.specs.Books.{scenario_of, state_of};
 ghost use Rattle.lf_faults.specs.declared.fault.Parts.{Parts};
 ghost use Rattle.lf_faults.specs.Allowed.{IsAllowed};
@@ -19,16 +19,15 @@ use crate::known::read_known;
 use crate::replies::full_line;
 use crate::reply::{Reply, Searched, without_tree};
 use crate::{all_report, refusal, report};
-use lf_alone::{Ended, solve_watched};
-use lf_book::Book;
+use lf_book::{Book, Ended, solve_watched};
 use lf_faults::{FaultSet, admits};
 use lf_merged::answer_watched;
-use lf_outcome::holds;
-use lf_scenario::{Scenario, ScenarioError};
+use lf_outcome::{Scenario, holds};
+use lf_protocol_file::ProtocolFile;
+use lf_scenario::ScenarioError;
 use lf_sim::run;
 use lf_trace::{read_faults, trace};
 use lf_watch::Watch;
-use lf_written::ProtocolFile;
 use std::alloc::{AllocError, Global};
 use std::sync::Arc;
 

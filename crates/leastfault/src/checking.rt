@@ -3,7 +3,7 @@
 ghost use Rattle.std.specs.Prelude.{◌≡◌, ◌≢◌, ℕ, List, Option, string_bytes, IfOk};
 ghost use Rattle.lf_check.specs.Verdicts.{IsVerdict};
 ghost use Rattle.lf_sim.specs.Settings.{world_of};
-ghost use Rattle.lf_written.specs.declared.declared.Declared.{Declared};
+ghost use Rattle.lf_protocol_file.specs.declared.declared.Declared.{Declared};
 ghost use Rattle.leastfault.specs.Checks.{IsGiven, IsReplyTo};
 ghost use Rattle.leastfault.specs.Engines.{Remakes};
 ghost use Rattle.leastfault.specs.Known.{IsTextOf, known_of};
@@ -16,10 +16,10 @@ use crate::known::read_known;
 use crate::replies::{judgement, tree_refusal};
 use crate::reply::Reply;
 use lf_check::{Verdict, check, check_rows_watched};
-use lf_scenario::Scenario;
+use lf_outcome::Scenario;
+use lf_protocol_file::ProtocolFile;
 use lf_tree::{Tree, TreeFault, read_tree, types_are_kept};
 use lf_watch::{NoWatch, Watch};
-use lf_written::ProtocolFile;
 use std::alloc::{AllocError, Global};
 use std::thread::Threads;
 

@@ -1,7 +1,7 @@
 //! What the replies over every delay promise of one another, and of the runs that play them again: calls whose contracts are the laws.
 
 ghost use Rattle.std.specs.Prelude.{◌≡◌, ℕ, List, Option};
-ghost use Rattle.lf_written.specs.declared.declared.Declared.{Declared};
+ghost use Rattle.lf_protocol_file.specs.declared.declared.Declared.{Declared};
 ghost use Rattle.leastfault.specs.Delayed.{IsEveryDelayReply, RepliesEveryDelay};
 ghost use Rattle.leastfault.specs.Known.{IsTextOf};
 ghost use Rattle.leastfault.specs.Replays.{AgreeButForDelays, IsReplayed};
@@ -9,7 +9,7 @@ ghost use Rattle.leastfault.specs.Replays.{AgreeButForDelays, IsReplayed};
 use crate::laws::limits_are_kept;
 use lf_delays::delays_are_one;
 use lf_latency::keeps_limits;
-use lf_scenario::Scenario;
+use lf_outcome::Scenario;
 use lf_trace::names_are_one;
 
 /// A text has at most one answer over every delay: the replies that tell it have one status, one first line and the same faults. Which notes come

@@ -1,7 +1,7 @@
 //! The replies where notes arrive as words say, and over every delay.
 
 ghost use Rattle.std.specs.Prelude.{◌≡◌, ℕ, List, IfOk, Some, string_bytes};
-ghost use Rattle.lf_arrivals.specs.Answers.{IsFirstUnder};
+ghost use Rattle.lf_delays.specs.Answers.{IsFirstUnder};
 ghost use Rattle.lf_latency.specs.Arrivals.{IsArrivals};
 ghost use Rattle.lf_sim.specs.Settings.{world_of};
 ghost use Rattle.leastfault.specs.Delayed.{IsAnswerAsked, IsEveryDelayReply, IsGivenOf, IsGivenTo, RepliesEveryDelay, late_report, no_delays_line};
@@ -11,15 +11,14 @@ use crate::answering::{answer_reply, refused};
 use crate::known::read_known;
 use crate::reply::Reply;
 use crate::report;
-use lf_delays::{push_delays, read_delays, told_delays};
-use lf_exchanging::every_delay_watched;
+use lf_delays::{push_delays, read_delays, tight_arrivals, told_delays};
 use lf_faults::FaultSet;
 use lf_latency::Arrivals;
-use lf_scenario::Scenario;
+use lf_outcome::Scenario;
+use lf_protocol_file::ProtocolFile;
 use lf_sim::run;
-use lf_sparing::tight_arrivals;
+use lf_symmetry::every_delay_watched;
 use lf_watch::Watch;
-use lf_written::ProtocolFile;
 use std::alloc::{AllocError, Global};
 
 /// The scenario of a text, in which notes arrive as the words say, or the reply where one of both is refused.

@@ -3,9 +3,10 @@
 ghost use Rattle.std.specs.Prelude.{◌≢◌, MatchResult};
 ghost use Rattle.leastfault.specs.Known.{IsRefusedOf, IsTextOf, known_of};
 
+use lf_outcome::Scenario;
 use lf_own_scenario::read_with;
-use lf_scenario::{Scenario, ScenarioError, read};
-use lf_written::ProtocolFile;
+use lf_protocol_file::ProtocolFile;
+use lf_scenario::{ScenarioError, read};
 use std::alloc::Global;
 
 /// The scenario of a text, or why it is none: as `read` where no protocol file is known, and as `read_with` where one is. The refusal

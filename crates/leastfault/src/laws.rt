@@ -1,13 +1,13 @@
 //! What the definitions of this crate promise, for every scenario and every text: calls whose contracts are the laws.
 
-ghost use Rattle.lf_alone.specs.Ends.{IsFull};
+ghost use Rattle.lf_book.specs.Ends.{IsFull};
 ghost use Rattle.std.specs.Prelude.{◌≡◌, ◌⊎◌, ◌++◌, ℕ, Bool, List, Option, length, slice_get};
-ghost use Rattle.lf_written.specs.declared.declared.Declared.{Declared};
+ghost use Rattle.lf_protocol_file.specs.declared.declared.Declared.{Declared};
 ghost use Rattle.leastfault.specs.Known.{IsTextOf};
 ghost use Rattle.std.specs.List.{Contains};
 ghost use Rattle.lf_faults.specs.Allowed.{IsInLimits};
 ghost use Rattle.lf_faults.specs.declared.fault.Parts.{Parts};
-ghost use Rattle.lf_scenario.specs.declared.scenario.Scenario.{Scenario};
+ghost use Rattle.lf_outcome.specs.declared.scenario.Scenario.{Scenario};
 ghost use Rattle.lf_tree.specs.declared.tree.Tree.{Tree};
 ghost use Rattle.leastfault.specs.Answers.{AreLeastSets, IsAnswer, IsLeast};
 ghost use Rattle.leastfault.specs.Commands.{HasOneEnd, IsCertified};

@@ -2,7 +2,7 @@
 
 ghost use Rattle.std.specs.Prelude.{◌≡◌, Some, true, string_bytes, IfOk};
 ghost use Rattle.lf_sim.specs.Settings.{world_of};
-ghost use Rattle.lf_rule_trace.specs.RuleTraces.{rule_trace};
+ghost use Rattle.lf_trace.specs.RuleTraces.{rule_trace};
 ghost use Rattle.leastfault.specs.Answers.{reaches_in};
 ghost use Rattle.leastfault.specs.Replies.{IsRunReply, told_trace};
 ghost use Rattle.leastfault.specs.Reports.{run_status};
@@ -11,12 +11,11 @@ ghost use Rattle.leastfault.specs.Shown.{RepliesRun};
 use crate::answering::{allowed_set, no_set, refused, run_status, traced as traced_alone};
 use crate::reply::Reply;
 use lf_faults::FaultSet;
-use lf_outcome::holds;
+use lf_outcome::{Scenario, holds};
 use lf_own_scenario::read_with;
-use lf_rule_trace::trace_with_rules;
-use lf_scenario::Scenario;
+use lf_protocol_file::ProtocolFile;
 use lf_sim::run;
-use lf_written::ProtocolFile;
+use lf_trace::trace_with_rules;
 use std::alloc::{AllocError, Global};
 
 /// The reply of a run, with the rules that nodes took, to the text of a scenario of a protocol file and the words that name a set of faults.

@@ -1,8 +1,8 @@
 //! The replies to runs, told as it is asked: by their trace or otherwise.
 
 ghost use Rattle.std.specs.Prelude.{◌≡◌, Some, true, option_map, string_bytes, IfOk};
-ghost use Rattle.lf_changes.specs.Beside.{beside_by};
-ghost use Rattle.lf_changes.specs.Changes.{changes_by};
+ghost use Rattle.lf_trace.specs.Beside.{beside_by};
+ghost use Rattle.lf_trace.specs.Changes.{changes_by};
 ghost use Rattle.lf_sim.specs.Settings.{world_of};
 ghost use Rattle.lf_trace.specs.Words.{words_of};
 ghost use Rattle.leastfault.specs.Answers.{reaches_in};
@@ -18,15 +18,13 @@ use crate::delayed::read_given;
 use crate::known::read_known;
 use crate::reply::Reply;
 use crate::ruled::{rules_reply, run_of};
-use lf_changes::{beside, changes};
-use lf_drawing::picture;
 use lf_faults::FaultSet;
-use lf_json_trace::json_trace;
-use lf_outcome::holds;
-use lf_scenario::Scenario;
+use lf_outcome::{Scenario, holds};
+use lf_protocol_file::ProtocolFile;
+use lf_rendering::{json_trace, picture};
 use lf_sim::run;
+use lf_trace::{beside, changes};
 use lf_words::Shown;
-use lf_written::ProtocolFile;
 use std::alloc::{AllocError, Global};
 
 /// What is told of a run in place of its trace.

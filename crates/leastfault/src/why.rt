@@ -8,11 +8,11 @@ ghost use Rattle.leastfault.specs.Why.{HasReasons, IsWhyReply, RepliesWhy};
 use crate::answering::{Wanted, refused, searched};
 use crate::known::read_known;
 use crate::reply::{Reply, Searched};
-use lf_scenario::Scenario;
+use lf_outcome::Scenario;
+use lf_protocol_file::ProtocolFile;
 use lf_tree::Tree;
 use lf_watch::Watch;
 use lf_why::why;
-use lf_written::ProtocolFile;
 use std::alloc::{AllocError, Global};
 use std::sync::Arc;
 

@@ -26,7 +26,8 @@
 //!
 //! With `--protocol` the scenario may name the protocol of that file, and give its constants anew; `run --rules` prints under each step which
 //! of its rules each node took. `run --changes` prints of each step only the nodes that change, and the notes; `run --beside FAULTS` prints
-//! only the lines that differ from those of the run with these faults; `run --json` prints it as a JSON document. `draw` prints the run as a picture, an SVG document.
+//! only the lines that differ from those of the run with these faults; `run --json` prints it as a JSON document. `draw` prints the run as a picture, an SVG
+//! document.
 //!
 //! `sweep` prints a line for each combination of values: the values, and the reply to the scenario that has them, with tabs between. `--vary` gives
 //! a key its values, `--by` says which command replies, `--part` takes one of N parts of the combinations, and `--json` makes each line an object.

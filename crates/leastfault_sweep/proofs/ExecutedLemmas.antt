@@ -1,11 +1,12 @@
 -- What a sweep comes to.
-use Rattle.std.proofs.Common.{◌≡◌, ◌≢◌, ◌⊎◌, ℕ, ◌+◌, ◌<◌, ◌≤◌, ◌||◌, Bool, true, false, List, [], ◌∷◌, length, take, is_ok, is_some, Option, Some, None, Result, Ok, Err, String, Global, string_bytes, refl, sym, ap, subst, ◌∙◌, arith, inl, inr, zero, suc}
+use Rattle.std.proofs.Common.{◌≡◌, ◌≢◌, ◌⊎◌, ℕ, ◌+◌, ◌<◌, ◌≤◌, ◌||◌, Bool, true, false, List, [], ◌∷◌, length, take, is_ok, is_some, Option, Some}
+use Rattle.std.proofs.Common.{None, Result, Ok, Err, String, Global, string_bytes, refl, sym, ap, subst, ◌∙◌, arith, inl, inr, zero, suc}
 use Rattle.std.specs.Io.KnownBytes.{Appends}
 use Rattle.std.proofs.KnownBytes.{Appends-nil}
 use Rattle.std.proofs.lemmas.Bool.{false≢true}
 use Rattle.std.proofs.lemmas.Option.{same_Some}
 use Rattle.toml.specs.Data.{Members, members_have_valid_dates}
-use Rattle.lf_document.specs.declared.error.ProtocolError.{ProtocolError}
+use Rattle.lf_protocol_file.specs.declared.error.ProtocolError.{ProtocolError}
 use Rattle.lf_protocol_file.specs.Files as files
 use Rattle.lf_scenario.specs.Limits.{longest}
 use Rattle.lf_scenario.specs.declared.error.ScenarioError.TheVariants as scenarios
@@ -16,14 +17,14 @@ use Rattle.lf_sweep.specs.declared.varied.Varied.{Varied}
 use Rattle.lf_sweep.specs.Combinations.{combinations, words_at}
 use Rattle.lf_sweep.specs.Parts.{number_at}
 use Rattle.lf_sweep.specs.Texts.{HasNoText, IsScenario, with_words}
-use Rattle.lf_sweeping.specs.declared.counts.Counts.{Counts}
-use Rattle.lf_sweeping.specs.declared.error.SweepFault.{SweepFault}
-use Rattle.lf_sweeping.specs.declared.error.SweepFault.TheVariants as faults
-use Rattle.lf_sweeping.specs.Counts.{Told}
-use Rattle.lf_sweeping.specs.Faults.{HasCause, HasNoRow, fault_of}
-use Rattle.lf_sweeping.specs.Rows.{AreLines}
-use Rattle.lf_sweeping.specs.Sweeps.{WasSwept}
-use Rattle.lf_written.specs.declared.declared.Declared.{Declared}
+use Rattle.lf_sweep.specs.declared.counts.Counts.{Counts}
+use Rattle.lf_sweep.specs.declared.fault.SweepFault.{SweepFault}
+use Rattle.lf_sweep.specs.declared.fault.SweepFault.TheVariants as faults
+use Rattle.lf_sweep.specs.Counts.{Told}
+use Rattle.lf_sweep.specs.Faults.{HasCause, HasNoRow, fault_of}
+use Rattle.lf_sweep.specs.Rows.{AreLines}
+use Rattle.lf_sweep.specs.Sweeps.{WasSwept}
+use Rattle.lf_protocol_file.specs.declared.declared.Declared.{Declared}
 use Rattle.leastfault.specs.declared.fault.BytesFault.{BytesFault}
 use Rattle.leastfault.specs.declared.fault.BytesFault.TheVariants as bytes
 use Rattle.leastfault.specs.Engines.{tells_read, tells_write}

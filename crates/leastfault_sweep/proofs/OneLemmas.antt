@@ -1,5 +1,6 @@
 -- A sweep is one.
-use Rattle.std.proofs.Common.{◌≡◌, ℕ, ◌+◌, ◌<◌, ◌≤◌, List, [], ◌∷◌, ◌++◌, length, Option, Some, None, Result, Ok, Err, inl, inr, refl, sym, ap, subst, ◌∙◌, arith, true}
+use Rattle.std.proofs.Common.{◌≡◌, ℕ, ◌+◌, ◌<◌, ◌≤◌, List, [], ◌∷◌, ◌++◌, length, Option, Some, None}
+use Rattle.std.proofs.Common.{Result, Ok, Err, inl, inr, refl, sym, ap, subst, ◌∙◌, arith, true}
 use Rattle.std.proofs.lemmas.Bool.{cases_order}
 use Rattle.std.proofs.lemmas.Option.{same_Some}
 use Rattle.toml.specs.Data.{Members}
@@ -10,10 +11,10 @@ use Rattle.lf_sweep.specs.Combinations.{combinations, words_at}
 use Rattle.lf_sweep.specs.Exact.{members_have_no_floats}
 use Rattle.lf_sweep.specs.Parts.{IsLengthOf, number_at}
 use Rattle.lf_sweep.specs.Texts.{IsScenario, IsTextWith, with_words}
-use Rattle.lf_sweeping.specs.declared.counts.Counts.{Counts}
-use Rattle.lf_sweeping.specs.Counts.{Told, counts_of}
-use Rattle.lf_sweeping.specs.Rows.{AreReplies, AreToldAt, IsReplyAt, told_lines}
-use Rattle.lf_written.specs.declared.declared.Declared.{Declared}
+use Rattle.lf_sweep.specs.declared.counts.Counts.{Counts}
+use Rattle.lf_sweep.specs.Counts.{Told, counts_of}
+use Rattle.lf_sweep.specs.Rows.{AreReplies, AreToldAt, IsReplyAt, told_lines}
+use Rattle.lf_protocol_file.specs.declared.declared.Declared.{Declared}
 use Rattle.leastfault.specs.Replies.{HasOneReply, IsAnswerReply, IsSearchReply}
 use Rattle.lf_sweep_words.specs.declared.types.By.{By}
 use Rattle.lf_sweep_words.specs.declared.types.By.TheVariants as by

@@ -1,19 +1,20 @@
 -- What a sweep comes to.
-use Rattle.std.specs.Prelude.{◌≡◌, ◌≢◌, ◌⊎◌, ℕ, ◌<◌, ◌≤◌, Bool, false, List, [], ◌∷◌, ◌++◌, length, Option, None, Some, Result, Err, IfOk, IfErr, String, string_bytes}
+use Rattle.std.specs.Prelude.{◌≡◌, ◌≢◌, ◌⊎◌, ℕ, ◌<◌, ◌≤◌, Bool, false, List, [], ◌∷◌, ◌++◌, length}
+use Rattle.std.specs.Prelude.{Option, None, Some, Result, Err, IfOk, IfErr, String, string_bytes}
 use Rattle.std.specs.Option.{option_map}
 use Rattle.std.specs.Io.KnownBytes.{Appends}
 use Rattle.std.specs.declared.alloc.Global.{Global}
 use Rattle.toml.specs.Data.{Members, members_have_valid_dates}
-use Rattle.lf_document.specs.declared.error.ProtocolError.{ProtocolError}
-use Rattle.lf_document.specs.declared.error.ProtocolError.TheVariants as refusals
+use Rattle.lf_protocol_file.specs.declared.error.ProtocolError.{ProtocolError}
+use Rattle.lf_protocol_file.specs.declared.error.ProtocolError.TheVariants as refusals
 use Rattle.lf_protocol_file.specs.Files as files
 use Rattle.lf_scenario.specs.Limits.{longest}
 use Rattle.lf_scenario.specs.declared.error.ScenarioError.TheVariants as scenarios
 use Rattle.lf_sweep.specs.Combinations.{combinations, words_at}
 use Rattle.lf_sweep.specs.Texts.{IsScenario, with_words}
-use Rattle.lf_sweeping.specs.Counts.{status_of}
-use Rattle.lf_sweeping.specs.Sweeps.{WasBegun}
-use Rattle.lf_written.specs.declared.declared.Declared.{Declared}
+use Rattle.lf_sweep.specs.Counts.{status_of}
+use Rattle.lf_sweep.specs.Sweeps.{WasBegun}
+use Rattle.lf_protocol_file.specs.declared.declared.Declared.{Declared}
 use Rattle.leastfault.specs.declared.fault.BytesFault.{BytesFault}
 use Rattle.leastfault.specs.declared.fault.BytesFault.TheVariants as faults
 use Rattle.leastfault.specs.Engines.{IsFront, tells_read, tells_write}

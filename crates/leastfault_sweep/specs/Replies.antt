@@ -2,18 +2,18 @@
 use Rattle.std.specs.Prelude.{◌≡◌, ◌≢◌, ℕ, List, Option, None, Some}
 use Rattle.std.specs.Borrow.{Bor}
 use Rattle.std.specs.Option.{option_map}
-use Rattle.lf_document.specs.declared.error.ProtocolError.{ProtocolError}
-use Rattle.lf_document.specs.declared.error.ProtocolError.TheVariants as refusals
+use Rattle.lf_protocol_file.specs.declared.error.ProtocolError.{ProtocolError}
+use Rattle.lf_protocol_file.specs.declared.error.ProtocolError.TheVariants as refusals
 use Rattle.lf_protocol_file.specs.Files as files
 use Rattle.lf_sweep.specs.declared.part.Part.{Part}
 use Rattle.lf_sweep.specs.declared.varied.Varied.{Varied}
 use Rattle.lf_sweep.specs.Combinations.{combinations}
 use Rattle.lf_sweep.specs.Parts.{IsLengthOf}
-use Rattle.lf_sweeping.specs.Rows.{AreToldAt}
-use Rattle.lf_sweeping.specs.declared.counts.Counts.{Counts}
-use Rattle.lf_sweeping.specs.declared.error.SweepFault.{SweepFault}
-use Rattle.lf_sweeping.specs.declared.error.SweepFault.TheVariants as faults
-use Rattle.lf_written.specs.declared.declared.Declared.{Declared}
+use Rattle.lf_sweep.specs.Rows.{AreToldAt}
+use Rattle.lf_sweep.specs.declared.counts.Counts.{Counts}
+use Rattle.lf_sweep.specs.declared.fault.SweepFault.{SweepFault}
+use Rattle.lf_sweep.specs.declared.fault.SweepFault.TheVariants as faults
+use Rattle.lf_protocol_file.specs.declared.declared.Declared.{Declared}
 use Rattle.leastfault.specs.Replies.{IsAnswerReply, IsSearchReply}
 use Rattle.lf_sweep_words.specs.declared.types.By.{By}
 use Rattle.lf_sweep_words.specs.declared.types.By.TheVariants as by

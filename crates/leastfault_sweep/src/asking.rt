@@ -8,8 +8,8 @@ ghost use Rattle.leastfault_sweep.specs.Replies.{IsRefusedIn, IsReplyBy, Refuses
 use leastfault::{
     ProtocolError, ProtocolFile, Reply, Wanted, answer_reply, read_protocol, search_reply,
 };
+use lf_sweep::{Asker, Replied, SweepFault};
 use lf_sweep_words::By;
-use lf_sweeping::{Asker, Replied, SweepFault};
 use lf_watch::NoWatch;
 use std::alloc::{AllocError, Global};
 

@@ -2,7 +2,7 @@
 
 ghost use Rattle.std.specs.Prelude.{◌≡◌, ◌≢◌, false, option_map, string_bytes, IfOk};
 ghost use Rattle.leastfault.specs.Protocols.{protocol_refusal};
-ghost use Rattle.lf_sweeping.specs.Sweeps.{WasSwept};
+ghost use Rattle.lf_sweep.specs.Sweeps.{WasSwept};
 ghost use Rattle.leastfault_sweep.specs.Executed.{IsExecuted, IsPastProtocol, IsSweptOrNot, end_status};
 ghost use Rattle.leastfault_sweep.specs.Replies.{RefusesBy, RepliesBy, text_of};
 
@@ -12,8 +12,8 @@ use leastfault::{
     BytesFault, Files, LONGEST, ProtocolError, ScenarioError, Sink, protocol_refusal,
     read_protocol, refusal,
 };
+use lf_sweep::{Counts, Study, SweepFault};
 use lf_sweep_words::SweepAsked;
-use lf_sweeping::{Counts, Study, SweepFault};
 use std::alloc::{AllocError, Global};
 use std::thread::Threads;
 

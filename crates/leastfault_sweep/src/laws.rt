@@ -7,7 +7,7 @@ ghost use Rattle.lf_sweep.specs.declared.varied.Varied.{Varied};
 ghost use Rattle.lf_sweep.specs.Exact.{members_have_no_floats};
 ghost use Rattle.lf_sweep.specs.Texts.{IsScenario, with_words};
 ghost use Rattle.lf_sweep.specs.Combinations.{words_at};
-ghost use Rattle.lf_sweeping.specs.declared.counts.Counts.{Counts};
+ghost use Rattle.lf_sweep.specs.declared.counts.Counts.{Counts};
 ghost use Rattle.lf_sweep_words.specs.declared.types.By.{By};
 ghost use Rattle.leastfault_sweep.specs.Replies.{IsSweep};
 

@@ -12,8 +12,9 @@ mod sweeping;
 
 pub use executing::{Ended, SweepExecuted, execute};
 pub use laws::sweeps_are_one;
-pub use lf_sweep::{Part, Place, Plan, PlanError, Varied, VaryError, Words, read_varied};
+pub use lf_sweep::{
+    Counts, Part, Place, Plan, PlanError, Study, SweepFault, Varied, VaryError, Words, read_varied,
+};
 pub use lf_sweep_words::{By, SweepAsked, SweepUnasked, names_of, sweep_asked};
-pub use lf_sweeping::{Counts, Study, SweepFault};
 pub use reading::SweepTexts;
 pub use sweeping::{sweep, sweep_shared};

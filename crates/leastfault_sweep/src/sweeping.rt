@@ -1,14 +1,13 @@
 //! Sweeps, by one worker and by several.
 
 ghost use Rattle.std.specs.Prelude.{◌≡◌, ◌≤◌, false};
-ghost use Rattle.lf_sweeping.specs.Sweeps.{WasSwept};
+ghost use Rattle.lf_sweep.specs.Sweeps.{WasSwept};
 ghost use Rattle.leastfault_sweep.specs.Replies.{RefusesBy, RepliesBy, text_of};
 
 use crate::asking::Reading;
 use lf_streams::Sink;
-use lf_sweep::Part;
+use lf_sweep::{Counts, Part, Study, SweepFault};
 use lf_sweep_words::By;
-use lf_sweeping::{Counts, Study, SweepFault};
 use std::alloc::Global;
 use std::thread::Threads;
 
@@ -32,7 +31,7 @@ pub fn sweep<W: Sink>(
         study.now.plan.now.varied.items part writer.old writer.new result }
 {
     let asker = Reading { protocol, by };
-    lf_sweeping::sweep(alloc, &asker, study, part, writer)
+    lf_sweep::sweep(alloc, &asker, study, part, writer)
 }
 
 /// The same as `sweep`, by so many workers at once, 1 at least: the bytes are the same.
@@ -52,5 +51,5 @@ pub fn sweep_shared<R: Threads + Sync, W: Sink>(
         study.now.plan.now.varied.items part writer.old writer.new result }
 {
     let asker = Reading { protocol, by };
-    lf_sweeping::sweep_shared(rt, alloc, &asker, study, part, workers, writer)
+    lf_sweep::sweep_shared(rt, alloc, &asker, study, part, workers, writer)
 }

@@ -28,8 +28,8 @@ use Rattle.lf_certificate.specs.Accepted.{IsAnswer, IsRightLeaf, last_depth}
 use Rattle.lf_certificate.specs.Grown.{IsReachFor, IsGrownNode, IsTreeOf}
 use Rattle.lf_marks.specs.Steps.{Mark}
 use Rattle.lf_marks.specs.Steps as mark
-use Rattle.lf_search.specs.Found.{IsFound}
-use Rattle.lf_search.specs.Levels.{AreAscending, IsLeastSet, AreAllLeast}
+use Rattle.lf_certificate.specs.Found.{IsFound}
+use Rattle.lf_certificate.specs.Levels.{AreAscending, IsLeastSet, AreAllLeast}
 
 reaches_set : IsSet (List ℕ)
 reaches_set = is_set ℕ_set

@@ -1,8 +1,8 @@
 -- Lists of events, one more at a time.
 use Rattle.std.proofs.Common.{◌≡◌, ℕ, ◌+◌, ◌<◌, ◌≤◌, refl, sym, subst, List, [], ◌∷◌, ◌++◌, length, take, slice_index_or, take_all, Result, Ok, Err, OnErr}
 use Rattle.std.proofs.lemmas.List.{take_more}
-use Rattle.lf_scenario.specs.declared.scenario.Scenario.{Scenario}
-use Rattle.lf_search.specs.States.{State, IsSameState}
+use Rattle.lf_outcome.specs.declared.scenario.Scenario.{Scenario}
+use Rattle.lf_certificate.specs.States.{State, IsSameState}
 use Rattle.lf_book.specs.Drives.{Held, Does, Drives, DrivesSome}
 use Rattle.lf_book.specs.declared.driving.Event.{Event}
 use Rattle.lf_book.specs.declared.driving.Reply.{Reply}

@@ -13,11 +13,11 @@ use Rattle.lf_certificate.specs.Accepted.{IsBounded}
 use Rattle.lf_certificate.specs.Grown.{IsTreeOf}
 use Rattle.lf_marks.specs.Steps as mark
 use Rattle.lf_marks.specs.Nodes as nodes
-use Rattle.lf_search.specs.Closed.{IsClosed, IsFirstMissing, MissesAt}
-use Rattle.lf_search.specs.Events.{IsDone, FindsAnswer, FindsNone}
-use Rattle.lf_search.specs.Levels.{AreAscending, AreAllLeast}
-use Rattle.lf_search.specs.States.{State}
-use Rattle.lf_search.proofs.Laws.{finds_tree, finds_least}
+use Rattle.lf_certificate.specs.Closed.{IsClosed, IsFirstMissing, MissesAt}
+use Rattle.lf_certificate.specs.Events.{IsDone, FindsAnswer, FindsNone}
+use Rattle.lf_certificate.specs.Levels.{AreAscending, AreAllLeast}
+use Rattle.lf_certificate.specs.States.{State}
+use Rattle.lf_certificate.proofs.Laws.{finds_tree, finds_least}
 use Rattle.lf_book.proofs.AgainLemmas.{tree-again, all-least-again}
 use Rattle.lf_book.proofs.StateLemmas.{none-misses, some-misses}
 

@@ -9,18 +9,18 @@ use Rattle.lf_faults.specs.Faults.{set_is_before}
 use Rattle.lf_sim.specs.Runs.{World}
 use Rattle.lf_sim.specs.Settings.{world_of}
 use Rattle.lf_outcome.specs.declared.formula.Formula.{Formula}
-use Rattle.lf_scenario.specs.declared.scenario.Scenario.{Scenario}
-use Rattle.lf_scenario.specs.Sameness.{AreSame}
-use Rattle.lf_scenario.proofs.Laws.{worlds_are_one}
+use Rattle.lf_outcome.specs.declared.scenario.Scenario.{Scenario}
+use Rattle.lf_outcome.specs.Sameness.{AreSame}
+use Rattle.lf_outcome.proofs.Laws.{worlds_are_one}
 use Rattle.lf_marks.specs.Steps.{Mark, IsShape, Answered, GaveBack}
 use Rattle.lf_marks.specs.Steps as mark
-use Rattle.lf_search.specs.Closed.{IsClosed, IsFirstMissing}
-use Rattle.lf_search.specs.Events.{FilesMark, GivesBack, Reclaims, Claims}
-use Rattle.lf_search.specs.Found.{IsFound}
-use Rattle.lf_search.specs.States.{State, KeepsTurn}
-use Rattle.lf_search.specs.Tasks.{Task}
-use Rattle.lf_search.proofs.Laws.{file_closed, file_first, miss_first, miss_before, miss_after}
-use Rattle.lf_search.proofs.Laws.{give_back_closed, give_back_first, reclaim_closed, reclaim_first}
+use Rattle.lf_certificate.specs.Closed.{IsClosed, IsFirstMissing}
+use Rattle.lf_certificate.specs.Events.{FilesMark, GivesBack, Reclaims, Claims}
+use Rattle.lf_certificate.specs.Found.{IsFound}
+use Rattle.lf_certificate.specs.States.{State, KeepsTurn}
+use Rattle.lf_certificate.specs.Tasks.{Task}
+use Rattle.lf_certificate.proofs.Laws.{file_closed, file_first, miss_first, miss_before, miss_after}
+use Rattle.lf_certificate.proofs.Laws.{give_back_closed, give_back_first, reclaim_closed, reclaim_first}
 use Rattle.lf_book.specs.Books.{IsClosedFor, IsRefusedFor, IsClaimOf}
 use Rattle.lf_book.specs.declared.book.Book.{Book}
 use Rattle.lf_book.specs.declared.filing.Refusal.{Refusal}

@@ -14,15 +14,15 @@ use Rattle.lf_outcome.specs.declared.point.Point.{Point}
 use Rattle.lf_cone.specs.Cones.{IsSharp, AreRequired}
 use Rattle.lf_cone.proofs.Laws.{sharp_one, required_one}
 use Rattle.lf_certificate.specs.Grown.{IsReachFor}
-use Rattle.lf_scenario.specs.declared.scenario.Scenario.{Scenario}
-use Rattle.lf_scenario.specs.Sameness.{AreSame}
-use Rattle.lf_scenario.proofs.Laws.{worlds_are_one}
+use Rattle.lf_outcome.specs.declared.scenario.Scenario.{Scenario}
+use Rattle.lf_outcome.specs.Sameness.{AreSame}
+use Rattle.lf_outcome.proofs.Laws.{worlds_are_one}
 use Rattle.lf_marks.specs.Steps.{Mark, Marking, kid_of, kids_beneath}
 use Rattle.lf_marks.specs.Steps as mark
-use Rattle.lf_search.specs.Closed.{IsClosed, IsKnown}
-use Rattle.lf_search.specs.Found.{IsBranch}
-use Rattle.lf_search.specs.States.{State}
-use Rattle.lf_search.specs.Tasks.{Task, root_task, kid_task, edges_in, edges_of_mark, beneath, task_from, task_at}
+use Rattle.lf_certificate.specs.Closed.{IsClosed, IsKnown}
+use Rattle.lf_certificate.specs.Found.{IsBranch}
+use Rattle.lf_certificate.specs.States.{State}
+use Rattle.lf_certificate.specs.Tasks.{Task, root_task, kid_task, edges_in, edges_of_mark, beneath, task_from, task_at}
 use Rattle.lf_book.specs.Books.{IsClosedFor, IsGivenFor}
 use Rattle.lf_book.proofs.SameLemmas.{fault-same}
 

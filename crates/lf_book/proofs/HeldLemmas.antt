@@ -14,16 +14,16 @@ use Rattle.lf_faults.specs.declared.spec.Bounds.{Bounds}
 use Rattle.lf_sim.specs.Runs.{World}
 use Rattle.lf_sim.specs.Settings.{world_of}
 use Rattle.lf_outcome.specs.declared.formula.Formula.{Formula}
-use Rattle.lf_scenario.specs.declared.scenario.Scenario.{Scenario}
+use Rattle.lf_outcome.specs.declared.scenario.Scenario.{Scenario}
 use Rattle.lf_work.specs.declared.job.Job.{Job}
 use Rattle.lf_marks.specs.Steps.{Mark, Marking, IsShape, IsMarked, IsSame, freed, raised}
 use Rattle.lf_marks.specs.Steps as mark
-use Rattle.lf_search.specs.Closed.{IsClosed}
-use Rattle.lf_search.specs.Events.{TakesSet, Claims, FilesMark, GivesBack, Reclaims, GoesDown}
-use Rattle.lf_search.specs.Found.{IsFound}
-use Rattle.lf_search.specs.States.{State, IsSameState}
-use Rattle.lf_search.specs.Tasks.{Task, task_at}
-use Rattle.lf_search.proofs.Laws.{take_tasks, give_back_tasks, reclaim_tasks, file_tasks, down_tasks}
+use Rattle.lf_certificate.specs.Closed.{IsClosed}
+use Rattle.lf_certificate.specs.Events.{TakesSet, Claims, FilesMark, GivesBack, Reclaims, GoesDown}
+use Rattle.lf_certificate.specs.Found.{IsFound}
+use Rattle.lf_certificate.specs.States.{State, IsSameState}
+use Rattle.lf_certificate.specs.Tasks.{Task, task_at}
+use Rattle.lf_certificate.proofs.Laws.{take_tasks, give_back_tasks, reclaim_tasks, file_tasks, down_tasks}
 use Rattle.lf_book.specs.Books.{IsClosedFor, Deepens, task_of_job}
 use Rattle.lf_book.specs.Holding.{IsHeldOf}
 use Rattle.lf_book.specs.declared.deepening.Deepened.{Deepened}

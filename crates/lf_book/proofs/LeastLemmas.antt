@@ -12,7 +12,7 @@ use Rattle.std.proofs.lemmas.List.Sorted.{IsPermutation-keeps, IsPermutation-sym
 use Rattle.lf_faults.specs.declared.fault.Parts.{Parts}
 use Rattle.lf_faults.specs.Faults.{set_is_before}
 use Rattle.lf_faults.proofs.Laws.{cases_sets}
-use Rattle.lf_search.specs.Levels.{AreAscending}
+use Rattle.lf_certificate.specs.Levels.{AreAscending}
 use Rattle.lf_book.specs.Finished.{AreDifferent}
 
 -- where the sets are swapped, the places are

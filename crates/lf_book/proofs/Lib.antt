@@ -13,3 +13,8 @@ mod ReplyLemmas
 mod SameLemmas
 mod StateLemmas
 mod TaskLemmas
+mod BookLemmas
+mod CountedLemmas
+mod FullLemmas
+mod KeepLemmas
+mod TurnLemmas

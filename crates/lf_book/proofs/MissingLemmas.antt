@@ -18,10 +18,10 @@ use Rattle.lf_list.proofs.Laws.{none-in, Contains-first, Contains-more, cases_in
 use Rattle.lf_marks.specs.Counting.{AreThose, IsApart}
 use Rattle.lf_marks.specs.Steps.{Mark, Marking}
 use Rattle.lf_marks.specs.Steps as mark
-use Rattle.lf_search.specs.Closed.{IsClosed, MissesAt}
-use Rattle.lf_search.specs.States.{State}
-use Rattle.lf_search.specs.Tasks.{Task, task_at}
-use Rattle.lf_search.proofs.Laws.{stands_once}
+use Rattle.lf_certificate.specs.Closed.{IsClosed, MissesAt}
+use Rattle.lf_certificate.specs.States.{State}
+use Rattle.lf_certificate.specs.Tasks.{Task, task_at}
+use Rattle.lf_certificate.proofs.Laws.{stands_once}
 use Rattle.lf_book.specs.Finished.{AreDifferent}
 
 -- the set that a path leads to

@@ -8,17 +8,17 @@ use Rattle.std.proofs.lemmas.List.{map-append, take-map, drop-map}
 use Rattle.std.proofs.lemmas.Option.{slice_get-map, slice_get_read}
 use mathlib.Core.Logic.{∥∥₁_elim}
 use Rattle.lf_sim.specs.Settings.{world_of}
-use Rattle.lf_scenario.specs.declared.scenario.Scenario.{Scenario}
-use Rattle.lf_scenario.specs.Sameness.{AreSame}
+use Rattle.lf_outcome.specs.declared.scenario.Scenario.{Scenario}
+use Rattle.lf_outcome.specs.Sameness.{AreSame}
 use Rattle.lf_marks.specs.Answers.{mark_for}
 use Rattle.lf_marks.specs.Steps.{Mark, IsUnmarked}
 use Rattle.lf_marks.specs.Steps as mark
 use Rattle.lf_work.specs.declared.finding.Finding.{Finding}
 use Rattle.lf_work.specs.declared.job.Job.{Job}
 use Rattle.lf_work.specs.Jobs.{IsOfJob}
-use Rattle.lf_search.specs.Events.{FilesMark, GivesBack}
-use Rattle.lf_search.specs.Found.{IsFound}
-use Rattle.lf_search.specs.States.{State, IsSameState}
+use Rattle.lf_certificate.specs.Events.{FilesMark, GivesBack}
+use Rattle.lf_certificate.specs.Found.{IsFound}
+use Rattle.lf_certificate.specs.States.{State, IsSameState}
 use Rattle.lf_book.specs.Books.{scenario_of, state_of, task_of_job, task_of_finding, number_of, IsClaimOf, IsFoundOf, IsRefusedFor}
 use Rattle.lf_book.specs.Drives.{Held, DoesFile, DoesGiveBack, without}
 use Rattle.lf_book.specs.Holding.{IsHeldOf, held_of}

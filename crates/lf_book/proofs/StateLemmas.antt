@@ -18,12 +18,12 @@ use Rattle.lf_marks.specs.Counting.{IsCount, AreCounts}
 use Rattle.lf_marks.specs.Steps.{Mark, Marking, IsShape, IsSame, Took, GaveBack, IsMarked, IsUnmarked}
 use Rattle.lf_marks.specs.Steps as mark
 use Rattle.lf_marks.proofs.Laws.{none-ready, none-claimed}
-use Rattle.lf_search.specs.Closed.{IsClosed, IsFirstMissing, MissesAt}
-use Rattle.lf_search.specs.Events.{TakesSet, IsDone, FindsFull}
-use Rattle.lf_search.specs.Levels.{IsFullAt}
-use Rattle.lf_search.specs.States.{State, IsSameState, last_ticket}
-use Rattle.lf_search.specs.Tasks.{Task, task_at}
-use Rattle.lf_search.proofs.Laws.{take_closed, take_first, task_stands, stands_once, finds_answer, finds_full}
+use Rattle.lf_certificate.specs.Closed.{IsClosed, IsFirstMissing, MissesAt}
+use Rattle.lf_certificate.specs.Events.{TakesSet, IsDone, FindsFull}
+use Rattle.lf_certificate.specs.Levels.{IsFullAt}
+use Rattle.lf_certificate.specs.States.{State, IsSameState, last_ticket}
+use Rattle.lf_certificate.specs.Tasks.{Task, task_at}
+use Rattle.lf_certificate.proofs.Laws.{take_closed, take_first, task_stands, stands_once, finds_answer, finds_full}
 use Rattle.lf_book.specs.Books.{state_of}
 use Rattle.lf_book.specs.declared.book.Book.{Book}
 use Rattle.lf_book.proofs.CountLemmas.{count-most}

@@ -18,9 +18,9 @@ use Rattle.lf_sim.specs.Runs.{World}
 use Rattle.lf_outcome.specs.declared.formula.Formula.{Formula}
 use Rattle.lf_marks.specs.Steps.{Mark, Marking, IsShape, kid_of, kids_beneath}
 use Rattle.lf_marks.specs.Steps as mark
-use Rattle.lf_search.specs.Closed.{IsClosed}
-use Rattle.lf_search.specs.States.{State}
-use Rattle.lf_search.specs.Tasks.{Task, root_task, kid_task, edges_in, beneath, task_from, task_at}
+use Rattle.lf_certificate.specs.Closed.{IsClosed}
+use Rattle.lf_certificate.specs.States.{State}
+use Rattle.lf_certificate.specs.Tasks.{Task, root_task, kid_task, edges_in, beneath, task_from, task_at}
 use Rattle.lf_book.specs.Ways.{LeadsTo, LeadsOn}
 
 -- what is made of something

@@ -5,18 +5,18 @@ use Rattle.lf_marks.specs.Marks.{mark_at, level_of}
 use Rattle.lf_marks.specs.Answers.{mark_for}
 use Rattle.lf_marks.specs.Steps.{Marking, IsMarked, IsUnmarked, kids_above}
 use Rattle.lf_marks.specs.Steps as mark
-use Rattle.lf_scenario.specs.declared.scenario.Scenario.{Scenario}
-use Rattle.lf_scenario.specs.Sameness.{AreSame}
+use Rattle.lf_outcome.specs.declared.scenario.Scenario.{Scenario}
+use Rattle.lf_outcome.specs.Sameness.{AreSame}
 use Rattle.lf_sim.specs.Settings.{world_of}
 use Rattle.lf_work.specs.declared.finding.Finding.{Finding}
 use Rattle.lf_work.specs.declared.job.Job.{Job}
-use Rattle.lf_search.specs.Closed.{IsClosed}
-use Rattle.lf_search.specs.Events.{TakesSet, FindsBusy, FindsLevelDone, FindsFinished, FindsSpent, Claims, FilesMark, GivesBack}
-use Rattle.lf_search.specs.Events.{IsNotDone, FindsAnswer, FindsNone, FindsFull, GoesDown}
-use Rattle.lf_search.specs.Found.{IsFound}
-use Rattle.lf_search.specs.Levels.{IsFullAt}
-use Rattle.lf_search.specs.States.{State}
-use Rattle.lf_search.specs.Tasks.{Task, task_at}
+use Rattle.lf_certificate.specs.Closed.{IsClosed}
+use Rattle.lf_certificate.specs.Events.{TakesSet, FindsBusy, FindsLevelDone, FindsFinished, FindsSpent, Claims, FilesMark, GivesBack}
+use Rattle.lf_certificate.specs.Events.{IsNotDone, FindsAnswer, FindsNone, FindsFull, GoesDown}
+use Rattle.lf_certificate.specs.Found.{IsFound}
+use Rattle.lf_certificate.specs.Levels.{IsFullAt}
+use Rattle.lf_certificate.specs.States.{State}
+use Rattle.lf_certificate.specs.Tasks.{Task, task_at}
 use Rattle.lf_book.specs.declared.book.Book.{Book}
 use Rattle.lf_book.specs.declared.taking.Taken.{Taken}
 use Rattle.lf_book.specs.declared.taking.Taken.TheVariants as taken

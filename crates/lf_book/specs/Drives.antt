@@ -2,12 +2,12 @@
 use Rattle.std.specs.Prelude.{◌≡◌, ◌⊎◌, ℕ, ◌+◌, ◌<◌, List, [], ◌∷◌, ◌++◌, take, drop, length, slice_get, Option, None, Some}
 use Rattle.lf_marks.specs.Steps.{Mark, IsUnmarked}
 use Rattle.lf_marks.specs.Steps as mark
-use Rattle.lf_scenario.specs.declared.scenario.Scenario.{Scenario}
+use Rattle.lf_outcome.specs.declared.scenario.Scenario.{Scenario}
 use Rattle.lf_sim.specs.Settings.{world_of}
-use Rattle.lf_search.specs.Events.{TakesSet, FindsBusy, FindsLevelDone, FindsFinished, FindsSpent, FilesMark, GivesBack, Reclaims}
-use Rattle.lf_search.specs.Found.{IsFound}
-use Rattle.lf_search.specs.States.{State, IsSameState}
-use Rattle.lf_search.specs.Tasks.{Task}
+use Rattle.lf_certificate.specs.Events.{TakesSet, FindsBusy, FindsLevelDone, FindsFinished, FindsSpent, FilesMark, GivesBack, Reclaims}
+use Rattle.lf_certificate.specs.Found.{IsFound}
+use Rattle.lf_certificate.specs.States.{State, IsSameState}
+use Rattle.lf_certificate.specs.Tasks.{Task}
 use Rattle.lf_book.specs.Books.{Deepens}
 use Rattle.lf_book.specs.declared.deepening.Deepened.{Deepened}
 use Rattle.lf_book.specs.declared.driving.Event.{Event}

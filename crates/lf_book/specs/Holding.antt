@@ -3,9 +3,9 @@ use Rattle.std.specs.Prelude.{◌≡◌, ◌<◌}
 use Rattle.std.specs.Arc.{arc_value}
 use Rattle.lf_marks.specs.Steps.{IsMarked}
 use Rattle.lf_marks.specs.Steps as mark
-use Rattle.lf_scenario.specs.declared.scenario.Scenario.{Scenario}
-use Rattle.lf_search.specs.Events.{Claims}
-use Rattle.lf_search.specs.States.{State}
+use Rattle.lf_outcome.specs.declared.scenario.Scenario.{Scenario}
+use Rattle.lf_certificate.specs.Events.{Claims}
+use Rattle.lf_certificate.specs.States.{State}
 use Rattle.lf_work.specs.declared.job.Job.{Job}
 use Rattle.lf_book.specs.Books.{task_of_job}
 use Rattle.lf_book.specs.Drives.{Held}

@@ -3,3 +3,5 @@ pub mod Drives
 pub mod Finished
 pub mod Holding
 pub mod Ways
+pub mod Ends
+pub mod Turns

@@ -2,7 +2,7 @@
 use Rattle.std.specs.Prelude.{◌≡◌, ℕ, ◌+◌, List, ◌++◌, take, Some}
 use Rattle.lf_faults.specs.declared.fault.Parts.{Parts}
 use Rattle.lf_marks.specs.Steps.{Marking}
-use Rattle.lf_search.specs.Tasks.{task_at}
+use Rattle.lf_certificate.specs.Tasks.{task_at}
 
 -- the path leads to these faults
 abbrev pub LeadsTo : Marking → List ℕ → List Parts → Type 0

@@ -6,15 +6,15 @@ ghost use Rattle.lf_certificate.specs.Accepted.{IsAnswer};
 ghost use Rattle.lf_marks.specs.Counting.{AreCounts, IsCount, OfKind};
 ghost use Rattle.lf_marks.specs.Steps as marking;
 ghost use Rattle.lf_marks.specs.Marks.{mark_at, level_of};
-ghost use Rattle.lf_search.specs.Closed.{IsClosed, IsFirstMissing};
-ghost use Rattle.lf_search.specs.States.{last_ticket};
+ghost use Rattle.lf_certificate.specs.Closed.{IsClosed, IsFirstMissing};
+ghost use Rattle.lf_certificate.specs.States.{last_ticket};
 ghost use Rattle.lf_sim.specs.Settings.{world_of};
 
 use crate::facts::{marks_have_shape, scenarios_have_sets};
 use lf_certificate::settings_are_bounded;
 use lf_faults::FaultSet;
 use lf_marks::{Counts, Marks};
-use lf_scenario::Scenario;
+use lf_outcome::Scenario;
 use std::alloc::{AllocError, Global};
 use std::sync::Arc;
 
@@ -41,7 +41,7 @@ pub struct Book {
 
 impl Book {
     ghost use Rattle.lf_book.specs.Books.{scenario_of, state_of, IsClosedFor};
-    ghost use Rattle.lf_search.specs.States.{IsStart};
+    ghost use Rattle.lf_certificate.specs.States.{IsStart};
 
     /// A book of a scenario: the empty set is open, on level 0, and tickets count from 1.
     pub fn begin(alloc: Global, scenario: Arc<Scenario>) -> Result<Book, AllocError>

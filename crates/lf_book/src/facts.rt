@@ -6,7 +6,7 @@ ghost use Rattle.lf_marks.specs.Marks.{mark_at, level_of};
 ghost use Rattle.lf_marks.specs.Steps.{IsShape};
 
 use lf_marks::Marks;
-use lf_scenario::Scenario;
+use lf_outcome::Scenario;
 
 /// Every tree of marks has the shape of one, whatever calls made it.
 pub(crate) fn marks_have_shape(marks: &Marks)

@@ -9,8 +9,8 @@ ghost use Rattle.lf_marks.specs.Answers.{mark_for};
 ghost use Rattle.lf_marks.specs.Marks.{mark_at, level_of};
 ghost use Rattle.lf_marks.specs.Steps.{Answered, GaveBack, Reclaimed, IsMarked, IsShape};
 ghost use Rattle.lf_marks.specs.Steps as marking;
-ghost use Rattle.lf_scenario.specs.Sameness.{AreSame};
-ghost use Rattle.lf_search.specs.Events.{Reclaims};
+ghost use Rattle.lf_outcome.specs.Sameness.{AreSame};
+ghost use Rattle.lf_certificate.specs.Events.{Reclaims};
 ghost use Rattle.lf_work.specs.Jobs.{IsSpentOf};
 
 use crate::book::Book;

@@ -13,8 +13,8 @@ ghost use Rattle.lf_faults.specs.Faults.{set_is_before};
 ghost use Rattle.lf_faults.specs.declared.fault.Parts.{Parts};
 ghost use Rattle.lf_marks.specs.Counting.{OfKind};
 ghost use Rattle.lf_marks.specs.Steps as marking;
-ghost use Rattle.lf_search.specs.Closed.{MissesAt};
-ghost use Rattle.lf_search.specs.Levels.{AreAllLeast, AreAscending};
+ghost use Rattle.lf_certificate.specs.Closed.{MissesAt};
+ghost use Rattle.lf_certificate.specs.Levels.{AreAllLeast, AreAscending};
 ghost use Rattle.lf_sim.specs.Settings.{world_of};
 
 use crate::book::Book;

@@ -6,14 +6,14 @@ ghost use Rattle.lf_book.specs.Books.{scenario_of, state_of, IfNoJob, IsTaken, I
 ghost use Rattle.lf_book.specs.declared.taking.Taken.TheVariants as taken;
 ghost use Rattle.lf_marks.specs.Steps.{IsUnmarked};
 ghost use Rattle.lf_marks.specs.Steps as mark;
-ghost use Rattle.lf_search.specs.States.{last_ticket};
+ghost use Rattle.lf_certificate.specs.States.{last_ticket};
 ghost use Rattle.lf_work.specs.Jobs.{IsSpentOf};
 
 use crate::book::Book;
 use crate::facts::marks_have_shape;
 use lf_faults::Fault;
 use lf_marks::{Claimable, Steps};
-use lf_scenario::Scenario;
+use lf_outcome::Scenario;
 use lf_work::{Job, Spent};
 use std::alloc::AllocError;
 use std::marker::Brand;

@@ -4,7 +4,7 @@ ghost use Rattle.std.specs.Prelude.{◌≡◌, ◌<◌, ◌↔◌, ◌++◌, Lis
 ghost use Rattle.lf_book.specs.Books.{state_of};
 ghost use Rattle.lf_book.specs.Ways.{LeadsTo, LeadsOn};
 ghost use Rattle.lf_faults.specs.declared.fault.Parts.{Parts};
-ghost use Rattle.lf_search.specs.Tasks.{task_at};
+ghost use Rattle.lf_certificate.specs.Tasks.{task_at};
 
 use crate::book::Book;
 use lf_faults::{Fault, FaultSet, with};

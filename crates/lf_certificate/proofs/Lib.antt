@@ -13,3 +13,16 @@ mod PlacesLemmas
 mod ReasonLemmas
 mod TurnsLemmas
 mod VerdictLemmas
+mod ClosedLemmas
+mod CoveringLemmas
+mod DownLemmas
+mod EndLemmas
+mod FiledLemmas
+mod FindLemmas
+mod FirstLemmas
+mod KeptLemmas
+mod OnceLemmas
+mod PathLemmas
+mod TaskLemmas
+mod TreeLemmas
+mod WayLemmas

@@ -4,8 +4,7 @@ use Rattle.std.proofs.Common.{refl, sym, ap, ◌∙◌, subst, arith, inl, inr}
 use Rattle.std.specs.Prelude.{◌⊎◌}
 use Rattle.std.specs.List.{Contains}
 use Rattle.std.proofs.lemmas.Bool.{cases_eq, cases_lt, both_ways, cases_Bool}
-use Rattle.lf_list.proofs.Laws.{none-in, Contains-first, Contains-more, cases_in}
-use Rattle.lf_list.proofs.Laws.{Decided, decide_both, decide_not, decide_is, decide_le, decide_apart}
+use Rattle.lf_list.proofs.Laws.{none-in, Contains-first, Contains-more, cases_in, Decided, decide_both, decide_not, decide_is, decide_le, decide_apart}
 use Rattle.lf_faults.specs.declared.fault.Parts.{Parts}
 use Rattle.lf_faults.specs.declared.spec.Bounds.{Bounds}
 use Rattle.lf_faults.proofs.Laws.{in_or_not, cases_sets, set_not_itself}

@@ -2,3 +2,9 @@ pub mod Accepted
 pub mod Faults
 pub mod Grown
 pub mod Places
+pub mod Closed
+pub mod Events
+pub mod Found
+pub mod Levels
+pub mod States
+pub mod Tasks

@@ -19,7 +19,7 @@ use Rattle.lf_protocols.specs.contracts.machine.ProtocolMachine.TheImpl as machi
 use Rattle.lf_protocols.specs.contracts.state.StatePartialEq.TheImpl as states
 use Rattle.lf_protocols.specs.contracts.note.NotePartialEq.TheImpl as notes
 use Rattle.lf_protocols.specs.contracts.fact.FactPartialEq.TheImpl as facts
-use Rattle.lf_sharing.proofs.Laws.{protocols_cross}
+use Rattle.lf_protocols.proofs.Laws.{protocols_cross}
 use Rattle.lf_tree.proofs.Laws.{nodes_cross}
 use Rattle.lf_check.specs.contracts.failing.FirstFailing as failing
 use Rattle.lf_check.specs.contracts.places.Places as places
@@ -43,7 +43,8 @@ failing_sync = search (crosses, sendable) depth 60 fits 20000
 
 tally_sync : (a : NamedLft) (W : RattleType) → IsSync W → IsSync (tally.the_row a (param 0 W))
 tally_sync a W watches = recorded_sync (tally.the_field a (param 0 W)).row _ _ (tally.the_type a (param 0 W)).to_one
-    (struct_sync (shape (tally.the_type a (param 0 W))) (shr_sync _ _ _ (param_sync 0 W watches), (search (crosses, sendable), (search (crosses, sendable), tt))))
+    (struct_sync (shape (tally.the_type a (param 0 W)))
+    (shr_sync _ _ _ (param_sync 0 W watches), (search (crosses, sendable), (search (crosses, sendable), tt))))
 
 module _ (name : Sym) (W : RattleType) (a b c d e f g h : NamedLft) where
   abbrev rows : List RattleType

@@ -6,7 +6,7 @@ ghost use Rattle.lf_sim.specs.Settings.{world_of};
 
 use crate::rows::judge_rows;
 use crate::{Verdict, judge};
-use lf_scenario::Scenario;
+use lf_outcome::Scenario;
 use lf_tree::Tree;
 use lf_watch::{NoWatch, Watch};
 use std::alloc::{AllocError, Global};

@@ -12,8 +12,7 @@ use crate::node::node_fault;
 use crate::site::{Judged, Site};
 use lf_certificate::Reason;
 use lf_faults::{Fault, FaultSet, with};
-use lf_player::rerun;
-use lf_sim::{Machine, Run, Setting, run};
+use lf_sim::{Machine, Run, Setting, rerun, run};
 use lf_tree::Node;
 use std::alloc::{AllocError, Global};
 

@@ -108,7 +108,8 @@ module _ {State Note Fact : Type 0} (w : World State Note Fact) (faults : List P
       let is = is-admitted (Omit at.0 at.1 t) (subst P at.2 p) in
       omega (arith, at.3, at.4, is.1))
 
-  pub end_senders : (fs : List Parts) (n t : ℕ) → 1 ≤ t → b.nodes ≤ n → n ≤ 8 → Gathered (place_at (sender_row n t) 0) fs → Gathered (place_at (crash_row t) 0) fs
+  pub end_senders : (fs : List Parts) (n t : ℕ) → 1 ≤ t → b.nodes ≤ n → n ≤ 8 → Gathered (place_at (sender_row n t) 0) fs
+      → Gathered (place_at (crash_row t) 0) fs
   end_senders fs n t first past few h =
       gathered-leap P is-fault fs (place_at (sender_row n t) 0) (place_at (crash_row t) 0) (omega arith) h
       (λ f p low high.
@@ -116,7 +117,8 @@ module _ {State Note Fact : Type 0} (w : World State Note Fact) (faults : List P
       let is = is-admitted (Omit at.0 at.1 t) (subst P at.2 p) in
       omega (arith, at.3, at.4, is.0))
 
-  pub skip_omissions : (fs : List Parts) (t : ℕ) → 1 ≤ t → b.last_omission < t → Gathered (place_at (sender_row 0 t) 0) fs → Gathered (place_at (crash_row t) 0) fs
+  pub skip_omissions : (fs : List Parts) (t : ℕ) → 1 ≤ t → b.last_omission < t → Gathered (place_at (sender_row 0 t) 0) fs
+      → Gathered (place_at (crash_row t) 0) fs
   skip_omissions fs t first late h =
       gathered-leap P is-fault fs (place_at (sender_row 0 t) 0) (place_at (crash_row t) 0) (omega arith) h
       (λ f p low high.
@@ -153,7 +155,8 @@ module _ {State Note Fact : Type 0} (w : World State Note Fact) (faults : List P
       let is : P (Pause n t) = subst (λ k. P (Pause k t)) from (subst P at.1 p) in
       none is)
 
-  pub end_pauses : (fs : List Parts) (n t : ℕ) → 1 ≤ t → b.nodes ≤ n → n ≤ 8 → Gathered (place_at (pause_row t) n) fs → Gathered (place_at (sender_row 0 (t + 1)) 0) fs
+  pub end_pauses : (fs : List Parts) (n t : ℕ) → 1 ≤ t → b.nodes ≤ n → n ≤ 8 → Gathered (place_at (pause_row t) n) fs
+      → Gathered (place_at (sender_row 0 (t + 1)) 0) fs
   end_pauses fs n t first past few h =
       gathered-leap P is-fault fs (place_at (pause_row t) n) (place_at (sender_row 0 (t + 1)) 0) (omega arith) h
       (λ f p low high.

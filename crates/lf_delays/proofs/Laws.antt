@@ -1,8 +1,11 @@
 -- What crates above may cite of this one beside its contracts.
 use Rattle.std.proofs.Common.{◌≡◌, ℕ, ◌≤◌, false, List, refl, sym, ap, ◌∙◌, subst}
-use Rattle.lf_arrivals.specs.Answers.{IsOn}
-use Rattle.lf_arrivals.specs.Windows.{under}
+use Rattle.lf_delays.specs.Answers.{IsOn, IsFirstUnder, misses_by}
+use Rattle.lf_delays.specs.Windows.{under}
 use Rattle.lf_faults.specs.declared.fault.Parts.{Parts}
+use Rattle.lf_faults.specs.declared.spec.Bounds.{Bounds}
+use Rattle.lf_layers.specs.Worlds.{IsFirstOver}
+use Rattle.std.specs.Prelude.{Option}
 use Rattle.lf_latency.specs.declared.arrivals.Arrivals.{Arrivals}
 use Rattle.lf_latency.specs.declared.links.Links.{Links}
 use Rattle.lf_latency.specs.declared.network.Timing.{Timing}
@@ -17,9 +20,16 @@ use Rattle.lf_delays.specs.declared.delay.Delay.{Delay}
 use Rattle.lf_delays.specs.Delays.{AreDelays, IsDelay, delayed, named_or}
 use Rattle.lf_delays.specs.Tight.{AreNeeded, IsTight, reaches_by}
 use Rattle.lf_delays.specs.Told.{told}
+use Rattle.lf_delays.proofs.Answering as answering
 use Rattle.lf_delays.proofs.Replaying as replaying
 use Rattle.lf_delays.proofs.Sparing as sparing
 use Rattle.lf_delays.proofs.Tables as tables
+
+-- The first set over all tables is the first over all assignments
+pub from_tables : {State Note Fact : Type 0} (timing : Timing) (b : Bounds) (w : World State Note Fact) (formula : Formula Fact) → IsOn timing w
+    → (answer : Option (List Parts × Arrivals)) → IsFirstOver b (IsArrivals timing) (misses_by w formula) answer
+    → IsFirstUnder timing b w formula answer
+from_tables = answering.from_tables
 
 -- The told delays are delays of the network, and make the same run again
 pub told_are : {State Note Fact : Type 0} (timing : Timing) (w : World State Note Fact) (faults : List Parts) → IsOn timing w → IsAssignment timing w.arrival

@@ -1,3 +1,6 @@
+mod Agreeing
+mod Answering
+pub mod ArrivalLemmas
 mod Below
 pub mod Laws
 mod Late
@@ -7,3 +10,7 @@ mod Replaying
 mod Sparing
 mod Tables
 mod Texts
+mod Leaving
+mod Passing
+mod Tightening
+mod Trying

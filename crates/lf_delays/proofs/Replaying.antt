@@ -3,9 +3,9 @@ use Rattle.std.proofs.Common.{◌≡◌, ◌≢◌, ℕ, ◌<◌, ◌≤◌, tru
 use Rattle.std.specs.Prelude.{Some, if◌then◌else◌}
 use Rattle.std.specs.List.{Contains}
 use Rattle.std.proofs.lemmas.Bool.{cases_lt, false_from_ne_true}
-use Rattle.lf_arrivals.specs.Answers.{IsOn}
-use Rattle.lf_arrivals.specs.Windows.{AgreeUpTo, under}
-use Rattle.lf_arrivals.proofs.Laws.{did_agree, reaches_agree}
+use Rattle.lf_delays.specs.Answers.{IsOn}
+use Rattle.lf_delays.specs.Windows.{AgreeUpTo, under}
+use Rattle.lf_delays.proofs.ArrivalLemmas.{did_agree, reaches_agree}
 use Rattle.lf_faults.specs.declared.fault.Parts.{Parts}
 use Rattle.lf_faults.specs.Faults.{set_omits}
 use Rattle.lf_latency.specs.declared.network.Timing.{Timing}

@@ -3,9 +3,9 @@ use Rattle.std.proofs.Common.{◌≡◌, ◌≢◌, ℕ, ◌<◌, ◌≤◌, tru
 use Rattle.std.specs.Prelude.{◌⊎◌}
 use Rattle.std.specs.List.{Contains}
 use Rattle.std.proofs.lemmas.Bool.{both_ways, cases_Bool, cases_lt}
-use Rattle.lf_arrivals.specs.Answers.{IsOn}
-use Rattle.lf_arrivals.specs.Windows.{under}
-use Rattle.lf_arrivals.proofs.Laws.{reaches_agree, slots_reach}
+use Rattle.lf_delays.specs.Answers.{IsOn}
+use Rattle.lf_delays.specs.Windows.{under}
+use Rattle.lf_delays.proofs.ArrivalLemmas.{reaches_agree, slots_reach}
 use Rattle.lf_faults.specs.declared.fault.Parts.{Parts}
 use Rattle.lf_latency.specs.declared.network.Timing.{Timing}
 use Rattle.lf_latency.specs.Arrivals.{IsSlot, arrival_in, earliest}

@@ -1,5 +1,6 @@
 -- The text of a delay shows which it is, and has no comma.
-use Rattle.std.proofs.Common.{◌≡◌, ◌≢◌, ℕ, zero, suc, ◌+◌, ◌-◌, ◌/◌, ◌%◌, ◌<◌, ◌≤◌, Bool, true, false, not, eqb, ne_eqb, List, [], ◌∷◌, ◌++◌, length, codes, get_or, take, drop}
+use Rattle.std.proofs.Common.{◌≡◌, ◌≢◌, ℕ, zero, suc, ◌+◌, ◌-◌, ◌/◌, ◌%◌, ◌<◌, ◌≤◌, Bool, true, false, not}
+use Rattle.std.proofs.Common.{eqb, ne_eqb, List, [], ◌∷◌, ◌++◌, length, codes, get_or, take, drop}
 use Rattle.std.proofs.Common.{append_assoc, length-append, refl, sym, ap, ◌∙◌, subst, arith, inl, inr, eq-eqb}
 use Rattle.std.specs.Fmt.{decimal}
 use Rattle.std.specs.List.{All, list_all}
@@ -126,7 +127,8 @@ module _ (n m t i j s : ℕ) (m_low : m < 10) (j_low : j < 10) (n_low : n < 10) 
       let step = last_cut 32 (decimal n ++ 62 ∷ decimal m) (decimal i ++ 62 ∷ decimal j) (64 ∷ decimal t) (64 ∷ decimal s)
       (sym (regroup n m t) ∙ same ∙ regroup i j s)
       (lacks_cons 32 64 (decimal t) (λ e. omega (arith, e)) (no_space t t_low)) (lacks_cons 32 64 (decimal s) (λ e. omega (arith, e)) (no_space s s_low)) in
-      let nodes = last_cut 62 (decimal n) (decimal i) (decimal m) (decimal j) step.0 (no_arrow m (omega (arith, m_low))) (no_arrow j (omega (arith, j_low))) in (
+      let nodes =
+      last_cut 62 (decimal n) (decimal i) (decimal m) (decimal j) step.0 (no_arrow m (omega (arith, m_low))) (no_arrow j (omega (arith, j_low))) in (
         decimal_injective n i (omega (arith, n_low)) (omega (arith, i_low)) nodes.0,
         decimal_injective m j (omega (arith, m_low)) (omega (arith, j_low)) nodes.1,
         decimal_injective t s (omega (arith, t_low)) (omega (arith, s_low)) (tails 64 64 (decimal t) (decimal s) step.1),
@@ -190,14 +192,16 @@ module _ (bytes bs : List ℕ) (is : bs ≡ bytes) where
         none d.slot.from d.slot.to d.slot.step short.from short.to short.first short.step
         (ap (take cut) is ∙ (parted d short.at (take cut bytes) (drop (cut + 1) bytes) (sym halves ∙ same) behind).0)
 
-    pub none-stepless : ((u : ℕ) → 1 ≤ u → u < 100 → take (length bs - (cut + 1)) (drop (cut + 1) bs) ≢ decimal u) → (d : Delay) → IsShort d → bytes ≢ delay_text d
+    pub none-stepless : ((u : ℕ) → 1 ≤ u → u < 100 → take (length bs - (cut + 1)) (drop (cut + 1) bs) ≢ decimal u) → (d : Delay)
+        → IsShort d → bytes ≢ delay_text d
     none-stepless none d short same =
         none d.at short.later short.at
         (rest ∙ (parted d short.at (take cut bytes) (drop (cut + 1) bytes) (sym halves ∙ same) behind).1)
 
     -- else the delay of both
     pub both_named : (d : Delay) → (d.slot.from < 10) × (d.slot.to < 10) × (1 ≤ d.slot.step) × (d.slot.step < 100)
-        × (take cut bs ≡ slot_at d.slot.from d.slot.to d.slot.step) → (1 ≤ d.at) × (d.at < 100) × (take (length bs - (cut + 1)) (drop (cut + 1) bs) ≡ decimal d.at)
+        × (take cut bs ≡ slot_at d.slot.from d.slot.to d.slot.step)
+        → (1 ≤ d.at) × (d.at < 100) × (take (length bs - (cut + 1)) (drop (cut + 1) bs) ≡ decimal d.at)
         → IsShort d × (bytes ≡ delay_text d)
     both_named d slot at = (
       record { from = slot.0; to = slot.1; first = slot.2; step = slot.3; later = at.0; at = at.1 },

@@ -1,6 +1,6 @@
 -- Late notes of which none can be spared.
 use Rattle.std.specs.Prelude.{◌≡◌, Bool, true, List, ◌∷◌, ◌++◌}
-use Rattle.lf_arrivals.specs.Windows.{under}
+use Rattle.lf_delays.specs.Windows.{under}
 use Rattle.lf_faults.specs.declared.fault.Parts.{Parts}
 use Rattle.lf_latency.specs.declared.network.Timing.{Timing}
 use Rattle.lf_latency.specs.Arrivals.{arrival_in}

@@ -2,8 +2,8 @@
 
 ghost use Rattle.std.specs.Prelude.{◌≡◌, ◌↔◌, ◌≤◌, ℕ, false, List};
 ghost use Rattle.std.specs.List.{Contains};
-ghost use Rattle.lf_arrivals.specs.Answers.{IsOn};
-ghost use Rattle.lf_arrivals.specs.Windows.{under};
+ghost use Rattle.lf_delays.specs.Answers.{IsOn};
+ghost use Rattle.lf_delays.specs.Windows.{under};
 ghost use Rattle.lf_delays.specs.declared.delay.Delay.{Delay};
 ghost use Rattle.lf_delays.specs.Delays.{AreDelays, delayed, list_text};
 ghost use Rattle.lf_delays.specs.Tight.{AreNeeded, IsTight, reaches_by};

@@ -1,7 +1,7 @@
 -- What crates above may cite of this one beside its contracts: what is read is of its sort where it stands, and how much is left.
 use Rattle.std.proofs.Common.{◌≡◌, suc, ◌≤◌, List, length, Some}
 use Rattle.lf_rules.specs.Sorts.{tree_sort}
-use Rattle.lf_tokens.specs.declared.token.Token.{Token}
+use Rattle.lf_grammar.specs.declared.token.Token.{Token}
 use Rattle.lf_grammar.specs.declared.level.Level.TheVariants as levels
 use Rattle.lf_grammar.specs.Expressions.{Found, All, first_truth, first_sum, steps}
 use Rattle.lf_grammar.specs.Places.{Context}

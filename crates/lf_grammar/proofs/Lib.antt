@@ -1,3 +1,4 @@
+mod PiecesLemmas
 pub mod Laws
 mod Sorted
 mod Steps

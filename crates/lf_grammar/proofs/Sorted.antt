@@ -15,10 +15,10 @@ use Rattle.lf_rules.specs.declared.sort.Sort.TheVariants as sorts
 use Rattle.lf_rules.specs.declared.expr.Leaf.{Leaf}
 use Rattle.lf_rules.specs.declared.expr.Leaf.TheVariants as leaves
 use Rattle.lf_rules.specs.declared.expr.Unary.TheVariants as ones
-use Rattle.lf_tokens.specs.declared.sign.Sign.{Sign}
-use Rattle.lf_tokens.specs.declared.sign.Sign.TheVariants as signs
-use Rattle.lf_tokens.specs.declared.token.Token.{Token}
-use Rattle.lf_tokens.specs.declared.token.Token.TheVariants as tokens
+use Rattle.lf_grammar.specs.declared.sign.Sign.{Sign}
+use Rattle.lf_grammar.specs.declared.sign.Sign.TheVariants as signs
+use Rattle.lf_grammar.specs.declared.token.Token.{Token}
+use Rattle.lf_grammar.specs.declared.token.Token.TheVariants as tokens
 use Rattle.lf_grammar.specs.declared.level.Level.{Level}
 use Rattle.lf_grammar.specs.declared.level.Level.TheVariants as levels
 use Rattle.lf_grammar.specs.declared.level.Joint.{Joint}

@@ -6,9 +6,9 @@ use Rattle.lf_rules.specs.Terms as terms
 use Rattle.lf_rules.specs.declared.expr.Leaf.{Leaf}
 use Rattle.lf_rules.specs.declared.sort.Sort.{Sort}
 use Rattle.lf_rules.specs.declared.expr.Unary.TheVariants as ones
-use Rattle.lf_tokens.specs.declared.sign.Sign.{Sign}
-use Rattle.lf_tokens.specs.declared.sign.Sign.TheVariants as signs
-use Rattle.lf_tokens.specs.declared.token.Token.{Token}
+use Rattle.lf_grammar.specs.declared.sign.Sign.{Sign}
+use Rattle.lf_grammar.specs.declared.sign.Sign.TheVariants as signs
+use Rattle.lf_grammar.specs.declared.token.Token.{Token}
 use Rattle.lf_grammar.specs.declared.typed.Typed.{Typed}
 use Rattle.lf_grammar.specs.declared.error.Unread.{Unread}
 use Rattle.lf_grammar.specs.declared.level.Level.{Level}

@@ -4,9 +4,9 @@ use Rattle.std.specs.Prelude.{if◌then◌else◌}
 use Rattle.lf_rules.specs.Terms as terms
 use Rattle.lf_rules.specs.declared.expr.Unary.{Unary}
 use Rattle.lf_rules.specs.declared.expr.Unary.TheVariants as ones
-use Rattle.lf_tokens.specs.declared.sign.Sign.TheVariants as signs
-use Rattle.lf_tokens.specs.declared.token.Token.{Token}
-use Rattle.lf_tokens.specs.declared.token.Token.TheVariants as tokens
+use Rattle.lf_grammar.specs.declared.sign.Sign.TheVariants as signs
+use Rattle.lf_grammar.specs.declared.token.Token.{Token}
+use Rattle.lf_grammar.specs.declared.token.Token.TheVariants as tokens
 use Rattle.lf_grammar.specs.declared.level.Level.{Level}
 use Rattle.lf_grammar.specs.declared.level.Level.TheVariants as levels
 use Rattle.lf_grammar.specs.declared.level.Joint.{Joint}
@@ -179,7 +179,8 @@ module _ {at : Context} where
       go : (n : ℕ) → suc (s.least + u.least) ≤ n → read at (suc n) (Behind (Called call)) (tokens.Sign signs.OpenRound ∷ ts) ≡ found c rest
       go n h = then-some _ (s.runs n (omega (arith, h))) (second n (omega (arith, h)))
 
-  sure-item : {ts : List Token} {x : Found} {o : Option Found} → IsSure at (All levels.Sum) ts (Some x) → IsSure at (Range x.said) x.rest o → IsSure at Item ts o
+  sure-item : {ts : List Token} {x : Found} {o : Option Found} → IsSure at (All levels.Sum) ts (Some x) → IsSure at (Range x.said) x.rest o
+      → IsSure at Item ts o
   unfolding read
   sure-item a b = step (a.least + b.least) (λ n h. then-some _ (a.runs n (omega (arith, h))) (b.runs n (omega (arith, h))))
 

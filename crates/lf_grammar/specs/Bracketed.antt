@@ -8,9 +8,9 @@ use Rattle.lf_rules.specs.declared.expr.Unary.{Unary}
 use Rattle.lf_rules.specs.declared.expr.Unary.TheVariants as ones
 use Rattle.lf_rules.specs.declared.expr.Binary.{Binary}
 use Rattle.lf_rules.specs.declared.expr.Binary.TheVariants as twos
-use Rattle.lf_tokens.specs.declared.sign.Sign.TheVariants as signs
-use Rattle.lf_tokens.specs.declared.token.Token.{Token}
-use Rattle.lf_tokens.specs.declared.token.Token.TheVariants as tokens
+use Rattle.lf_grammar.specs.declared.sign.Sign.TheVariants as signs
+use Rattle.lf_grammar.specs.declared.token.Token.{Token}
+use Rattle.lf_grammar.specs.declared.token.Token.TheVariants as tokens
 use Rattle.lf_grammar.specs.Expressions.{constant_never_0}
 use Rattle.lf_grammar.specs.Places.{Context, leaf_of}
 

@@ -4,10 +4,10 @@ use Rattle.std.specs.Option.{is_some}
 use Rattle.std.specs.Str.{bytes_eq}
 use Rattle.lf_rules.specs.declared.expr.Unary.TheVariants as ones
 use Rattle.lf_rules.specs.declared.expr.Binary.TheVariants as twos
-use Rattle.lf_tokens.specs.declared.sign.Sign.{Sign}
-use Rattle.lf_tokens.specs.declared.sign.Sign.TheVariants as signs
-use Rattle.lf_tokens.specs.declared.token.Token.{Token}
-use Rattle.lf_tokens.specs.declared.token.Token.TheVariants as tokens
+use Rattle.lf_grammar.specs.declared.sign.Sign.{Sign}
+use Rattle.lf_grammar.specs.declared.sign.Sign.TheVariants as signs
+use Rattle.lf_grammar.specs.declared.token.Token.{Token}
+use Rattle.lf_grammar.specs.declared.token.Token.TheVariants as tokens
 use Rattle.lf_grammar.specs.declared.level.Level.{Level}
 use Rattle.lf_grammar.specs.declared.level.Level.TheVariants as levels
 use Rattle.lf_grammar.specs.declared.level.Joint.{Joint}

@@ -1,3 +1,6 @@
+pub mod Bytes
+pub mod Signs
+pub mod Tokens
 pub mod Expressions
 pub mod Fronts
 pub mod Places

@@ -2,7 +2,7 @@
 use Rattle.std.specs.Prelude.{◌≡◌, ◌≢◌, ◌<◌, ℕ, List, Option, Some, None, Result, MatchResult}
 use Rattle.std.specs.Borrow.{Bor}
 use Rattle.lf_rules.specs.Terms.{term_of}
-use Rattle.lf_tokens.specs.declared.token.Token.{Token}
+use Rattle.lf_grammar.specs.declared.token.Token.{Token}
 use Rattle.lf_grammar.specs.declared.typed.Typed.{Typed}
 use Rattle.lf_grammar.specs.declared.error.Unread.{Unread}
 use Rattle.lf_grammar.specs.declared.error.Unread.TheVariants as faults

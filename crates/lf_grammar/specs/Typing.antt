@@ -11,9 +11,9 @@ use Rattle.lf_rules.specs.declared.expr.Binary.{Binary}
 use Rattle.lf_rules.specs.declared.expr.Binary.TheVariants as twos
 use Rattle.lf_rules.specs.declared.sort.Sort.{Sort}
 use Rattle.lf_rules.specs.declared.sort.Sort.TheVariants as sorts
-use Rattle.lf_tokens.specs.declared.sign.Sign.TheVariants as signs
-use Rattle.lf_tokens.specs.declared.token.Token.{Token}
-use Rattle.lf_tokens.specs.declared.token.Token.TheVariants as tokens
+use Rattle.lf_grammar.specs.declared.sign.Sign.TheVariants as signs
+use Rattle.lf_grammar.specs.declared.token.Token.{Token}
+use Rattle.lf_grammar.specs.declared.token.Token.TheVariants as tokens
 use Rattle.lf_grammar.specs.declared.level.Joint.{Joint}
 use Rattle.lf_grammar.specs.declared.level.Joint.TheVariants as joints
 use Rattle.lf_grammar.specs.declared.calls.Call.{Call}

@@ -10,9 +10,8 @@ use crate::expressions::{Read, read_all};
 use crate::fronts::{behind_sign, ends_item, past_sign};
 use crate::level::Level;
 use crate::typed::{between, how_many, leaf, only};
-use crate::{Place, Typed, Unread};
+use crate::{Place, Sign, Token, Typed, Unread};
 use lf_rules::{Leaf, Sort};
-use lf_tokens::{Sign, Token};
 use std::alloc::Global;
 
 /// Reads a number, a name, what stands in brackets, a set, or a call.

@@ -11,9 +11,8 @@ use crate::expressions::{Read, read_all};
 use crate::fronts::{behind_sign, past_sign};
 use crate::level::Level;
 use crate::typed::by_call;
-use crate::{Place, Typed, Unread};
+use crate::{Place, Sign, Token, Typed, Unread};
 use lf_rules::{Binary, Unary};
-use lf_tokens::{Sign, Token};
 use std::alloc::Global;
 
 /// What is said by a name of values in brackets.

@@ -11,9 +11,8 @@ ghost use Rattle.lf_grammar.specs.Readings.{said, Finds};
 
 use crate::expressions::Read;
 use crate::typed::leaf;
-use crate::{Place, Typed, Unread};
+use crate::{Place, Token, Typed, Unread};
 use lf_rules::{Given, Leaf, Sort, Value};
-use lf_tokens::Token;
 
 /// Reads what a number is divided by.
 pub(crate) fn read_divisor<'t>(place: &Place<'_>, tokens: &'t [Token]) -> Read<'t>

@@ -13,9 +13,8 @@ use crate::divisors::read_divisor;
 use crate::fronts::{behind_comparison, behind_word};
 use crate::level::{Level, behind_joint};
 use crate::typed::{compared, joined, unary};
-use crate::{Place, Typed, Unread};
+use crate::{Place, Token, Typed, Unread};
 use lf_rules::Unary;
-use lf_tokens::Token;
 use std::alloc::Global;
 
 /// What is read, and the tokens behind it.

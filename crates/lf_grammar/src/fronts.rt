@@ -4,8 +4,7 @@ ghost use Rattle.std.specs.Prelude.{◌≡◌, ◌<◌, length, IfSome, IfOk, Ma
 ghost use Rattle.lf_grammar.specs.Fronts.{behind_sign, behind_word, behind_comparison, ends_item};
 ghost use Rattle.lf_grammar.specs.Typing.{compares};
 
-use crate::Unread;
-use lf_tokens::{Sign, Token};
+use crate::{Sign, Token, Unread};
 
 /// The tokens behind a word, where it comes first.
 pub fn behind_word<'t>(tokens: &'t [Token], wanted: &str) -> Option<&'t [Token]>

@@ -3,7 +3,7 @@
 ghost use Rattle.std.specs.Prelude.{◌≡◌, ◌<◌, length, IfSome, MatchOption, Some, None};
 ghost use Rattle.lf_grammar.specs.Fronts.{joint, joining_word, joining_sign, behind_joint};
 
-use lf_tokens::{Sign, Token};
+use crate::{Sign, Token};
 
 /// How strongly operands are joined, from the loosest to the tightest; the items of a set are joined by commas.
 #[derive(Clone, Copy, Debug, PartialEq, Eq)]

@@ -5,7 +5,7 @@ ghost use Rattle.lf_rules.specs.Sorts.{tree_sort};
 ghost use Rattle.lf_rules.specs.Terms.{Term};
 ghost use Rattle.lf_rules.specs.declared.expr.Leaf.{Leaf};
 ghost use Rattle.lf_rules.specs.declared.sort.Sort.{Sort};
-ghost use Rattle.lf_tokens.specs.declared.token.Token.{Token};
+ghost use Rattle.lf_grammar.specs.declared.token.Token.{Token};
 ghost use Rattle.lf_grammar.specs.Bracketed.{bracketed, IsPlain, IsWritable};
 ghost use Rattle.lf_grammar.specs.Expressions.{Next, read, steps, found, first_truth};
 ghost use Rattle.lf_grammar.specs.Places.{Context};

@@ -5,11 +5,10 @@ ghost use Rattle.lf_rules.specs.Terms as terms;
 ghost use Rattle.lf_grammar.specs.Typing.{by_one, by_two, as_set, plus_by, minus_by, compared, joined, by_call, only_by, between, how_many};
 ghost use Rattle.lf_grammar.specs.Readings.{said, said_of, Gives};
 
-use crate::Unread;
 use crate::calls::Call;
 use crate::level::Joint;
+use crate::{Sign, Token, Unread};
 use lf_rules::{Binary, Leaf, Sort, Tree, Unary, binary_sort, unary_sort};
-use lf_tokens::{Sign, Token};
 use std::alloc::Global;
 
 /// An expression, and what it is where it stands.

@@ -1,6 +1,6 @@
 //! Which name is meant by a word that is none.
 
-use lf_near::nearest;
+use lf_words::nearest;
 use std::alloc::{AllocError, Global};
 
 /// The longest word of which only names with the same letters are near, in bytes.

@@ -3,8 +3,9 @@
 use crate::hint::{Hint, Way, Words, item_of};
 use crate::protocols::{fact_words, protocol_named};
 use crate::takes::{at, number_at, numbers, refused, text_at, unfit};
+use lf_outcome::{DEEPEST, MOST_ATOMS};
 use lf_protocols::Protocol;
-use lf_scenario::{DEEPEST, Key, MOST_ATOMS};
+use lf_scenario::Key;
 use toml::{Table, Value};
 
 /// What a formula may speak of.

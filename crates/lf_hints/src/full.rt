@@ -1,7 +1,7 @@
 //! What to do where a level of a search has too many sets.
 
 use crate::hint::{Hint, Words};
-use lf_scenario::MOST_SETS;
+use lf_outcome::MOST_SETS;
 
 /// What a search was to tell.
 #[derive(Clone, Copy, Debug, PartialEq, Eq)]

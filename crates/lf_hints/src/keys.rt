@@ -3,7 +3,7 @@
 use crate::hint::{Hint, LONGEST_LIST, Way, in_quotes, onward};
 use crate::place::line_of;
 use crate::takes::{LINK_KEYS, MOVE, is_one_of, key_names, other_key};
-use lf_near::nearest;
+use lf_words::nearest;
 use std::alloc::{AllocError, Global};
 use toml::Table;
 

@@ -2,7 +2,8 @@
 
 use crate::hint::{Hint, LONGEST_STEP, Quote, Way, Words, in_quotes, item_of, refusal};
 use crate::protocols::outcome_words;
-use lf_scenario::{Key, MOST_SETS};
+use lf_outcome::MOST_SETS;
+use lf_scenario::Key;
 use toml::{Table, Value};
 
 /// All keys of a scenario, in the order in which they are read.

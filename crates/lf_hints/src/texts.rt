@@ -9,7 +9,8 @@ use crate::see::{late_run_command, run_command};
 use crate::takes::at;
 use crate::tree::tree_hint;
 use crate::verdict::verdict_hint as hint_of;
-use lf_scenario::{Key, Scenario, ScenarioError, read};
+use lf_outcome::Scenario;
+use lf_scenario::{Key, ScenarioError, read};
 use lf_tree::{TreeFault, read_tree};
 use std::alloc::{AllocError, Global};
 

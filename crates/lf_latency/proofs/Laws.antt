@@ -4,7 +4,8 @@ use Rattle.std.specs.Prelude.{Option, None, Some}
 use Rattle.lf_latency.specs.declared.arrivals.Arrivals.{Arrivals}
 use Rattle.lf_latency.specs.declared.network.Timing.{Timing}
 use Rattle.lf_latency.specs.Links.{least_of, spread_of}
-use Rattle.lf_latency.specs.Arrivals.{IsTiming, IsSlot, IsInWindow, IsAssignment, IsArrivals, IsPlace, earliest, arrival_in, with_arrival, seeded, chosen_or, arrival_of}
+use Rattle.lf_latency.specs.Arrivals.{IsTiming, IsSlot, IsInWindow, IsAssignment, IsArrivals, IsPlace, earliest}
+use Rattle.lf_latency.specs.Arrivals.{arrival_in, with_arrival, seeded, chosen_or, arrival_of}
 use Rattle.lf_latency.specs.Table.{arrivals_by}
 use Rattle.lf_latency.proofs.Places as places
 
@@ -12,7 +13,8 @@ use Rattle.lf_latency.proofs.Places as places
 pub seeded_assigned : (timing : Timing) → IsAssignment timing (seeded timing)
 seeded_assigned timing n m t slot = (omega arith, omega arith)
 
-chosen_assigned : (timing : Timing) (chosen : Option Arrivals) → timing.chosen ≡ chosen → IsTiming timing → IsAssignment timing (chosen_or (seeded timing) chosen)
+chosen_assigned : (timing : Timing) (chosen : Option Arrivals) → timing.chosen ≡ chosen → IsTiming timing
+    → IsAssignment timing (chosen_or (seeded timing) chosen)
 chosen_assigned timing None is limits = seeded_assigned timing
 chosen_assigned timing (Some arrivals) is limits = (limits.chosen arrivals is).assigned
 

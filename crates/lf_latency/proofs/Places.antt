@@ -125,7 +125,8 @@ arrival-elsewhere arrivals n m t u i j s place other apart =
     get_or-set_other arrivals.steps (place_of n m t) (place_of i j s) u 0 (λ e. apart (places_apart i j s n m t other place e))
 
 -- so a network's table has the arrivals at the places of slots
-pub IsTable-place : (timing : Timing) (arrivals : List ℕ) (n m t : ℕ) (place : ℕ) → IsTable timing arrivals → IsSlot timing n m t → place ≡ (n * 8 + m) * 48 + t - 1
+pub IsTable-place : (timing : Timing) (arrivals : List ℕ) (n m t : ℕ) (place : ℕ) → IsTable timing arrivals → IsSlot timing n m t
+    → place ≡ (n * 8 + m) * 48 + t - 1
     → slice_index arrivals place ≡ arrival_of timing n m t
 IsTable-place timing arrivals n m t place table slot is =
     ap (λ k. slice_index arrivals k) is

@@ -1,5 +1,6 @@
 -- Texts that grow piece by piece.
-use Rattle.std.proofs.Common.{◌≡◌, ℕ, ◌+◌, ◌<◌, ◌≤◌, Bool, true, false, append-nil, length-append, List, [], ◌∷◌, ◌++◌, length, get_or, take, map, cond, refl, sym, ap, ◌∙◌, arith, append_assoc, zero-add}
+use Rattle.std.proofs.Common.{◌≡◌, ℕ, ◌+◌, ◌<◌, ◌≤◌, Bool, true, false, append-nil, length-append, List, [], ◌∷◌, ◌++◌}
+use Rattle.std.proofs.Common.{length, get_or, take, map, cond, refl, sym, ap, ◌∙◌, arith, append_assoc, zero-add}
 use Rattle.std.specs.List.{enumerate_from, filter, join_with_byte, range_with_len}
 use Rattle.std.proofs.lemmas.List.{length-take-le, map-append, map-id, take_all, take_more}
 use Rattle.std.proofs.lemmas.List.FromFn.{filter_of_map_range_with_len_more, get_or-enumerate_from, length-enumerate_from}

@@ -1,5 +1,6 @@
 -- Small letters, character by character and byte by byte.
-use Rattle.std.proofs.Common.{◌≡◌, ℕ, ◌+◌, ◌/◌, ◌%◌, ◌<◌, Bool, true, false, List, [], ◌∷◌, ◌++◌, map, cond, refl, sym, ap, ◌∙◌, arith, append_assoc, append-nil, inl, inr, ltb}
+use Rattle.std.proofs.Common.{◌≡◌, ℕ, ◌+◌, ◌/◌, ◌%◌, ◌<◌, Bool, true, false, List, [], ◌∷◌, ◌++◌, map, cond}
+use Rattle.std.proofs.Common.{refl, sym, ap, ◌∙◌, arith, append_assoc, append-nil, inl, inr, ltb}
 use Rattle.std.specs.Char.{to_ascii_lowercase}
 use Rattle.std.specs.Str.{IsUtf8, chars}
 use Rattle.std.proofs.Math.Utf8.{encode, encodes}
@@ -71,7 +72,8 @@ small_more old text new cs c so next =
     next ∙ ap (λ t. t ++ encode (to_ascii_lowercase c)) so
     ∙ append_assoc old (encodes (map to_ascii_lowercase cs)) (encode (to_ascii_lowercase c))
     ∙ ap (λ bs. old ++ (encodes (map to_ascii_lowercase cs) ++ bs)) (sym (append-nil (encode (to_ascii_lowercase c))))
-    ∙ ap (λ bs. old ++ bs) (sym (ap encodes (map-append to_ascii_lowercase cs (c ∷ [])) ∙ encodes-append (map to_ascii_lowercase cs) (to_ascii_lowercase c ∷ [])))
+    ∙ ap (λ bs. old ++ bs) (sym (ap encodes (map-append to_ascii_lowercase cs (c ∷ []))
+    ∙ encodes-append (map to_ascii_lowercase cs) (to_ascii_lowercase c ∷ [])))
 
 -- and all of them
 pub small_told : (old new name cs : List ℕ) → IsUtf8 name → new ≡ old ++ encodes (map to_ascii_lowercase cs) → map (λ (x : ℕ). x) cs ≡ chars name

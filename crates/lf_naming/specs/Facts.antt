@@ -6,9 +6,9 @@ use Rattle.lf_rules.specs.declared.kind.Kind.{Kind}
 use Rattle.lf_rules.specs.declared.kind.Kind.TheVariants as kinds
 use Rattle.lf_rules.specs.declared.definition.Variable.{Variable}
 use Rattle.lf_rules.specs.declared.definition.Definition.{Definition}
-use Rattle.lf_ruled.specs.declared.fact.Told.{Told}
-use Rattle.lf_ruled.specs.declared.fact.Told.TheVariants as tolds
-use Rattle.lf_ruled.specs.declared.fact.Fact.{Fact}
+use Rattle.lf_rule_machine.specs.declared.fact.Told.{Told}
+use Rattle.lf_rule_machine.specs.declared.fact.Told.TheVariants as tolds
+use Rattle.lf_rule_machine.specs.declared.fact.Fact.{Fact}
 use Rattle.lf_naming.specs.Names.{fact_name}
 
 -- the numbers of so many things; a number is at most 255

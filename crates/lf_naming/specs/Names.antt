@@ -3,9 +3,9 @@ use Rattle.std.specs.Prelude.{ℕ, Bool, true, false, List, [], ◌++◌, codes,
 use Rattle.lf_rules.specs.declared.definition.Guard.{Guard}
 use Rattle.lf_rules.specs.declared.definition.Variable.{Variable}
 use Rattle.lf_rules.specs.declared.definition.Definition.{Definition}
-use Rattle.lf_ruled.specs.declared.fact.Told.{Told}
-use Rattle.lf_ruled.specs.declared.fact.Told.TheVariants as tolds
-use Rattle.lf_ruled.specs.declared.fact.Fact.{Fact}
+use Rattle.lf_rule_machine.specs.declared.fact.Told.{Told}
+use Rattle.lf_rule_machine.specs.declared.fact.Told.TheVariants as tolds
+use Rattle.lf_rule_machine.specs.declared.fact.Fact.{Fact}
 
 -- a name, if there is one
 abbrev pub or_nothing : Option (List ℕ) → List ℕ

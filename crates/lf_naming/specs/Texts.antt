@@ -8,10 +8,10 @@ use Rattle.lf_rules.specs.declared.kind.Kind.TheVariants as kinds
 use Rattle.lf_rules.specs.declared.definition.NoteForm.{NoteForm}
 use Rattle.lf_rules.specs.declared.definition.Variable.{Variable}
 use Rattle.lf_rules.specs.declared.definition.Definition.{Definition}
-use Rattle.lf_meaning.specs.declared.state.State.{State}
-use Rattle.lf_meaning.specs.declared.state.Note.{Note}
-use Rattle.lf_meaning.specs.Sets.{has, is_true}
-use Rattle.lf_meaning.specs.Values.{zero_or}
+use Rattle.lf_rule_machine.specs.declared.state.State.{State}
+use Rattle.lf_rule_machine.specs.declared.state.Note.{Note}
+use Rattle.lf_rule_machine.specs.Sets.{has, is_true}
+use Rattle.lf_rule_machine.specs.Values.{zero_or}
 use Rattle.lf_naming.specs.Names.{not_if, or_nothing, word_name}
 
 -- a truth value

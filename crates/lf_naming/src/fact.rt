@@ -4,7 +4,7 @@ ghost use Rattle.std.specs.Prelude.{◌≡◌, ◌++◌, IfOk, string_bytes};
 ghost use Rattle.lf_naming.specs.Names.{fact_name, told_name};
 
 use crate::names::{guard_name, push_name, variable_name, word_name};
-use lf_ruled::{Fact, Told};
+use lf_rule_machine::{Fact, Told};
 use lf_rules::Definition;
 use std::alloc::AllocError;
 

@@ -6,7 +6,7 @@ ghost use Rattle.lf_naming.specs.Facts.{both, fact_named, facts_of, flag_facts, 
 
 use crate::fact::told_name;
 use crate::names::variable_at;
-use lf_ruled::{Fact, Told};
+use lf_rule_machine::{Fact, Told};
 use lf_rules::{Definition, Kind};
 
 /// The fact with this name. None where there is none.

@@ -2,11 +2,11 @@
 
 ghost use Rattle.std.specs.Prelude.{◌≡◌, ◌++◌, IfOk, map, slice_get, string_bytes};
 ghost use Rattle.std.specs.Char.{to_ascii_lowercase};
-ghost use Rattle.lf_meaning.specs.Values.{zero_or};
+ghost use Rattle.lf_rule_machine.specs.Values.{zero_or};
 ghost use Rattle.lf_naming.specs.Texts.{fields_text, form_text, note_text};
 
 use crate::value::{push_separator, push_value};
-use lf_meaning::Note;
+use lf_rule_machine::Note;
 use lf_rules::{Definition, Kind, NoteForm};
 use std::alloc::AllocError;
 

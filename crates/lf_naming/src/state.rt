@@ -5,7 +5,7 @@ ghost use Rattle.lf_naming.specs.Texts.{shown_text, state_text, variable_text};
 
 use crate::names::{name_at, push_name, variable_at};
 use crate::value::{push_separator, push_value};
-use lf_meaning::{State, item};
+use lf_rule_machine::{State, item};
 use lf_rules::{Definition, Kind, Variable};
 use std::alloc::AllocError;
 

@@ -5,7 +5,7 @@ ghost use Rattle.lf_naming.specs.Texts.{members_text, set_text, truth_text, valu
 ghost use Rattle.lf_naming.specs.Pieces.{before_piece};
 
 use crate::names::word_name;
-use lf_meaning::sets;
+use lf_rule_machine::sets;
 use lf_rules::{Definition, Kind};
 use std::alloc::AllocError;
 

@@ -1,9 +1,9 @@
--- What crates above need of formulas, of their truth and of reaches.
-use Rattle.std.proofs.Common.{◌≡◌, ◌⊎◌, ℕ, ◌+◌, ◌≤◌, Bool, true, false, not, ◌&&◌, List, refl, ap, subst, ◌∙◌, map, max, sum}
-use Rattle.std.specs.Prelude.{nat_le, Some, IfSome, All}
+-- What crates above may cite of this one beside its contracts.
+use Rattle.std.proofs.Common.{◌≡◌, ◌⊎◌, ℕ, ◌+◌, ◌≤◌, Bool, true, false, not, ◌&&◌, List, refl, ap, subst, ◌∙◌, map, max, sum, ◌||◌, sym}
+use Rattle.std.specs.Prelude.{nat_le, Some, IfSome, All, nat_lt}
 use Rattle.std.specs.Option.{is_some}
 use Rattle.std.specs.List.{fold, list_all, list_any}
-use Rattle.std.proofs.lemmas.Bool.{and_parts, and_from, leb-true, false≢true}
+use Rattle.std.proofs.lemmas.Bool.{and_parts, and_from, leb-true, false≢true, ltb-false}
 use Rattle.lf_faults.specs.declared.fault.Parts.{Parts}
 use Rattle.lf_sim.specs.Runs.{World, is_up, view}
 use Rattle.lf_outcome.specs.declared.formula.Formula.{Formula}
@@ -13,6 +13,10 @@ use Rattle.lf_outcome.specs.Evidence.{evidence_of, AreUp, ArePoints, Covers}
 use Rattle.lf_outcome.specs.Measures.{depth_of, atoms_of}
 use Rattle.lf_outcome.specs.Reaches.{reach_at}
 use Rattle.lf_outcome.specs.Truth.{truth, is_down, is_shown, is_shown_where, reaches, reaches_within, counts}
+use Rattle.lf_outcome.specs.declared.scenario.Scenario.{Scenario}
+use Rattle.lf_outcome.specs.Sameness.{AreSame}
+use Rattle.lf_sim.specs.Settings.{world_of}
+use Rattle.lf_outcome.specs.Failing.{down_or_later, fails_by, may_reach, shown_or_later}
 use Rattle.lf_outcome.proofs.EvidenceLemmas.{truth-more}
 use Rattle.lf_outcome.proofs.EvidenceLemmas as evidence
 use Rattle.lf_outcome.proofs.MeasuresLemmas as measures
@@ -125,3 +129,35 @@ module _ {State Note Fact : Type 0} (w : World State Note Fact) (faults : List P
 
 -- formulas may cross threads where their facts may: a set for `search`
 pub ruleset formulas_cross = (formula.crosses)
+
+-- scenarios that are the same run in one world
+pub worlds_are_one : (s t : Scenario) → AreSame s t → world_of s.setting ≡ world_of t.setting
+worlds_are_one s t same = rw (same.protocol, same.network, same.bounds)
+
+-- and of each list of faults they say the same: whether it reaches the outcome
+pub answers_are_one : (s t : Scenario) → AreSame s t → (faults : List Parts)
+    → reaches (world_of s.setting) faults s.formula ≡ reaches (world_of t.setting) faults t.formula
+answers_are_one s t same faults =
+    ap (λ w. reaches w faults s.formula) (worlds_are_one s t same) ∙ ap (reaches (world_of t.setting) faults) same.formula
+
+-- what is true up to a step counts as it does there, or it lies later
+or_later : (later a b : Bool) → (later ≡ false → a ≡ b) → a ≡ true → (later || b) ≡ true
+or_later true a b same is = refl
+or_later false a b same is = sym (same refl) ∙ is
+
+missed : (may is : Bool) → (is ≡ true → may ≡ true) → not may ≡ true → is ≡ false
+missed may false h e = refl
+missed may true h e = absurd (false≢true (sym (ap not (h refl)) ∙ e))
+
+-- a run that is seen to miss an outcome by a step misses it, and so does every other that shows the same up to that step
+pub stays_missed : {State Note Fact : Type 0} (w other : World State Note Fact) (faults others : List Parts) (t : ℕ) (formula : Formula Fact)
+    → fails_by w faults t formula ≡ true
+    → ((n u : ℕ) → u ≤ t → is_down other others n u ≡ is_down w faults n u)
+    → ((n u : ℕ) (fact : Fact) → u ≤ t → is_shown other others n u fact ≡ is_shown w faults n u fact)
+    → reaches other others formula ≡ false
+stays_missed w other faults others t formula fails downs shows =
+    missed (may_reach w faults t formula) (reaches other others formula)
+    (truth-carries (is_down other others) (down_or_later w faults t) (is_shown other others) (shown_or_later w faults t)
+    (λ n u. or_later (nat_lt t u) (is_down other others n u) (is_down w faults n u) (λ early. downs n u (ltb-false t u early)))
+    (λ n u fact. or_later (nat_lt t u) (is_shown other others n u fact) (is_shown w faults n u fact) (λ early. shows n u fact (ltb-false t u early)))
+    formula) fails

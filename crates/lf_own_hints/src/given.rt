@@ -3,8 +3,8 @@
 use crate::known::known_in;
 use crate::names::{at, constants, meant};
 use crate::nodes::nodes_hint;
+use lf_protocol_file::ProtocolFile;
 use lf_rules::{Given, Sort};
-use lf_written::ProtocolFile;
 use std::alloc::{AllocError, Global};
 use toml::{Table, Value};
 

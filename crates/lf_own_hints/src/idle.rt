@@ -1,8 +1,7 @@
 //! Rules that are no node's in a scenario.
 
-use lf_meaning::{fixed_value, sets};
 use lf_protocols::{Kind, Protocol};
-use lf_ruled::Ruled;
+use lf_rule_machine::{Ruled, fixed_value, sets};
 use lf_rules::Chain;
 use lf_sim::Machine;
 use std::alloc::{AllocError, Global};

@@ -2,8 +2,8 @@
 
 use lf_expression_hints::{Class, Known};
 use lf_hint_places::Sort as Shown;
+use lf_protocol_file::ProtocolFile;
 use lf_rules::{Kind, Name, Sort, Variable};
-use lf_written::ProtocolFile;
 use std::alloc::{AllocError, Global};
 
 /// The names of a file that outcomes may use. The error, also below, is that memory has run out.

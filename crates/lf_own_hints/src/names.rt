@@ -1,7 +1,7 @@
 //! Names of a protocol file, in words.
 
-use lf_near::nearest;
-use lf_written::ProtocolFile;
+use lf_protocol_file::ProtocolFile;
+use lf_words::nearest;
 use std::alloc::{AllocError, Global};
 use toml::{Table, Value};
 

@@ -3,13 +3,12 @@
 use crate::known::known_in;
 use crate::names::{at, meant, outcomes, text_at};
 use crate::size::{Size, size_of};
-use lf_grammar::Place as Reading;
+use lf_grammar::{Place as Reading, TokenError, read_tokens};
 use lf_hint_places::{place_of, with_line};
 use lf_promises::{Promise, PromiseError, read_promise};
+use lf_protocol_file::ProtocolFile;
 use lf_rules::Scope;
 use lf_text_hints::{limit_told, outcome_told};
-use lf_tokens::{TokenError, read_tokens};
-use lf_written::ProtocolFile;
 use std::alloc::{AllocError, Global};
 use toml::{Table, Value};
 
@@ -127,7 +126,11 @@ fn atoms_hint(
 ) -> Result<String, AllocError> {
     let (upto, atoms) = (if size.has_sets { "up to " } else { "" }, size.atoms);
     let mut hint = format!(in alloc;
-        "outcome = {text:?}: too large: its formula has {upto}{atoms} atoms, and may have {MOST_ATOMS}. An atom asks one node at one step; there are {nodes} nodes"
+        "outcome = {text:?}: too large: its formula has {upto}{atoms} atoms, and may have {MOST_ATOMS}. "
+    )?;
+    write!(
+        &mut hint,
+        "An atom asks one node at one step; there are {nodes} nodes"
     )?;
     if size.has_steps {
         write!(

@@ -1,9 +1,7 @@
 //! Which rules send the two notes of which one takes the other's place.
 
-use lf_acting::{chosen, go_through};
-use lf_meaning::{Moment, Note, State, value_of};
 use lf_protocols::{Kind, Note as Sent, Protocol, State as Kept};
-use lf_ruled::Ruled;
+use lf_rule_machine::{Moment, Note, Ruled, State, chosen, go_through, value_of};
 use lf_rules::{Definition, Event, Rule};
 use lf_sim::{Machine, Out, Run, Setting, Stepped};
 use std::alloc::{AllocError, Global};

@@ -5,9 +5,8 @@ ghost use Rattle.lf_sim.specs.Settings.{IsRun, world_of};
 use crate::idle::idle_words;
 use crate::replaced::replaced_words;
 use lf_faults::FaultSet;
-use lf_outcome::{Formula, holds};
+use lf_outcome::{Formula, Scenario, holds};
 use lf_protocols::{Fact, Protocol};
-use lf_scenario::Scenario;
 use lf_sim::{Run, Setting, run};
 use std::alloc::{AllocError, Global};
 

@@ -4,8 +4,8 @@ use crate::given::given_hint;
 use crate::names::{meant, outcomes, text_at};
 use crate::outcome::outcome_hint;
 use lf_hints::scenario_hint;
+use lf_protocol_file::ProtocolFile;
 use lf_scenario::{Key, ScenarioError};
-use lf_written::ProtocolFile;
 use std::alloc::{AllocError, Global};
 use toml::Table;
 

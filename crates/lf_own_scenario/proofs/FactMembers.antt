@@ -10,19 +10,19 @@ use Rattle.lf_rules.specs.declared.kind.Kind.{Kind}
 use Rattle.lf_rules.specs.declared.kind.Kind.TheVariants as ranges
 use Rattle.lf_rules.specs.declared.definition.Variable.{Variable}
 use Rattle.lf_rules.specs.declared.definition.Definition.{Definition}
-use Rattle.lf_ruled.specs.declared.fact.Told.{Told}
-use Rattle.lf_ruled.specs.declared.fact.Told.TheVariants as tolds
-use Rattle.lf_ruled.specs.declared.fact.Fact.{Fact as Shown}
-use Rattle.lf_ruled.specs.Instances.{Instance}
+use Rattle.lf_rule_machine.specs.declared.fact.Told.{Told}
+use Rattle.lf_rule_machine.specs.declared.fact.Told.TheVariants as tolds
+use Rattle.lf_rule_machine.specs.declared.fact.Fact.{Fact as Shown}
+use Rattle.lf_rule_machine.specs.Instances.{Instance}
 use Rattle.lf_naming.specs.Facts.{both, numbers, own_words, if_flag, own_flag, guard_facts, word_facts, flag_facts, facts_of}
 use Rattle.lf_protocols.specs.declared.fact.Fact.{Fact}
 use Rattle.lf_protocols.specs.declared.fact.Fact.TheVariants as facts
 use Rattle.lf_protocols.specs.declared.protocol.Kind.TheVariants as kinds
 use Rattle.lf_protocols.specs.Words.{fact_name}
 use Rattle.lf_promises.specs.Facts.{is_number, has_word, is_flag_kind, is_flag, has_told}
-use Rattle.lf_unfolding.specs.Elements.{Member}
-use Rattle.lf_unfolding.proofs.Laws.{any-from, range-from}
-use Rattle.lf_scenario.specs.Formulas.{is_fact_of}
+use Rattle.lf_own_scenario.specs.Elements.{Member}
+use Rattle.lf_own_scenario.proofs.Laws.{any-from, range-from}
+use Rattle.lf_outcome.specs.Formulas.{is_fact_of}
 
 in-left : {X : Type 0} (xs ys : List X) (x : X) → Member xs x → Member (xs ++ ys) x
 in-left [] ys x m = absurd m

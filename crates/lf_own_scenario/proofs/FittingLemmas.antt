@@ -18,12 +18,12 @@ use Rattle.lf_rules.specs.declared.definition.Value.TheVariants as values
 use Rattle.lf_rules.specs.declared.sort.Scope.TheVariants as scopes
 use Rattle.lf_rules.specs.declared.sort.Sort.{Sort}
 use Rattle.lf_rules.specs.declared.sort.Sort.TheVariants as sorts
-use Rattle.lf_ruled.specs.Constants.{is_for, are_given}
-use Rattle.lf_ruled.specs.Machines.{is_machine}
+use Rattle.lf_rule_machine.specs.Constants.{is_for, are_given}
+use Rattle.lf_rule_machine.specs.Machines.{is_machine}
 use Rattle.lf_texts.specs.declared.error.TextError.{TextError}
 use Rattle.lf_texts.specs.Fronts.{text_in}
 use Rattle.lf_texts.specs.Values.{nodes_in}
-use Rattle.lf_written.specs.declared.declared.Declared.{Declared}
+use Rattle.lf_protocol_file.specs.declared.declared.Declared.{Declared}
 use Rattle.lf_scenario.specs.declared.error.ScenarioError.{ScenarioError}
 use Rattle.lf_scenario.specs.declared.error.ScenarioError.TheVariants as refusals
 use Rattle.lf_scenario.specs.declared.key.Key.TheVariants as keys

@@ -6,7 +6,7 @@ use Rattle.std.proofs.lemmas.Bool.{and_parts, and_from, eqb-true, eq-eqb}
 use Rattle.std.proofs.lemmas.List.Folds.{list_all-map}
 use Rattle.lf_faults.specs.declared.fault.Parts.{Parts}
 use Rattle.lf_rules.specs.Terms.{Term}
-use Rattle.lf_ruled.specs.declared.fact.Fact.{Fact as Told}
+use Rattle.lf_rule_machine.specs.declared.fact.Fact.{Fact as Told}
 use Rattle.lf_protocols.specs.declared.fact.Fact.{Fact}
 use Rattle.lf_protocols.specs.declared.note.Note.{Note}
 use Rattle.lf_protocols.specs.declared.state.State.{State}
@@ -25,13 +25,13 @@ use Rattle.lf_promises.specs.declared.promise.Promise.{Promise, fold-roll-Promis
 use Rattle.lf_promises.specs.declared.promise.Promise.TheVariants as promises
 use Rattle.lf_promises.specs.declared.promise.Promise.TheOpen.{Promise-F}
 use Rattle.lf_promises.proofs.Laws.{by_induction}
-use Rattle.lf_unfolding.specs.Elements.{Member}
-use Rattle.lf_unfolding.specs.declared.scene.Scene.{Scene}
-use Rattle.lf_unfolding.specs.Members.{members, others}
-use Rattle.lf_unfolding.specs.Quantities.{ruled, shows, each, any_of, all_but_one, where_any, so_many}
-use Rattle.lf_unfolding.specs.Unfolding.{formula_at}
-use Rattle.lf_unfolding.proofs.Laws.{formula-All, formula-Any, formula-Always, formula-Ever, formula-Nodes, formula-Down}
-use Rattle.lf_unfolding.proofs.Laws.{formula-At, all-from, kept-at, all-flat}
+use Rattle.lf_own_scenario.specs.Elements.{Member}
+use Rattle.lf_own_scenario.specs.declared.scene.Scene.{Scene}
+use Rattle.lf_own_scenario.specs.Members.{members, others}
+use Rattle.lf_own_scenario.specs.Quantities.{ruled, shows, each, any_of, all_but_one, where_any, so_many}
+use Rattle.lf_own_scenario.specs.Unfolding.{formula_at}
+use Rattle.lf_own_scenario.proofs.Laws.{formula-All, formula-Any, formula-Always, formula-Ever, formula-Nodes, formula-Down}
+use Rattle.lf_own_scenario.proofs.Laws.{formula-At, all-from, kept-at, all-flat}
 use Rattle.lf_own_scenario.specs.Kept.{has_fact, has_where_up, are_one, so_many_have, kept_step, is_kept}
 
 -- ---- tests of all elements, and of some

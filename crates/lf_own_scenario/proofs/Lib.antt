@@ -1,3 +1,9 @@
+pub mod Laws
+mod KeepingLemmas
+mod ListLemmas
+mod MemberLemmas
+mod SizeLemmas
+mod UnfoldingLemmas
 mod FactMembers
 mod RangeLemmas
 mod Counts

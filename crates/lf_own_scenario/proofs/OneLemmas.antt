@@ -2,10 +2,10 @@
 use Rattle.std.proofs.Common.{◌≡◌, ℕ, List, sym, ◌∙◌, subst, inl, inr, arith, Ok, Err}
 use Rattle.std.specs.Prelude.{Some}
 use Rattle.toml.specs.Data.{Members}
-use Rattle.lf_written.specs.declared.declared.Declared.{Declared}
+use Rattle.lf_protocol_file.specs.declared.declared.Declared.{Declared}
 use Rattle.lf_scenario.specs.declared.error.ScenarioError.{ScenarioError}
-use Rattle.lf_scenario.specs.declared.scenario.Scenario.{Scenario}
-use Rattle.lf_scenario.specs.Sameness.{AreSame}
+use Rattle.lf_outcome.specs.declared.scenario.Scenario.{Scenario}
+use Rattle.lf_outcome.specs.Sameness.{AreSame}
 use Rattle.lf_scenario.specs.Scenarios.{Asked, IsDocument, IsScenario}
 use Rattle.lf_own_scenario.specs.Scenarios.{IsRefusedWith, IsTextWith, asked_with}
 

@@ -6,9 +6,9 @@ use Rattle.lf_faults.specs.declared.fault.Parts.{Parts}
 use Rattle.lf_faults.specs.declared.spec.Bounds.{Bounds}
 use Rattle.lf_latency.specs.Arrivals.{arrival_of}
 use Rattle.lf_rules.specs.declared.definition.Given.{Given}
-use Rattle.lf_ruled.specs.Constants.{given_table}
+use Rattle.lf_rule_machine.specs.Constants.{given_table}
 use Rattle.lf_protocols.specs.declared.fact.Fact.{Fact}
-use Rattle.lf_ruled.specs.Instances.{Instance}
+use Rattle.lf_rule_machine.specs.Instances.{Instance}
 use Rattle.lf_protocols.specs.declared.note.Note.{Note}
 use Rattle.lf_protocols.specs.declared.state.State.{State}
 use Rattle.lf_protocols.specs.declared.protocol.Kind.{Kind}
@@ -20,13 +20,13 @@ use Rattle.lf_outcome.specs.Measures.{depth_of, atoms_of}
 use Rattle.lf_outcome.specs.Truth.{reaches}
 use Rattle.lf_sim.specs.Settings.{world_of}
 use Rattle.lf_promises.specs.declared.promise.Promise.{Promise}
-use Rattle.lf_unfolding.specs.declared.error.UnfoldError.TheVariants as unfold_refusals
-use Rattle.lf_unfolding.specs.declared.scene.Scene.{Scene}
-use Rattle.lf_unfolding.specs.Unfolding.{formula_at, names_nodes, limited, unfolded}
-use Rattle.lf_written.specs.declared.declared.Declared.{Declared}
+use Rattle.lf_own_scenario.specs.declared.error.UnfoldError.TheVariants as unfold_refusals
+use Rattle.lf_own_scenario.specs.declared.scene.Scene.{Scene}
+use Rattle.lf_own_scenario.specs.Unfolding.{formula_at, names_nodes, limited, unfolded}
+use Rattle.lf_protocol_file.specs.declared.declared.Declared.{Declared}
 use Rattle.lf_scenario.specs.declared.key.Key.TheVariants as keys
 use Rattle.lf_scenario.specs.declared.error.ScenarioError.TheVariants as refusals
-use Rattle.lf_scenario.specs.declared.scenario.Scenario.{Scenario}
+use Rattle.lf_outcome.specs.declared.scenario.Scenario.{Scenario}
 use Rattle.lf_scenario.specs.Keys.{key_name}
 use Rattle.lf_scenario.specs.LinkTables.{all_links}
 use Rattle.lf_scenario.specs.Scenarios.{Asked, IsScenario}

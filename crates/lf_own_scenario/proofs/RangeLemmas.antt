@@ -7,8 +7,8 @@ use Rattle.std.proofs.lemmas.List.Folds.{list_all-map}
 use Rattle.lf_faults.specs.Allowed.{IsInLimits}
 use Rattle.lf_faults.specs.declared.spec.Bounds.{Bounds}
 use Rattle.lf_rules.specs.Terms.{Term}
-use Rattle.lf_ruled.specs.declared.fact.Fact.{Fact as Shown}
-use Rattle.lf_ruled.specs.Instances.{Instance}
+use Rattle.lf_rule_machine.specs.declared.fact.Fact.{Fact as Shown}
+use Rattle.lf_rule_machine.specs.Instances.{Instance}
 use Rattle.lf_protocols.specs.declared.fact.Fact.{Fact}
 use Rattle.lf_protocols.specs.declared.protocol.Kind.{Kind}
 use Rattle.lf_protocols.specs.declared.protocol.Kind.TheVariants as kinds
@@ -25,17 +25,16 @@ use Rattle.lf_promises.specs.declared.promise.Many.TheVariants as manys
 use Rattle.lf_promises.specs.declared.promise.Promise.{Promise}
 use Rattle.lf_promises.specs.Inductions.{Steps}
 use Rattle.lf_promises.proofs.Laws.{by_induction, facts-All, facts-Any, facts-Always, facts-Ever, facts-Nodes, facts-At}
-use Rattle.lf_unfolding.specs.declared.error.UnfoldError.TheVariants as refusals
-use Rattle.lf_unfolding.specs.declared.scene.Scene.{Scene}
-use Rattle.lf_unfolding.specs.Elements.{Member}
-use Rattle.lf_unfolding.specs.Members.{is_in, members, others}
-use Rattle.lf_unfolding.specs.Quantities.{ruled, shows, each, any_of, all_but_one, where_any, so_many}
-use Rattle.lf_unfolding.specs.Unfolding.{formula_at, names_nodes, limited, unfolded}
-use Rattle.lf_unfolding.proofs.Laws.{all-from, kept-at, range-at, all-flat}
-use Rattle.lf_unfolding.proofs.Laws.{formula-All, formula-Any, formula-Always, formula-Ever, formula-Nodes, formula-Down, formula-At}
-use Rattle.lf_unfolding.proofs.Laws.{names-All, names-Any, names-Always, names-Ever, names-Down, names-At}
-use Rattle.lf_scenario.specs.Formulas.{is_point, is_fact_of, range_step, is_in_range, IsFormulaOf}
-use Rattle.lf_scenario.specs.Limits.{deepest, most_atoms}
+use Rattle.lf_own_scenario.specs.declared.error.UnfoldError.TheVariants as refusals
+use Rattle.lf_own_scenario.specs.declared.scene.Scene.{Scene}
+use Rattle.lf_own_scenario.specs.Elements.{Member}
+use Rattle.lf_own_scenario.specs.Members.{is_in, members, others}
+use Rattle.lf_own_scenario.specs.Quantities.{ruled, shows, each, any_of, all_but_one, where_any, so_many}
+use Rattle.lf_own_scenario.specs.Unfolding.{formula_at, names_nodes, limited, unfolded}
+use Rattle.lf_own_scenario.proofs.Laws.{all-from, kept-at, range-at, all-flat, names-All, names-Any, names-Always, names-Ever, names-Down, names-At}
+use Rattle.lf_own_scenario.proofs.Laws.{formula-All, formula-Any, formula-Always, formula-Ever, formula-Nodes, formula-Down, formula-At}
+use Rattle.lf_outcome.specs.Formulas.{is_point, is_fact_of, range_step, is_in_range, IsFormulaOf}
+use Rattle.lf_outcome.specs.Limits.{deepest, most_atoms}
 use Rattle.lf_own_scenario.proofs.FactMembers.{own-fact}
 
 module _ (k : Kind) (nodes horizon : ℕ) where

@@ -6,9 +6,9 @@ use Rattle.lf_rules.specs.declared.definition.Given.{Given}
 use Rattle.lf_protocols.specs.declared.fact.Fact.{Fact}
 use Rattle.lf_protocols.specs.declared.protocol.Kind.{Kind}
 use Rattle.lf_outcome.specs.declared.formula.Formula.{Formula}
-use Rattle.lf_written.specs.declared.declared.Declared.{Declared}
+use Rattle.lf_protocol_file.specs.declared.declared.Declared.{Declared}
 use Rattle.lf_scenario.specs.declared.key.Key.TheVariants as keys
-use Rattle.lf_scenario.specs.declared.scenario.Scenario.{Scenario}
+use Rattle.lf_outcome.specs.declared.scenario.Scenario.{Scenario}
 use Rattle.lf_scenario.specs.LinkTables.{all_links}
 use Rattle.lf_scenario.specs.Scenarios.{IsScenario}
 use Rattle.lf_scenario.specs.Values.{required}

@@ -2,8 +2,8 @@
 use Rattle.std.proofs.Common.{◌≡◌, Bool, List, refl, ap}
 use Rattle.lf_rules.specs.declared.definition.Definition.{Definition}
 use Rattle.lf_rules.specs.declared.definition.Given.{Given}
-use Rattle.lf_ruled.specs.declared.fact.Told.{Told}
-use Rattle.lf_ruled.specs.declared.fact.Told.TheVariants as tolds
+use Rattle.lf_rule_machine.specs.declared.fact.Told.{Told}
+use Rattle.lf_rule_machine.specs.declared.fact.Told.TheVariants as tolds
 use Rattle.lf_promises.specs.Facts.{has_told, facts_step, names_facts}
 use Rattle.lf_promises.specs.declared.promise.Promise.{Promise, fold-Promise}
 use Rattle.lf_promises.specs.declared.promise.Promise.TheOpen.{Promise-F}

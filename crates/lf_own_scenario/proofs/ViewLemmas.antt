@@ -3,10 +3,10 @@ use Rattle.std.proofs.Common.{◌≡◌, ℕ, zero, suc, Bool, true, false, not,
 use Rattle.std.specs.Prelude.{if◌then◌else◌, nat_le}
 use Rattle.lf_faults.specs.declared.fault.Parts.{Parts}
 use Rattle.lf_faults.specs.Faults.{set_wakes}
-use Rattle.lf_meaning.specs.declared.state.State.{State as RuleState}
-use Rattle.lf_ruled.specs.Instances.{Instance}
-use Rattle.lf_ruled.specs.Machines as rules
-use Rattle.lf_ruled.specs.declared.fact.Fact.{Fact as Told}
+use Rattle.lf_rule_machine.specs.declared.state.State.{State as RuleState}
+use Rattle.lf_rule_machine.specs.Instances.{Instance}
+use Rattle.lf_rule_machine.specs.Machines as rules
+use Rattle.lf_rule_machine.specs.declared.fact.Fact.{Fact as Told}
 use Rattle.lf_protocols.specs.declared.fact.Fact.{Fact}
 use Rattle.lf_protocols.specs.declared.note.Note.{Note}
 use Rattle.lf_protocols.specs.declared.state.State.{State}
@@ -19,7 +19,7 @@ use Rattle.lf_sim.specs.declared.out.Stepped.{Stepped}
 use Rattle.lf_sim.specs.Outs.{nothing}
 use Rattle.lf_sim.specs.Runs.{World, Past, is_up, before_step, letters, turn, history, did, view}
 use Rattle.lf_promises.specs.Fronts.{opposite}
-use Rattle.lf_unfolding.specs.Quantities.{ruled}
+use Rattle.lf_own_scenario.specs.Quantities.{ruled}
 
 record IsOwn (s : State) : Type 0 where
   pub own : RuleState

@@ -8,8 +8,8 @@ use Rattle.toml.specs.View.{view}
 use Rattle.toml.specs.declared.value.Value.{Value}
 use Rattle.lf_rules.specs.declared.definition.Constant.{Constant}
 use Rattle.lf_rules.specs.declared.definition.Given.{Given}
-use Rattle.lf_ruled.specs.Constants.{is_for}
-use Rattle.lf_written.specs.declared.declared.Declared.{Declared}
+use Rattle.lf_rule_machine.specs.Constants.{is_for}
+use Rattle.lf_protocol_file.specs.declared.declared.Declared.{Declared}
 use Rattle.lf_scenario.specs.declared.key.Key.TheVariants as keys
 use Rattle.lf_scenario.specs.declared.error.ScenarioError.TheVariants as refusals
 use Rattle.lf_scenario.specs.Keys.{key_name}

@@ -4,10 +4,10 @@ use Rattle.std.specs.List.{list_all, list_any, range_with_len}
 use Rattle.toml.specs.Data.{Members}
 use Rattle.lf_faults.specs.declared.fault.Parts.{Parts}
 use Rattle.lf_rules.specs.declared.definition.Given.{Given}
-use Rattle.lf_meaning.specs.declared.state.State.{State as RuleState}
-use Rattle.lf_ruled.specs.Constants.{given_table}
-use Rattle.lf_ruled.specs.Machines.{is_told}
-use Rattle.lf_ruled.specs.declared.fact.Fact.{Fact as Told}
+use Rattle.lf_rule_machine.specs.declared.state.State.{State as RuleState}
+use Rattle.lf_rule_machine.specs.Constants.{given_table}
+use Rattle.lf_rule_machine.specs.Machines.{is_told}
+use Rattle.lf_rule_machine.specs.declared.fact.Fact.{Fact as Told}
 use Rattle.lf_protocols.specs.declared.fact.Fact.{Fact}
 use Rattle.lf_protocols.specs.declared.note.Note.{Note}
 use Rattle.lf_protocols.specs.declared.state.State.{State}
@@ -19,11 +19,11 @@ use Rattle.lf_promises.specs.declared.promise.Many.{Many}
 use Rattle.lf_promises.specs.declared.promise.Many.TheVariants as manys
 use Rattle.lf_promises.specs.declared.promise.Promise.{Promise, fold-Promise}
 use Rattle.lf_promises.specs.declared.promise.Promise.TheOpen.{Promise-F}
-use Rattle.lf_unfolding.specs.declared.scene.Scene.{Scene}
-use Rattle.lf_unfolding.specs.Members.{members}
-use Rattle.lf_unfolding.specs.Quantities.{ruled}
-use Rattle.lf_written.specs.declared.declared.Declared.{Declared}
-use Rattle.lf_scenario.specs.declared.scenario.Scenario.{Scenario}
+use Rattle.lf_own_scenario.specs.declared.scene.Scene.{Scene}
+use Rattle.lf_own_scenario.specs.Members.{members}
+use Rattle.lf_own_scenario.specs.Quantities.{ruled}
+use Rattle.lf_protocol_file.specs.declared.declared.Declared.{Declared}
+use Rattle.lf_outcome.specs.declared.scenario.Scenario.{Scenario}
 use Rattle.lf_own_scenario.specs.Constants.{given_in}
 use Rattle.lf_own_scenario.specs.Machines.{kind_of}
 use Rattle.lf_own_scenario.specs.Outcomes.{named, said, scene_of}

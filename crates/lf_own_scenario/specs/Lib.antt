@@ -1,3 +1,9 @@
+pub mod Elements
+pub mod Members
+pub mod Quantities
+pub mod Unfolding
+pub mod Sizes
+pub mod Keeping
 pub mod Zeros
 pub mod Keys
 pub mod Values

@@ -8,7 +8,7 @@ use Rattle.lf_rules.specs.declared.definition.Constant.{Constant}
 use Rattle.lf_rules.specs.declared.definition.Definition.{Definition}
 use Rattle.lf_rules.specs.declared.definition.Given.{Given}
 use Rattle.lf_rules.specs.declared.sort.Scope.TheVariants as scopes
-use Rattle.lf_ruled.specs.Constants.{given_table}
+use Rattle.lf_rule_machine.specs.Constants.{given_table}
 use Rattle.lf_grammar.specs.Places.{Context}
 use Rattle.lf_texts.specs.declared.error.TextError.{TextError}
 use Rattle.lf_texts.specs.declared.error.TextError.TheVariants as faults
@@ -17,11 +17,11 @@ use Rattle.lf_promises.specs.declared.promise.Promise.{Promise}
 use Rattle.lf_promises.specs.Promises.{promise_of}
 use Rattle.lf_protocols.specs.declared.fact.Fact.{Fact}
 use Rattle.lf_outcome.specs.declared.formula.Formula.{Formula}
-use Rattle.lf_unfolding.specs.declared.error.UnfoldError.{UnfoldError}
-use Rattle.lf_unfolding.specs.declared.scene.Scene.{Scene}
-use Rattle.lf_unfolding.specs.Unfolding.{unfolded}
-use Rattle.lf_written.specs.declared.declared.Declared.{Declared}
-use Rattle.lf_written.specs.declared.declared.Outcome.{Outcome}
+use Rattle.lf_own_scenario.specs.declared.error.UnfoldError.{UnfoldError}
+use Rattle.lf_own_scenario.specs.declared.scene.Scene.{Scene}
+use Rattle.lf_own_scenario.specs.Unfolding.{unfolded}
+use Rattle.lf_protocol_file.specs.declared.declared.Declared.{Declared}
+use Rattle.lf_protocol_file.specs.declared.declared.Outcome.{Outcome}
 use Rattle.lf_scenario.specs.declared.key.Key.{Key}
 use Rattle.lf_scenario.specs.declared.error.ScenarioError.{ScenarioError}
 use Rattle.lf_scenario.specs.declared.error.ScenarioError.TheVariants as refusals

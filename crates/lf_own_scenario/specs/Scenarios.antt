@@ -2,12 +2,12 @@
 use Rattle.std.specs.Prelude.{◌≡◌, ◌⊎◌, ℕ, ◌<◌, ◌≤◌, List, length, Ok, Err}
 use Rattle.toml.specs.Data.{Members}
 use Rattle.lf_rules.specs.declared.definition.Given.{Given}
-use Rattle.lf_written.specs.declared.declared.Declared.{Declared}
+use Rattle.lf_protocol_file.specs.declared.declared.Declared.{Declared}
 use Rattle.lf_scenario.specs.declared.key.Key.TheVariants as keys
 use Rattle.lf_scenario.specs.declared.error.ScenarioError.{ScenarioError}
 use Rattle.lf_scenario.specs.declared.error.ScenarioError.TheVariants as refusals
 use Rattle.lf_scenario.specs.declared.reading.Described.{Described}
-use Rattle.lf_scenario.specs.declared.scenario.Scenario.{Scenario}
+use Rattle.lf_outcome.specs.declared.scenario.Scenario.{Scenario}
 use Rattle.lf_scenario.specs.Limits.{longest}
 use Rattle.lf_scenario.specs.LinkTables.{all_links}
 use Rattle.lf_scenario.specs.Scenarios.{Asked, IsDocument, IsScenario}

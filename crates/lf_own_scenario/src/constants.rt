@@ -2,17 +2,17 @@
 
 ghost use Rattle.std.specs.Prelude.{◌≡◌, ◌≤◌, true, IfOk};
 ghost use Rattle.toml.specs.View.{table_view};
-ghost use Rattle.lf_ruled.specs.Constants.{is_for};
-ghost use Rattle.lf_ruled.specs.Machines.{is_machine};
+ghost use Rattle.lf_rule_machine.specs.Constants.{is_for};
+ghost use Rattle.lf_rule_machine.specs.Machines.{is_machine};
 ghost use Rattle.lf_own_scenario.specs.Values.{Gives};
 ghost use Rattle.lf_own_scenario.specs.Constants.{seen, is_declared, all_declared, anew, left, constant_at, constants_in, found_in, given_in};
 
 use crate::copying::copied;
 use crate::values::given_anew;
 use crate::zeros::definition_divides;
+use lf_protocol_file::ProtocolFile;
 use lf_rules::{Constant, Given};
 use lf_scenario::{Key, ScenarioError, at};
-use lf_written::ProtocolFile;
 use std::alloc::Global;
 use toml::{Table, Value};
 

@@ -3,9 +3,9 @@
 ghost use Rattle.std.specs.Prelude.{◌≡◌, ℕ, List, Some};
 ghost use Rattle.toml.specs.Data.{Members, string, get_member};
 ghost use Rattle.lf_scenario.specs.declared.key.Key.TheVariants as keys;
-ghost use Rattle.lf_scenario.specs.declared.scenario.Scenario.{Scenario};
+ghost use Rattle.lf_outcome.specs.declared.scenario.Scenario.{Scenario};
 ghost use Rattle.lf_scenario.specs.Keys.{key_name};
-ghost use Rattle.lf_written.specs.declared.declared.Declared.{Declared};
+ghost use Rattle.lf_protocol_file.specs.declared.declared.Declared.{Declared};
 ghost use Rattle.lf_own_scenario.specs.Kept.{IsPromised};
 ghost use Rattle.lf_own_scenario.specs.Scenarios.{IsAskedWith};
 

@@ -2,7 +2,7 @@
 
 ghost use Rattle.std.specs.Prelude.{◌≡◌, ◌≤◌, IfOk};
 ghost use Rattle.toml.specs.View.{view, table_view};
-ghost use Rattle.lf_scenario.specs.Limits.{most_sets};
+ghost use Rattle.lf_outcome.specs.Limits.{most_sets};
 ghost use Rattle.lf_scenario.specs.Ranges.{AreDelays};
 ghost use Rattle.lf_scenario.specs.Values.{required};
 ghost use Rattle.lf_own_scenario.specs.Keys.{is_known, known, bounded_in, named, settled_in};

@@ -6,7 +6,7 @@ ghost use Rattle.toml.specs.View.{table_view};
 ghost use Rattle.lf_scenario.specs.Limits.{longest};
 ghost use Rattle.lf_scenario.specs.Ranges.{IsInRange};
 ghost use Rattle.lf_scenario.specs.Scenarios.{IsDocument};
-ghost use Rattle.lf_ruled.specs.Machines.{is_machine};
+ghost use Rattle.lf_rule_machine.specs.Machines.{is_machine};
 ghost use Rattle.lf_own_scenario.specs.Machines.{kind_of};
 ghost use Rattle.lf_own_scenario.specs.Values.{Gives};
 ghost use Rattle.lf_own_scenario.specs.Scenarios.{chosen_in, asked_with, IsAskedWith, IsRefusedWith, IsTextWith};
@@ -14,11 +14,12 @@ ghost use Rattle.lf_own_scenario.specs.Scenarios.{chosen_in, asked_with, IsAsked
 use crate::constants::given_in;
 use crate::keys::{Bounded, bounded_in, settled_in};
 use crate::outcomes::formula_in;
+use lf_outcome::Scenario;
+use lf_protocol_file::ProtocolFile;
 use lf_protocols::Protocol;
-use lf_ruled::Ruled;
+use lf_rule_machine::Ruled;
 use lf_rules::Given;
-use lf_scenario::{Described, LONGEST, Scenario, ScenarioError, Usual, all_links, assembled};
-use lf_written::ProtocolFile;
+use lf_scenario::{Described, LONGEST, ScenarioError, Usual, all_links, assembled};
 use std::alloc::Global;
 use toml::Table;
 

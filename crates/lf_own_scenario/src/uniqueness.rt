@@ -2,9 +2,9 @@
 
 ghost use Rattle.std.specs.Prelude.{◌≡◌, ℕ, List};
 ghost use Rattle.lf_scenario.specs.declared.error.ScenarioError.{ScenarioError};
-ghost use Rattle.lf_scenario.specs.declared.scenario.Scenario.{Scenario};
-ghost use Rattle.lf_scenario.specs.Sameness.{AreSame};
-ghost use Rattle.lf_written.specs.declared.declared.Declared.{Declared};
+ghost use Rattle.lf_outcome.specs.declared.scenario.Scenario.{Scenario};
+ghost use Rattle.lf_outcome.specs.Sameness.{AreSame};
+ghost use Rattle.lf_protocol_file.specs.declared.declared.Declared.{Declared};
 ghost use Rattle.lf_own_scenario.specs.Scenarios.{IsRefusedWith, IsTextWith};
 
 /// Where a protocol file is known, a text has at most one refusal, and none where it is the text of a scenario.

@@ -6,10 +6,10 @@ ghost use Rattle.lf_own_scenario.specs.Values.{Gives, is_of_sort, all_of_sort, r
 
 use lf_grammar::Place;
 use lf_list::Listed;
+use lf_protocol_file::ProtocolFile;
 use lf_rules::{Given, Scope, Sort};
 use lf_scenario::{Key, ScenarioError};
 use lf_texts::{TextError, read_nodes, text_tokens};
-use lf_written::ProtocolFile;
 use std::alloc::Global;
 use toml::Value;
 

@@ -13,7 +13,7 @@ use Rattle.lf_book.specs.Books.{scenario_of, state_of, task_of_finding, IsClosed
 use Rattle.lf_book.specs.declared.book.Book.{Book}
 use Rattle.lf_book.specs.declared.taking.Taken.{Taken}
 use Rattle.lf_book.specs.declared.taking.Taken.TheVariants as taken
-use Rattle.lf_alone.proofs.Laws.{never_refused}
+use Rattle.lf_book.proofs.Laws.{never_refused, count_one}
 use Rattle.lf_book.specs.declared.filing.Refusal.{Refusal}
 use Rattle.lf_book.specs.declared.deepening.Deepened.{Deepened}
 use Rattle.lf_book.specs.declared.deepening.Deepened.TheVariants as deepened
@@ -23,8 +23,7 @@ use Rattle.lf_pool.specs.declared.locked.hand.Claim.{Claim}
 use Rattle.lf_pool.specs.declared.locked.hand.Found.{Found}
 use Rattle.lf_pool.specs.Holds.{AreFiled, AreGivenBack, AreTaken, IsAnsweredCount, IsBegun, IsBusy, IsFindingClaimed, IsJobClaimed, WasBegun}
 use Rattle.lf_pool.specs.declared.locked.Begun.{Begun}
-use Rattle.lf_scenario.specs.declared.scenario.Scenario.{Scenario}
-use Rattle.lf_book.proofs.Laws.{count_one}
+use Rattle.lf_outcome.specs.declared.scenario.Scenario.{Scenario}
 use Rattle.lf_pool.proofs.CountLemmas.{same-counted, took-counted, back-counted, down-counted, filed-counted}
 
 -- a take answers no set,

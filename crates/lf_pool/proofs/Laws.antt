@@ -1,6 +1,6 @@
 -- What crates above may cite of this one beside its contracts.
 use Rattle.std.proofs.Common.{◌≡◌, ℕ, refl}
-use Rattle.lf_scenario.specs.declared.scenario.Scenario.{Scenario}
+use Rattle.lf_outcome.specs.declared.scenario.Scenario.{Scenario}
 use Rattle.lf_pool.specs.Solved.{AreWorkers, IsRefused, number_of}
 use Rattle.lf_pool.specs.declared.error.PoolError.{PoolError}
 use Rattle.lf_pool.specs.declared.error.PoolError.TheVariants as error

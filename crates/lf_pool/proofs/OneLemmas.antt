@@ -7,13 +7,13 @@ use Rattle.lf_faults.specs.declared.spec.Bounds.{Bounds}
 use Rattle.lf_sim.specs.Runs.{World}
 use Rattle.lf_sim.specs.Settings.{world_of}
 use Rattle.lf_outcome.specs.declared.formula.Formula.{Formula}
-use Rattle.lf_scenario.specs.declared.scenario.Scenario.{Scenario}
+use Rattle.lf_outcome.specs.declared.scenario.Scenario.{Scenario}
 use Rattle.lf_tree.specs.declared.tree.Tree.{Tree}
 use Rattle.lf_certificate.specs.Places.{place_at}
 use Rattle.lf_certificate.proofs.Laws.{tree_one}
 use Rattle.lf_marks.specs.Counting.{IsCount}
-use Rattle.lf_search.specs.Levels.{Grows, IsLevelSize, IsFullAt}
-use Rattle.lf_search.specs.Tasks.{Task, root_task}
+use Rattle.lf_certificate.specs.Levels.{Grows, IsLevelSize, IsFullAt}
+use Rattle.lf_certificate.specs.Tasks.{Task, root_task}
 use Rattle.lf_book.specs.Books.{state_of}
 use Rattle.lf_book.specs.declared.book.Book.{Book}
 use Rattle.lf_pool.specs.Solved.{IsFoundIn, IsFullBook, IsSearched}

@@ -5,7 +5,7 @@ use Rattle.std.specs.Arc.{arc_value}
 use Rattle.std.specs.Prelude.{◌⊎◌, Option, Result, Ok, Err, OnOk, is_err}
 use Rattle.std.specs.List.{All, slice_get}
 use Rattle.std.specs.Option.{option_to_list}
-use Rattle.lf_scenario.specs.declared.scenario.Scenario.{Scenario}
+use Rattle.lf_outcome.specs.declared.scenario.Scenario.{Scenario}
 use Rattle.lf_work.specs.Jobs.{IsOfJob}
 use Rattle.lf_work.specs.Scratches.{IsScratchFor}
 use Rattle.lf_work.specs.declared.scratch.Scratch.{Scratch}

@@ -25,8 +25,8 @@ use Rattle.lf_pool.specs.contracts.locked.hand.Found as found
 use Rattle.lf_pool.specs.contracts.locked.Locked as locked
 use Rattle.lf_pool.specs.contracts.share.Share as share
 use Rattle.lf_pool.specs.contracts.shared.SharedBook as shared
-use Rattle.lf_scenario.specs.contracts.scenario.Scenario as scenario
-use Rattle.lf_sharing.proofs.Laws.{protocols_cross}
+use Rattle.lf_outcome.specs.contracts.scenario.Scenario as scenario
+use Rattle.lf_protocols.proofs.Laws.{protocols_cross}
 use Rattle.lf_tree.proofs.Laws.{nodes_cross}
 use Rattle.lf_work.specs.contracts.finding.Finding as finding
 use Rattle.lf_work.specs.contracts.job.Job as job
@@ -76,7 +76,8 @@ module _ (T : RattleType) (s : searched.Ghosts T.Denot) (l : ledger.Ghosts T.Den
 
   pub shared_sync : IsSync (shared.the_row T s l)
   shared_sync = recorded_sync (shared.the_field T s l).row _ _ (shared.the_type T s l).to_one
-      (struct_sync (shape (shared.the_type T s l)) (mutex.the_sync (locked.the_row T s l) locked_send, (condvar.the_field_sync, (search (crosses, sendable), tt))))
+      (struct_sync (shape (shared.the_type T s l))
+      (mutex.the_sync (locked.the_row T s l) locked_send, (condvar.the_field_sync, (search (crosses, sendable), tt))))
 
   pub share_send : IsSend (share.the_row T s l)
   share_send = recorded_send (share.the_field T s l).row _ _ (share.the_type T s l).to_one

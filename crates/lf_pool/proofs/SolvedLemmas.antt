@@ -4,18 +4,18 @@ use Rattle.std.proofs.Common.{◌≡◌, ℕ, refl, ◌∙◌, true, List}
 use Rattle.std.specs.Prelude.{◌↔◌, Option, IsSome, Result, Ok, Err, IfOk, IfErr}
 use Rattle.lf_faults.specs.declared.fault.Parts.{Parts}
 use Rattle.lf_sim.specs.Settings.{world_of}
-use Rattle.lf_scenario.specs.declared.scenario.Scenario.{Scenario}
-use Rattle.lf_scenario.specs.Sameness.{AreSame}
-use Rattle.lf_scenario.proofs.Laws.{worlds_are_one}
+use Rattle.lf_outcome.specs.declared.scenario.Scenario.{Scenario}
+use Rattle.lf_outcome.specs.Sameness.{AreSame}
+use Rattle.lf_outcome.proofs.Laws.{worlds_are_one}
 use Rattle.lf_tree.specs.declared.tree.Tree.{Tree}
 use Rattle.lf_certificate.specs.Accepted.{IsAccepted, IsBounded}
 use Rattle.lf_certificate.specs.Grown.{IsTreeOf}
 use Rattle.lf_certificate.specs.Places.{place_at}
 use Rattle.lf_marks.specs.Counting.{OfKind}
 use Rattle.lf_marks.specs.Steps as mark
-use Rattle.lf_search.specs.Levels.{IsFullAt}
-use Rattle.lf_search.specs.States.{State}
-use Rattle.lf_search.proofs.Laws.{finds_never_full}
+use Rattle.lf_certificate.specs.Levels.{IsFullAt}
+use Rattle.lf_certificate.specs.States.{State}
+use Rattle.lf_certificate.proofs.Laws.{finds_never_full}
 use Rattle.lf_book.specs.Books.{scenario_of, state_of, IsClosedFor}
 use Rattle.lf_book.specs.declared.book.Book.{Book}
 use Rattle.lf_pool.specs.Holds.{IsAnsweredCount}

@@ -6,12 +6,12 @@ use Rattle.lf_marks.specs.Counting.{IsCount, OfKind}
 use Rattle.lf_marks.specs.Steps as mark
 use Rattle.std.specs.Arc.{arc_value}
 use Rattle.std.specs.List.{All}
-use Rattle.lf_scenario.specs.Sameness.{AreSame}
-use Rattle.lf_scenario.specs.declared.scenario.Scenario.{Scenario}
+use Rattle.lf_outcome.specs.Sameness.{AreSame}
+use Rattle.lf_outcome.specs.declared.scenario.Scenario.{Scenario}
 use Rattle.lf_book.specs.Books.{scenario_of, state_of, task_of_finding, task_of_job, IsTaken, IsDeepened, IsFiled, IsGivenBack, IsClaimOf, IsGivenFor}
 use Rattle.lf_book.specs.declared.book.Book.{Book}
 use Rattle.lf_book.specs.declared.taking.Taken.TheVariants as taken
-use Rattle.lf_search.specs.Events.{FindsBusy}
+use Rattle.lf_certificate.specs.Events.{FindsBusy}
 use Rattle.lf_work.specs.declared.finding.Finding.{Finding}
 use Rattle.lf_work.specs.declared.job.Job.{Job}
 use Rattle.lf_work.specs.declared.scratch.Scratch.{Scratch}

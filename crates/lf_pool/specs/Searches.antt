@@ -2,8 +2,8 @@
 use Rattle.std.specs.Prelude.{◌≡◌, List, Option}
 use Rattle.std.specs.Coded.{Coded, Coded-set, coded_option, Π_prop}
 use Rattle.std.specs.List.{All}
-use Rattle.lf_scenario.specs.declared.scenario.Scenario.{Scenario}
-use Rattle.lf_scenario.specs.contracts.scenario.Scenario as scenario
+use Rattle.lf_outcome.specs.declared.scenario.Scenario.{Scenario}
+use Rattle.lf_outcome.specs.contracts.scenario.Scenario as scenario
 use Rattle.lf_work.specs.declared.spent.Spent.{Spent}
 use Rattle.lf_pool.specs.Holds.{IsLeftIn}
 

@@ -2,15 +2,15 @@
 use Rattle.std.specs.Prelude.{◌≡◌, ℕ, ◌+◌, ◌≤◌, true, List, Option, IsSome}
 use Rattle.lf_faults.specs.declared.fault.Parts.{Parts}
 use Rattle.lf_sim.specs.Settings.{world_of}
-use Rattle.lf_scenario.specs.declared.scenario.Scenario.{Scenario}
-use Rattle.lf_scenario.specs.Sameness.{AreSame}
+use Rattle.lf_outcome.specs.declared.scenario.Scenario.{Scenario}
+use Rattle.lf_outcome.specs.Sameness.{AreSame}
 use Rattle.lf_tree.specs.declared.tree.Tree.{Tree}
 use Rattle.lf_certificate.specs.Accepted.{IsAnswer, IsAccepted}
 use Rattle.lf_certificate.specs.Grown.{IsTreeOf}
 use Rattle.lf_certificate.specs.Places.{place_at}
 use Rattle.lf_marks.specs.Counting.{IsCount}
-use Rattle.lf_search.specs.Events.{FindsFull, FindsSpent}
-use Rattle.lf_search.specs.Levels.{AreAllLeast, IsFullAt}
+use Rattle.lf_certificate.specs.Events.{FindsFull, FindsSpent}
+use Rattle.lf_certificate.specs.Levels.{AreAllLeast, IsFullAt}
 use Rattle.lf_book.specs.Books.{scenario_of, state_of}
 use Rattle.lf_book.specs.declared.book.Book.{Book}
 use Rattle.lf_pool.specs.declared.finish.Ended.{Ended}

@@ -5,8 +5,7 @@ ghost use Rattle.lf_book.specs.Books.{scenario_of};
 ghost use Rattle.lf_pool.specs.Solved.{IsEnded, IsLeft};
 
 use crate::error::PoolError;
-use lf_alone::Stop;
-use lf_book::Book;
+use lf_book::{Book, Stop};
 use std::alloc::Global;
 
 /// How a search ended.
@@ -24,7 +23,7 @@ pub(crate) fn finish(alloc: Global, book: Book) -> Result<Ended, PoolError>
     ensures left { IfErr result (IsLeft (scenario_of book)) }
 {
     let mut book = book;
-    match lf_alone::finish(alloc, &mut book) {
+    match lf_book::finish(alloc, &mut book) {
         Ok(Stop::Finished) => Ok(Ended::Finished(book)),
         Ok(Stop::Full { .. }) => Ok(Ended::Full(book)),
         Ok(Stop::Spent) => Err(PoolError::Spent(book)),

@@ -12,7 +12,7 @@ use crate::handful::handful;
 use crate::searched::Searched;
 use crate::share::Share;
 use lf_book::{Book, Deepened, Refusal, Taken};
-use lf_scenario::Scenario;
+use lf_outcome::Scenario;
 use lf_work::{Finding, Spent};
 use std::alloc::{AllocError, Global};
 use std::snapshot::Snapshot;
@@ -51,10 +51,11 @@ impl<L: Searched> Locked<L> {
     ghost use Rattle.std.specs.List.{All, sum_by};
     ghost use Rattle.lf_book.specs.Books.{state_of, task_of_job, IsGivenBack, IsGivenFor, IsTaken};
     ghost use Rattle.lf_book.specs.declared.taking.Taken.TheVariants as taken;
-    ghost use Rattle.lf_pool.specs.Holds.{AreEnded, AreFiled, AreFindingsIn, AreGivenBack, AreJobsIn, AreTaken, HasGoneOn, IsBegun, IsBusy, IsFindingClaimed, IsFindingIn, IsJobClaimed, IsLeftIn, WasBegun, WasFiled, WasRefused, given_out};
+    ghost use Rattle.lf_pool.specs.Holds.{AreEnded, AreFiled, AreFindingsIn, AreGivenBack, AreJobsIn, AreTaken, HasGoneOn, IsBegun, IsBusy, IsFindingClaimed};
+    ghost use Rattle.lf_pool.specs.Holds.{IsFindingIn, IsJobClaimed, IsLeftIn, WasBegun, WasFiled, WasRefused, given_out};
     ghost use Rattle.lf_pool.specs.declared.locked.Begun.TheVariants as begun;
     ghost use Rattle.lf_pool.specs.declared.handful.TheConstants.{HANDFUL};
-    ghost use Rattle.lf_search.specs.States.{IsStart};
+    ghost use Rattle.lf_certificate.specs.States.{IsStart};
 
     /// A book of the scenario at its start, and nothing filed. The error is that memory has run out.
     pub(crate) fn new(

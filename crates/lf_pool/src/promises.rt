@@ -5,7 +5,7 @@ ghost use Rattle.lf_book.specs.Books.{state_of};
 ghost use Rattle.lf_book.specs.declared.book.Book.{Book};
 ghost use Rattle.lf_faults.specs.declared.fault.Parts.{Parts};
 ghost use Rattle.lf_pool.specs.Solved.{IsFoundIn, IsFullBook};
-ghost use Rattle.lf_scenario.specs.declared.scenario.Scenario.{Scenario};
+ghost use Rattle.lf_outcome.specs.declared.scenario.Scenario.{Scenario};
 ghost use Rattle.lf_tree.specs.declared.tree.Tree.{Tree};
 
 /// What is answered for a scenario is one thing, whoever searched and by however many workers: one answer, one tree and one number of runs; or a

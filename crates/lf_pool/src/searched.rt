@@ -7,7 +7,7 @@ use std::sync::ledger::Ledger;
 /// to be of one scenario, and nothing needs to be compared for it.
 pub trait Searched: Ledger {
     ghost use Rattle.std.specs.Prelude.{Option};
-    ghost use Rattle.lf_scenario.specs.declared.scenario.Scenario.{Scenario};
+    ghost use Rattle.lf_outcome.specs.declared.scenario.Scenario.{Scenario};
 
     ghost scenario: { Option Scenario };
 }

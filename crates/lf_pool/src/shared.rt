@@ -6,7 +6,7 @@ ghost use Rattle.std.specs.List.{All, sum_by};
 ghost use Rattle.lf_book.specs.Books.{scenario_of, state_of};
 ghost use Rattle.lf_pool.specs.Holds.{IsAnsweredCount};
 ghost use Rattle.lf_pool.specs.Solved.{AreWorkers, IsNotBegun};
-ghost use Rattle.lf_search.specs.States.{IsStart};
+ghost use Rattle.lf_certificate.specs.States.{IsStart};
 
 use crate::error::PoolError;
 use crate::locked::Locked;
@@ -14,7 +14,7 @@ use crate::searched::Searched;
 use crate::share::Share;
 use crate::solving::are_workers;
 use lf_book::Book;
-use lf_scenario::Scenario;
+use lf_outcome::Scenario;
 use std::alloc::{AllocError, Global};
 use std::snapshot::Snapshot;
 use std::sync::ledger::Blank;

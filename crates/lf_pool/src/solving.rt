@@ -17,7 +17,7 @@ use crate::shared::SharedBook;
 use crate::turning::{Turn, is_last};
 use lf_book::Book;
 use lf_faults::FaultSet;
-use lf_scenario::Scenario;
+use lf_outcome::Scenario;
 use lf_tree::Tree;
 use std::alloc::{AllocError, Global};
 use std::marker::Brand;

@@ -2,7 +2,7 @@
 
 ghost use Rattle.std.specs.Prelude.{◌≡◌, ◌≢◌, ◌+◌, Option, Ok, IfOk, IsTrue};
 ghost use Rattle.lf_pool.specs.Holds.{IsBusy, IsLastTurn, IsTurn, WasBegun};
-ghost use Rattle.lf_scenario.specs.declared.scenario.Scenario.{Scenario};
+ghost use Rattle.lf_outcome.specs.declared.scenario.Scenario.{Scenario};
 ghost use Rattle.std.specs.Sync.Mutex.{mutex_guard_value};
 ghost use Rattle.lf_pool.specs.declared.locked.Begun.TheVariants as begun;
 ghost use Rattle.lf_pool.specs.declared.turning.Turn.TheVariants as turn;

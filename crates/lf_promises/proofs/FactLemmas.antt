@@ -11,13 +11,13 @@ use Rattle.lf_rules.specs.declared.kind.Kind.{Kind}
 use Rattle.lf_rules.specs.declared.kind.Kind.TheVariants as kinds
 use Rattle.lf_rules.specs.declared.definition.Variable.{Variable}
 use Rattle.lf_rules.specs.declared.definition.Definition.{Definition}
-use Rattle.lf_ruled.specs.declared.fact.Told.{Told}
-use Rattle.lf_ruled.specs.declared.fact.Told.TheVariants as tolds
-use Rattle.lf_ruled.specs.declared.fact.Fact.{Fact}
+use Rattle.lf_rule_machine.specs.declared.fact.Told.{Told}
+use Rattle.lf_rule_machine.specs.declared.fact.Told.TheVariants as tolds
+use Rattle.lf_rule_machine.specs.declared.fact.Fact.{Fact}
 use Rattle.lf_naming.specs.Facts.{both, own_words, if_flag, own_flag, guard_facts, word_facts, flag_facts, facts_of, has_name}
-use Rattle.lf_tokens.specs.declared.sign.Sign.TheVariants as signs
-use Rattle.lf_tokens.specs.declared.token.Token.{Token}
-use Rattle.lf_tokens.specs.declared.token.Token.TheVariants as tokens
+use Rattle.lf_grammar.specs.declared.sign.Sign.TheVariants as signs
+use Rattle.lf_grammar.specs.declared.token.Token.{Token}
+use Rattle.lf_grammar.specs.declared.token.Token.TheVariants as tokens
 use Rattle.lf_grammar.specs.Places.{Context}
 use Rattle.lf_grammar.specs.Typing.{◌>>=◌}
 use Rattle.lf_grammar.specs.Fronts.{behind_word, behind_sign}

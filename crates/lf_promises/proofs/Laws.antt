@@ -3,11 +3,11 @@ use Rattle.std.proofs.Common.{◌≡◌, ℕ, true, List, Option, Some}
 use Rattle.std.specs.List.{list_all}
 use Rattle.lf_rules.specs.Terms.{Term}
 use Rattle.lf_rules.specs.declared.definition.Definition.{Definition}
-use Rattle.lf_ruled.specs.declared.fact.Fact.{Fact}
+use Rattle.lf_rule_machine.specs.declared.fact.Fact.{Fact}
 use Rattle.lf_promises.specs.declared.promise.Many.{Many}
 use Rattle.lf_promises.specs.declared.promise.Promise.{Promise}
 use Rattle.lf_promises.specs.declared.promise.Promise.TheVariants as promises
-use Rattle.lf_tokens.specs.declared.token.Token.{Token}
+use Rattle.lf_grammar.specs.declared.token.Token.{Token}
 use Rattle.lf_grammar.specs.Places.{Context}
 use Rattle.lf_promises.specs.Facts.{has_told, names_facts}
 use Rattle.lf_promises.specs.Inductions.{Steps}

@@ -5,10 +5,10 @@ use Rattle.std.specs.Prelude.{if◌then◌else◌, nat_lt}
 use Rattle.std.specs.Str.{bytes_eq}
 use Rattle.std.proofs.lemmas.Option.{none-some}
 use Rattle.lf_rules.specs.Terms.{Term}
-use Rattle.lf_tokens.specs.declared.sign.Sign.{Sign}
-use Rattle.lf_tokens.specs.declared.sign.Sign.TheVariants as signs
-use Rattle.lf_tokens.specs.declared.token.Token.{Token}
-use Rattle.lf_tokens.specs.declared.token.Token.TheVariants as tokens
+use Rattle.lf_grammar.specs.declared.sign.Sign.{Sign}
+use Rattle.lf_grammar.specs.declared.sign.Sign.TheVariants as signs
+use Rattle.lf_grammar.specs.declared.token.Token.{Token}
+use Rattle.lf_grammar.specs.declared.token.Token.TheVariants as tokens
 use Rattle.lf_grammar.specs.Places.{Context}
 use Rattle.lf_grammar.specs.Typing.{◌>>=◌, as_set}
 use Rattle.lf_grammar.specs.Fronts.{behind_word, behind_sign, same_sign}

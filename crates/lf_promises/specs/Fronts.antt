@@ -1,10 +1,10 @@
 -- What a unit of a promise begins with.
 use Rattle.std.specs.Prelude.{ℕ, not, nat_lt, List, ◌∷◌, Option, Some, None, codes, if◌then◌else◌}
 use Rattle.lf_rules.specs.declared.definition.Definition.{Definition}
-use Rattle.lf_ruled.specs.declared.fact.Fact.{Fact}
+use Rattle.lf_rule_machine.specs.declared.fact.Fact.{Fact}
 use Rattle.lf_naming.specs.Facts.{fact_named}
-use Rattle.lf_tokens.specs.declared.token.Token.{Token}
-use Rattle.lf_tokens.specs.declared.token.Token.TheVariants as tokens
+use Rattle.lf_grammar.specs.declared.token.Token.{Token}
+use Rattle.lf_grammar.specs.declared.token.Token.TheVariants as tokens
 use Rattle.lf_grammar.specs.Typing.{◌>>=◌}
 use Rattle.lf_grammar.specs.Fronts.{behind_word}
 use Rattle.lf_grammar.specs.Expressions.{cases_of}

@@ -1,7 +1,7 @@
 -- What tokens are as a promise: the grammar, read from the left with one token of foresight.
 use Rattle.std.specs.Prelude.{◌+◌, ◌*◌, ℕ, zero, suc, Bool, true, false, List, [], ◌∷◌, ◌++◌, length, codes, Option, Some, None}
-use Rattle.lf_tokens.specs.declared.sign.Sign.TheVariants as signs
-use Rattle.lf_tokens.specs.declared.token.Token.{Token}
+use Rattle.lf_grammar.specs.declared.sign.Sign.TheVariants as signs
+use Rattle.lf_grammar.specs.declared.token.Token.{Token}
 use Rattle.lf_grammar.specs.Places.{Context}
 use Rattle.lf_grammar.specs.Typing.{◌>>=◌}
 use Rattle.lf_grammar.specs.Fronts.{behind_word, behind_sign}

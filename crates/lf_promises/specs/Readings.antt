@@ -1,7 +1,7 @@
 -- What the reader's calls say.
 use Rattle.std.specs.Prelude.{◌≡◌, ◌≢◌, ◌<◌, ℕ, Bool, List, Option, Some, None, Result, MatchResult, MatchOption}
 use Rattle.std.specs.Borrow.{Bor}
-use Rattle.lf_tokens.specs.declared.token.Token.{Token}
+use Rattle.lf_grammar.specs.declared.token.Token.{Token}
 use Rattle.lf_grammar.specs.declared.error.Unread.{Unread}
 use Rattle.lf_grammar.specs.declared.error.Unread.TheVariants as faults
 use Rattle.lf_grammar.specs.Places.{Context}

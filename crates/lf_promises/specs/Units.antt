@@ -4,7 +4,7 @@ use Rattle.lf_rules.specs.Terms.{Term}
 use Rattle.lf_rules.specs.Trees.{parts}
 use Rattle.lf_rules.specs.declared.sort.Sort.{Sort}
 use Rattle.lf_rules.specs.declared.sort.Sort.TheVariants as sorts
-use Rattle.lf_tokens.specs.declared.token.Token.{Token}
+use Rattle.lf_grammar.specs.declared.token.Token.{Token}
 use Rattle.lf_grammar.specs.Places.{Context}
 use Rattle.lf_grammar.specs.Typing.{Said, ◌>>=◌, as_set}
 use Rattle.lf_grammar.specs.Fronts.{behind_word}

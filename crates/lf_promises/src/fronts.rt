@@ -5,11 +5,10 @@ ghost use Rattle.lf_promises.specs.Fronts.{behind_time, behind_many, behind_at_m
 ghost use Rattle.lf_promises.specs.Readings.{Begins, Finds};
 
 use crate::Many;
-use lf_grammar::{Unread, behind_word};
+use lf_grammar::{Token, Unread, behind_word};
 use lf_naming::fact_named;
-use lf_ruled::Fact;
+use lf_rule_machine::Fact;
 use lf_rules::Definition;
-use lf_tokens::Token;
 
 /// Of which steps a unit speaks.
 #[derive(Clone, Copy, Debug, PartialEq, Eq)]

@@ -6,7 +6,7 @@ ghost use Rattle.std.specs.Option.{option_copied};
 ghost use Rattle.lf_promises.specs.Facts.{has_told, has_word, is_flag, is_number, names_facts};
 
 use crate::Promise;
-use lf_ruled::Told;
+use lf_rule_machine::Told;
 use lf_rules::{Definition, Kind, Variable};
 
 /// Whether each fact that a promise names is one of the definition's, denied or not.

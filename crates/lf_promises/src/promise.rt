@@ -1,7 +1,7 @@
 //! Promises.
 
 use lf_list::Listed;
-use lf_ruled::Fact;
+use lf_rule_machine::Fact;
 use lf_rules::Expr;
 
 /// What a protocol promises, as it is written. It is kept at the last step of a run, or at other steps where it says so.

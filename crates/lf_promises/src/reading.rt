@@ -9,9 +9,8 @@ ghost use Rattle.lf_promises.specs.Readings.{Reads};
 use crate::fronts::{Time, behind_time};
 use crate::units::read_unit;
 use crate::{Promise, PromiseError};
-use lf_grammar::{Place, Unread, behind_sign, behind_word, past_sign};
+use lf_grammar::{Place, Sign, Token, Unread, behind_sign, behind_word, past_sign};
 use lf_list::Listed;
-use lf_tokens::{Sign, Token};
 use std::alloc::Global;
 
 /// What is read, and the tokens behind it.

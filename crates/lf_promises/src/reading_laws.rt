@@ -1,7 +1,7 @@
 //! What the grammar of promises promises of all tokens: a law, the contract of a call that computes nothing.
 
 ghost use Rattle.std.specs.Prelude.{◌≡◌, ◌<◌, ℕ, Bool, List};
-ghost use Rattle.lf_tokens.specs.declared.token.Token.{Token};
+ghost use Rattle.lf_grammar.specs.declared.token.Token.{Token};
 ghost use Rattle.lf_grammar.specs.Places.{Context};
 ghost use Rattle.lf_promises.specs.Promises.{Next, read, steps};
 

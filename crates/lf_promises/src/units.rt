@@ -9,9 +9,8 @@ ghost use Rattle.lf_promises.specs.Readings.{Finds, Gives};
 use crate::fronts::{behind_many, read_fact, read_node};
 use crate::reading::Read;
 use crate::{Many, Promise};
-use lf_grammar::{Place, Typed, Unread, as_set, behind_word, read_sum};
+use lf_grammar::{Place, Token, Typed, Unread, as_set, behind_word, read_sum};
 use lf_rules::{Expr, Sort};
-use lf_tokens::Token;
 use std::alloc::Global;
 
 /// Reads a unit that has no other promise in it.

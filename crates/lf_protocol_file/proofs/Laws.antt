@@ -2,8 +2,8 @@
 use Rattle.std.proofs.Common.{◌≡◌, ℕ, List, sym, ◌∙◌, subst, inl, inr, arith, Ok, Err}
 use Rattle.std.specs.Prelude.{Some}
 use Rattle.toml.specs.Data.{Members}
-use Rattle.lf_document.specs.declared.error.ProtocolError.{ProtocolError}
-use Rattle.lf_written.specs.declared.declared.Declared.{Declared}
+use Rattle.lf_protocol_file.specs.declared.error.ProtocolError.{ProtocolError}
+use Rattle.lf_protocol_file.specs.declared.declared.Declared.{Declared}
 use Rattle.lf_protocol_file.specs.Files.{IsDocument, IsRefused, IsText, file_in}
 
 -- a text has one list of members

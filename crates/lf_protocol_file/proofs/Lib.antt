@@ -1,9 +1,11 @@
+pub mod Counts
+mod WordsLemmas
 pub mod Laws
 mod Growing
 mod Readings
 mod Sounding
 mod VariableKinds
-mod Constants
+mod ConstantLemmas
 mod Stages
 mod RuleStages
 mod SectionLemmas

@@ -15,26 +15,26 @@ use Rattle.lf_rules.specs.declared.rule.Event.{Event}
 use Rattle.lf_rules.specs.declared.rule.Event.TheVariants as events
 use Rattle.lf_rules.specs.declared.rule.Rule.{Rule}
 use Rattle.lf_taken.specs.Readings.{all_rules}
-use Rattle.lf_document.specs.declared.error.ProtocolError.TheVariants as refusals
-use Rattle.lf_document.specs.declared.fault.Fault.TheVariants as faults
-use Rattle.lf_document.specs.declared.path.Path.TheVariants as paths
-use Rattle.lf_document.specs.declared.section.Listing.{Listing}
-use Rattle.lf_document.specs.declared.section.Listing.TheVariants as listings
-use Rattle.lf_document.specs.declared.section.Naming.TheVariants as namings
-use Rattle.lf_document.specs.declared.section.Part.TheVariants as parts
-use Rattle.lf_document.specs.declared.section.Section.TheVariants as sections
-use Rattle.lf_document.specs.Readings.{Reading, ◌>>=◌, located, wanted, checked}
-use Rattle.lf_document.specs.Texts.{count_items, tokens_in}
+use Rattle.lf_protocol_file.specs.declared.error.ProtocolError.TheVariants as refusals
+use Rattle.lf_protocol_file.specs.declared.fault.Fault.TheVariants as faults
+use Rattle.lf_protocol_file.specs.declared.path.Path.TheVariants as paths
+use Rattle.lf_protocol_file.specs.declared.section.Listing.{Listing}
+use Rattle.lf_protocol_file.specs.declared.section.Listing.TheVariants as listings
+use Rattle.lf_protocol_file.specs.declared.section.Naming.TheVariants as namings
+use Rattle.lf_protocol_file.specs.declared.section.Part.TheVariants as parts
+use Rattle.lf_protocol_file.specs.declared.section.Section.TheVariants as sections
+use Rattle.lf_protocol_file.specs.Readings.{Reading, ◌>>=◌, located, wanted, checked}
+use Rattle.lf_protocol_file.specs.Texts.{count_items, tokens_in}
 use Rattle.lf_texts.specs.Names.{is_name}
 use Rattle.lf_promises.specs.Promises.{promise_of}
 use Rattle.lf_rules.specs.declared.sort.Scope.TheVariants as scopes
-use Rattle.lf_draft.specs.declared.draft.Begun.{Begun}
-use Rattle.lf_draft.specs.declared.draft.Draft.{Draft}
-use Rattle.lf_draft.specs.declared.draft.Who.{Who}
-use Rattle.lf_draft.specs.Drafts.{place_in}
-use Rattle.lf_draft.specs.Named as named
-use Rattle.lf_draft.specs.Named.{and_outcome, with_outcome, variable_named, shown_once, and_shown, with_shown}
-use Rattle.lf_written.specs.declared.declared.Declared.{Declared}
+use Rattle.lf_protocol_file.specs.declared.draft.Begun.{Begun}
+use Rattle.lf_protocol_file.specs.declared.draft.Draft.{Draft}
+use Rattle.lf_protocol_file.specs.declared.draft.Who.{Who}
+use Rattle.lf_protocol_file.specs.Drafts.{place_in}
+use Rattle.lf_protocol_file.specs.Named as named
+use Rattle.lf_protocol_file.specs.Named.{and_outcome, with_outcome, variable_named, shown_once, and_shown, with_shown}
+use Rattle.lf_protocol_file.specs.declared.declared.Declared.{Declared}
 use Rattle.lf_protocol_file.specs.Chains.{same_event, same_text, goes_on, chain_of, with_chain, with_last_chain, continued}
 use Rattle.lf_protocol_file.specs.Entries.{with_naming, with_item, with_items, is_fit_list, with_list, listing_at, with_listing}
 use Rattle.lf_protocol_file.specs.Files.{known_sections, name_in, declared_in, shown_by, with_trace, declared_by, file_in}
@@ -173,7 +173,8 @@ spoken-rule d number ms =
     assoc (known_parts number ms) _ _ ∙ onward (known_parts number ms) (λ known.
     assoc (located (paths.Part number parts.Who) (who_in d ms)) _ _ ∙ onward (located (paths.Part number parts.Who) (who_in d ms)) (λ who.
     assoc (located (paths.Part number parts.On) (heard_in d ms)) _ _ ∙ onward (located (paths.Part number parts.On) (heard_in d ms)) (λ heard.
-    assoc (located (paths.Part number parts.When) (condition_in d who heard ms)) _ _ ∙ onward (located (paths.Part number parts.When) (condition_in d who heard ms)) (λ when.
+    assoc (located (paths.Part number parts.When) (condition_in d who heard ms)) _ _ ∙ onward
+    (located (paths.Part number parts.When) (condition_in d who heard ms)) (λ when.
     assoc (located (paths.Part number parts.Set) (changes_in d heard ms)) _ _ ∙ onward (located (paths.Part number parts.Set) (changes_in d heard ms)) (λ sets.
     assoc (located (paths.Part number parts.Send) (letters_in d heard ms)) _ _)))))
 
@@ -188,7 +189,8 @@ spoken-else d number ms s h so =
     let sets = step-inv (located (paths.Part number parts.Set) (changes_in d heard.0 ms)) _ when.2 in
     let sends = step-inv (located (paths.Part number parts.Send) (letters_in d heard.0 ms)) _ sets.2 in
     let fits = condition-fits d who.0 heard.0 ms when.0 (located-inv (paths.Part number parts.When) (condition_in d who.0 heard.0 ms) when.0 when.1) in
-    let made : Spoken = record { who = who.0; on = heard.0.on; is_else = when.0.is_else; rule = record { guard = when.0.guard; sets = sets.0; sends = sends.0 } } in
+    let made : Spoken =
+    record { who = who.0; on = heard.0.on; is_else = when.0.is_else; rule = record { guard = when.0.guard; sets = sets.0; sends = sends.0 } } in
     let same : made ≡ s = cc in
     subst (λ (z : Spoken). z.is_else ≡ true → goes_on d.begun z.who z.on ≡ true) same fits.else_under so
 
@@ -233,7 +235,8 @@ items-spoken above d i (item x xs) e stands h =
     let more = step-inv (rule_in d (i + 1) x) (λ more. with_items listings.Rules more (i + 1) xs) h in
     let one = item-spoken d (i + 1) x more.0 more.1 in
     let s = one.spoken in
-    let read : with_items listings.Rules (with_spoken s d) (i + 1) xs ≡ Ok e = subst (λ z. with_items listings.Rules z (i + 1) xs ≡ Ok e) (sym one.made) more.2 in
+    let read : with_items listings.Rules (with_spoken s d) (i + 1) xs ≡ Ok e =
+    subst (λ z. with_items listings.Rules z (i + 1) xs ≡ Ok e) (sym one.made) more.2 in
     let put = spoken-one s above d d.begun s.is_else refl refl stands one.under in
     let rest = items-spoken (nodes_of above s) (with_spoken s d) (i + 1) xs e put.under read in
     let own : Placed = record { nodes = nodes_of above s; on = s.on; rule = s.rule } in

@@ -1,8 +1,8 @@
 -- What stood before, where something is read.
 use Rattle.std.proofs.Common.{◌≡◌, Bool, true, false, cond, Option, Some, None, Result, Ok, Err, refl, ap}
 use Rattle.lf_texts.specs.declared.error.TextError.{TextError}
-use Rattle.lf_document.specs.declared.path.Path.{Path}
-use Rattle.lf_document.specs.Readings.{Valued, ◌>>=◌, as_value, located, wanted, checked}
+use Rattle.lf_protocol_file.specs.declared.path.Path.{Path}
+use Rattle.lf_protocol_file.specs.Readings.{Valued, ◌>>=◌, as_value, located, wanted, checked}
 
 pub step-inv : {A B E : Type 0} {y : B} (r : Result A E) (next : A → Result B E) → (r >>= next) ≡ Ok y → (x : A) × (r ≡ Ok x) × (next x ≡ Ok y)
 step-inv (Err e) next h = absurd cc

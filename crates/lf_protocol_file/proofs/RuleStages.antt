@@ -20,7 +20,7 @@ use Rattle.lf_rules.specs.declared.rule.Send.{Send}
 use Rattle.lf_rules.specs.declared.sort.Scope.TheVariants as scopes
 use Rattle.lf_rules.specs.declared.sort.Sort.TheVariants as sorts
 use Rattle.lf_rules.specs.declared.definition.Definition.{Definition}
-use Rattle.lf_tokens.specs.declared.token.Token.{Token}
+use Rattle.lf_grammar.specs.declared.token.Token.{Token}
 use Rattle.lf_texts.specs.declared.events.Heard.{Heard}
 use Rattle.lf_texts.specs.declared.values.When.{When}
 use Rattle.lf_texts.specs.Assignments.{sets_in}
@@ -28,14 +28,14 @@ use Rattle.lf_texts.specs.Events.{event_in}
 use Rattle.lf_texts.specs.Sends.{sends_in}
 use Rattle.lf_texts.specs.Values.{nodes_in, when_in}
 use Rattle.lf_texts.proofs.Laws.{nodes-sorted, when-sorted, event-fits, sets-fit, sends-fit}
-use Rattle.lf_document.specs.declared.fault.Fault.TheVariants as faults
-use Rattle.lf_document.specs.declared.path.Path.TheVariants as paths
-use Rattle.lf_document.specs.declared.section.Part.TheVariants as parts
-use Rattle.lf_document.specs.Readings.{◌>>=◌, as_value, located}
-use Rattle.lf_draft.specs.declared.draft.Begun.{Begun}
-use Rattle.lf_draft.specs.declared.draft.Draft.{Draft}
-use Rattle.lf_draft.specs.declared.draft.Who.{Who}
-use Rattle.lf_draft.specs.Drafts.{place_in}
+use Rattle.lf_protocol_file.specs.declared.fault.Fault.TheVariants as faults
+use Rattle.lf_protocol_file.specs.declared.path.Path.TheVariants as paths
+use Rattle.lf_protocol_file.specs.declared.section.Part.TheVariants as parts
+use Rattle.lf_protocol_file.specs.Readings.{◌>>=◌, as_value, located}
+use Rattle.lf_protocol_file.specs.declared.draft.Begun.{Begun}
+use Rattle.lf_protocol_file.specs.declared.draft.Draft.{Draft}
+use Rattle.lf_protocol_file.specs.declared.draft.Who.{Who}
+use Rattle.lf_protocol_file.specs.Drafts.{place_in}
 use Rattle.lf_protocol_file.specs.Chains.{same_event, same_text, goes_on, chain_of, and_chain, with_chain, with_begun, longer, begins, continued, with_rule}
 use Rattle.lf_protocol_file.specs.Chains.{with_last_chain}
 use Rattle.lf_protocol_file.specs.RuleParts.{known_parts, part_tokens, who_by, who_in, heard_by, heard_in, under, when_by, condition_in, sets_by, changes_in}

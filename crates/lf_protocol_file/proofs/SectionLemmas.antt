@@ -4,17 +4,19 @@ use Rattle.std.proofs.Common.{Option, Some, None, Ok, Err, refl, subst, arith}
 use Rattle.std.specs.Prelude.{nat_le}
 use Rattle.std.proofs.lemmas.Bool.{and_parts, leb-true}
 use Rattle.toml.specs.Data.{Data, string, integer, float, boolean, datetime, array, table, Items, no_items, item, Members, no_members, member, get_member}
-use Rattle.lf_document.specs.declared.error.ProtocolError.TheVariants as refusals
-use Rattle.lf_document.specs.declared.path.Path.TheVariants as paths
-use Rattle.lf_document.specs.declared.section.Listing.{Listing}
-use Rattle.lf_document.specs.declared.section.Naming.{Naming}
-use Rattle.lf_document.specs.declared.section.Naming.TheVariants as namings
-use Rattle.lf_document.specs.declared.section.Section.TheVariants as sections
-use Rattle.lf_document.specs.Refusals.{shown}
-use Rattle.lf_document.specs.Sections.{naming_name, naming_is_needed, fewest_entries, most_entries, listing_name, listing_is_needed, fewest_items, most_items}
-use Rattle.lf_document.specs.Texts.{count_items, count_members}
-use Rattle.lf_draft.specs.declared.draft.Draft.{Draft}
-use Rattle.lf_protocol_file.specs.Entries.{entered, with_entry, with_entries, is_fit_table, with_table, naming_at, with_naming, with_item, with_items, is_fit_list}
+use Rattle.lf_protocol_file.specs.declared.error.ProtocolError.TheVariants as refusals
+use Rattle.lf_protocol_file.specs.declared.path.Path.TheVariants as paths
+use Rattle.lf_protocol_file.specs.declared.section.Listing.{Listing}
+use Rattle.lf_protocol_file.specs.declared.section.Naming.{Naming}
+use Rattle.lf_protocol_file.specs.declared.section.Naming.TheVariants as namings
+use Rattle.lf_protocol_file.specs.declared.section.Section.TheVariants as sections
+use Rattle.lf_protocol_file.specs.Refusals.{shown}
+use Rattle.lf_protocol_file.specs.Sections.{naming_name, naming_is_needed, fewest_entries, most_entries}
+use Rattle.lf_protocol_file.specs.Sections.{listing_name, listing_is_needed, fewest_items, most_items}
+use Rattle.lf_protocol_file.specs.Texts.{count_items, count_members}
+use Rattle.lf_protocol_file.specs.declared.draft.Draft.{Draft}
+use Rattle.lf_protocol_file.specs.Entries.{entered, with_entry, with_entries, is_fit_table, with_table, naming_at}
+use Rattle.lf_protocol_file.specs.Entries.{with_naming, with_item, with_items, is_fit_list}
 use Rattle.lf_protocol_file.specs.Entries.{with_list, listing_at, with_listing}
 use Rattle.lf_protocol_file.proofs.Readings.{step-inv, located-inv, through}
 

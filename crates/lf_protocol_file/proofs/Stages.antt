@@ -20,18 +20,18 @@ use Rattle.lf_texts.specs.Forms.{note_in}
 use Rattle.lf_texts.specs.Values.{value_in, guard_in}
 use Rattle.lf_texts.specs.Variables.{variable_in}
 use Rattle.lf_texts.proofs.Laws.{note-fits, value-sorted, guard-sorted}
-use Rattle.lf_document.specs.Readings.{◌>>=◌, as_value}
-use Rattle.lf_document.specs.Texts.{tokens_in}
-use Rattle.lf_written.specs.declared.declared.Outcome.{Outcome}
-use Rattle.lf_draft.specs.declared.draft.Begun.{Begun}
-use Rattle.lf_draft.specs.declared.draft.Draft.{Draft}
-use Rattle.lf_draft.specs.declared.variables.Sketch.{Sketch}
-use Rattle.lf_draft.specs.Constants.{given_sort, given_in}
-use Rattle.lf_draft.specs.Constants.{with_given, with_constant}
-use Rattle.lf_draft.specs.Drafts.{place_in, check_new, with_name, number_after}
-use Rattle.lf_draft.specs.Named.{and_note, and_let, and_fact, with_note, let_in, with_let, fact_in, with_fact}
-use Rattle.lf_draft.specs.Variables.{held_in, with_words, with_words_of, with_held, with_text, with_sketch, variables_behind, settled, with_variables}
-use Rattle.lf_protocol_file.proofs.Constants.{given-fits}
+use Rattle.lf_protocol_file.specs.Readings.{◌>>=◌, as_value}
+use Rattle.lf_protocol_file.specs.Texts.{tokens_in}
+use Rattle.lf_protocol_file.specs.declared.declared.Outcome.{Outcome}
+use Rattle.lf_protocol_file.specs.declared.draft.Begun.{Begun}
+use Rattle.lf_protocol_file.specs.declared.draft.Draft.{Draft}
+use Rattle.lf_protocol_file.specs.declared.variables.Sketch.{Sketch}
+use Rattle.lf_protocol_file.specs.Constants.{given_sort, given_in}
+use Rattle.lf_protocol_file.specs.Constants.{with_given, with_constant}
+use Rattle.lf_protocol_file.specs.Drafts.{place_in, check_new, with_name, number_after}
+use Rattle.lf_protocol_file.specs.Named.{and_note, and_let, and_fact, with_note, let_in, with_let, fact_in, with_fact}
+use Rattle.lf_protocol_file.specs.Variables.{held_in, with_words, with_words_of, with_held, with_text, with_sketch, variables_behind, settled, with_variables}
+use Rattle.lf_protocol_file.proofs.ConstantLemmas.{given-fits}
 use Rattle.lf_protocol_file.proofs.Growing.{Grows, all-push, all-stay, constant-stays}
 use Rattle.lf_protocol_file.proofs.Readings.{step-inv, as_value-inv}
 use Rattle.lf_protocol_file.proofs.Sounding.{IsSound, one-longer, and_constant, grows-constant, sound-note, sound-let, sound-fact}

@@ -10,19 +10,19 @@ use Rattle.lf_rules.specs.declared.kind.Kind.{Kind}
 use Rattle.lf_rules.specs.declared.kind.Kind.TheVariants as kinds
 use Rattle.lf_rules.specs.declared.definition.Definition.{Definition}
 use Rattle.lf_rules.specs.declared.definition.Variable.{Variable}
-use Rattle.lf_tokens.specs.declared.token.Token.{Token}
+use Rattle.lf_grammar.specs.declared.token.Token.{Token}
 use Rattle.lf_grammar.specs.Places.{Context}
 use Rattle.lf_texts.specs.declared.variables.VariableText.{VariableText}
 use Rattle.lf_texts.specs.declared.variables.VariableText.TheVariants as texts
 use Rattle.lf_texts.specs.Variables.{variable_in, HasWords}
 use Rattle.lf_texts.proofs.Laws.{kind-holds, words-hold}
-use Rattle.lf_document.specs.declared.path.Path.TheVariants as paths
-use Rattle.lf_document.specs.declared.section.Naming.TheVariants as namings
-use Rattle.lf_document.specs.Refusals.{shown}
-use Rattle.lf_document.specs.Readings.{located}
-use Rattle.lf_draft.specs.declared.variables.Sketch.{Sketch}
-use Rattle.lf_draft.specs.Drafts.{number_after}
-use Rattle.lf_draft.specs.Variables.{own_kind, kind_like, kind_of, words_of, variable_of, variable_at, variables_behind}
+use Rattle.lf_protocol_file.specs.declared.path.Path.TheVariants as paths
+use Rattle.lf_protocol_file.specs.declared.section.Naming.TheVariants as namings
+use Rattle.lf_protocol_file.specs.Refusals.{shown}
+use Rattle.lf_protocol_file.specs.Readings.{located}
+use Rattle.lf_protocol_file.specs.declared.variables.Sketch.{Sketch}
+use Rattle.lf_protocol_file.specs.Drafts.{number_after}
+use Rattle.lf_protocol_file.specs.Variables.{own_kind, kind_like, kind_of, words_of, variable_of, variable_at, variables_behind}
 use Rattle.lf_protocol_file.proofs.Readings.{step-inv, located-inv}
 
 pub small-number : (n : ℕ) → n ≤ 255 → number_after n ≡ n

@@ -14,21 +14,21 @@ use Rattle.lf_promises.specs.Facts.{names_facts}
 use Rattle.lf_promises.specs.Promises.{promise_of}
 use Rattle.lf_promises.proofs.Laws.{promise-named}
 use Rattle.lf_texts.specs.Names.{is_name}
-use Rattle.lf_document.specs.declared.fault.Fault.TheVariants as faults
-use Rattle.lf_document.specs.declared.path.Path.TheVariants as paths
-use Rattle.lf_document.specs.declared.section.Listing.TheVariants as listings
-use Rattle.lf_document.specs.declared.section.Naming.TheVariants as namings
-use Rattle.lf_document.specs.Readings.{◌>>=◌, wanted, checked}
-use Rattle.lf_document.specs.Refusals.{shown}
-use Rattle.lf_document.specs.Texts.{tokens_in}
-use Rattle.lf_written.specs.declared.declared.Declared.{Declared}
-use Rattle.lf_written.specs.declared.declared.Outcome.{Outcome}
-use Rattle.lf_written.specs.Files.{are_named, is_whole}
-use Rattle.lf_draft.specs.declared.draft.Draft.{Draft}
-use Rattle.lf_draft.specs.Drafts.{nothing, place_in, number_after}
-use Rattle.lf_draft.specs.Named as named
-use Rattle.lf_draft.specs.Named.{and_outcome, with_note, with_outcome, variable_named, shown_once, and_shown, with_shown, numbers_to}
-use Rattle.lf_draft.specs.Variables.{with_variables}
+use Rattle.lf_protocol_file.specs.declared.fault.Fault.TheVariants as faults
+use Rattle.lf_protocol_file.specs.declared.path.Path.TheVariants as paths
+use Rattle.lf_protocol_file.specs.declared.section.Listing.TheVariants as listings
+use Rattle.lf_protocol_file.specs.declared.section.Naming.TheVariants as namings
+use Rattle.lf_protocol_file.specs.Readings.{◌>>=◌, wanted, checked}
+use Rattle.lf_protocol_file.specs.Refusals.{shown}
+use Rattle.lf_protocol_file.specs.Texts.{tokens_in}
+use Rattle.lf_protocol_file.specs.declared.declared.Declared.{Declared}
+use Rattle.lf_protocol_file.specs.declared.declared.Outcome.{Outcome}
+use Rattle.lf_protocol_file.specs.Written.{are_named, is_whole}
+use Rattle.lf_protocol_file.specs.declared.draft.Draft.{Draft}
+use Rattle.lf_protocol_file.specs.Drafts.{nothing, place_in, number_after}
+use Rattle.lf_protocol_file.specs.Named as named
+use Rattle.lf_protocol_file.specs.Named.{and_outcome, with_note, with_outcome, variable_named, shown_once, and_shown, with_shown, numbers_to}
+use Rattle.lf_protocol_file.specs.Variables.{with_variables}
 use Rattle.lf_protocol_file.specs.Chains.{with_last_chain}
 use Rattle.lf_protocol_file.specs.Entries.{with_naming}
 use Rattle.lf_protocol_file.specs.Entries.{with_listing}
@@ -38,7 +38,8 @@ use Rattle.lf_protocol_file.proofs.Readings.{step-inv, located-inv, wanted-inv}
 use Rattle.lf_protocol_file.proofs.RuleStages.{HasRules, no-rules, rule-step, IsRuled, ruled}
 use Rattle.lf_protocol_file.proofs.SectionLemmas.{naming-keeps, listing-keeps}
 use Rattle.lf_protocol_file.proofs.Sounding.{IsSound, one-longer, sound-trace}
-use Rattle.lf_protocol_file.proofs.Stages.{HasGiven, given-step, HasSketches, sketch-step, AreMeasured, HasParts, variables-step, note-step, let-step, fact-step}
+use Rattle.lf_protocol_file.proofs.Stages.{HasGiven, given-step, HasSketches, sketch-step, AreMeasured}
+use Rattle.lf_protocol_file.proofs.Stages.{HasParts, variables-step, note-step, let-step, fact-step}
 use Rattle.lf_protocol_file.proofs.VariableKinds.{small-number, AllHeld, held-none}
 
 -- ---- outcomes, and what a trace shows

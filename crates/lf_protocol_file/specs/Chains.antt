@@ -4,11 +4,11 @@ use Rattle.lf_rules.specs.declared.rule.Chain.{Chain}
 use Rattle.lf_rules.specs.declared.rule.Event.{Event}
 use Rattle.lf_rules.specs.declared.rule.Event.TheVariants as events
 use Rattle.lf_rules.specs.declared.rule.Rule.{Rule}
-use Rattle.lf_tokens.specs.declared.token.Token.{Token}
+use Rattle.lf_grammar.specs.declared.token.Token.{Token}
 use Rattle.lf_texts.specs.Fronts.{same_tokens}
-use Rattle.lf_draft.specs.declared.draft.Who.{Who}
-use Rattle.lf_draft.specs.declared.draft.Begun.{Begun}
-use Rattle.lf_draft.specs.declared.draft.Draft.{Draft}
+use Rattle.lf_protocol_file.specs.declared.draft.Who.{Who}
+use Rattle.lf_protocol_file.specs.declared.draft.Begun.{Begun}
+use Rattle.lf_protocol_file.specs.declared.draft.Draft.{Draft}
 
 abbrev pub same_event : Event → Event → Bool
 same_event events.Start events.Start = true

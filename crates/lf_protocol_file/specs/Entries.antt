@@ -1,22 +1,22 @@
 -- Sections with entries or items.
 use Rattle.std.specs.Prelude.{ℕ, ◌+◌, Bool, ◌&&◌, nat_le, if◌then◌else◌, List, Option, Some, None, Ok, Err}
 use Rattle.toml.specs.Data.{Data, table, array, Items, no_items, item, Members, no_members, member, get_member}
-use Rattle.lf_draft.specs.declared.draft.Draft.{Draft}
-use Rattle.lf_document.specs.declared.error.ProtocolError.TheVariants as refusals
-use Rattle.lf_document.specs.declared.path.Path.TheVariants as paths
-use Rattle.lf_document.specs.declared.section.Section.TheVariants as sections
-use Rattle.lf_document.specs.declared.section.Naming.{Naming}
-use Rattle.lf_document.specs.declared.section.Naming.TheVariants as namings
-use Rattle.lf_document.specs.declared.section.Listing.{Listing}
-use Rattle.lf_document.specs.declared.section.Listing.TheVariants as listings
-use Rattle.lf_document.specs.Refusals.{shown}
-use Rattle.lf_document.specs.Sections.{naming_name, naming_is_needed, fewest_entries, most_entries, listing_name, listing_is_needed, fewest_items}
-use Rattle.lf_document.specs.Sections.{most_items}
-use Rattle.lf_document.specs.Readings.{Valued, Reading, ◌>>=◌, located}
-use Rattle.lf_document.specs.Texts.{count_items, count_members}
-use Rattle.lf_draft.specs.Constants.{with_constant}
-use Rattle.lf_draft.specs.Variables.{with_sketch}
-use Rattle.lf_draft.specs.Named.{with_fact, with_let, with_note, with_outcome, with_shown}
+use Rattle.lf_protocol_file.specs.declared.draft.Draft.{Draft}
+use Rattle.lf_protocol_file.specs.declared.error.ProtocolError.TheVariants as refusals
+use Rattle.lf_protocol_file.specs.declared.path.Path.TheVariants as paths
+use Rattle.lf_protocol_file.specs.declared.section.Section.TheVariants as sections
+use Rattle.lf_protocol_file.specs.declared.section.Naming.{Naming}
+use Rattle.lf_protocol_file.specs.declared.section.Naming.TheVariants as namings
+use Rattle.lf_protocol_file.specs.declared.section.Listing.{Listing}
+use Rattle.lf_protocol_file.specs.declared.section.Listing.TheVariants as listings
+use Rattle.lf_protocol_file.specs.Refusals.{shown}
+use Rattle.lf_protocol_file.specs.Sections.{naming_name, naming_is_needed, fewest_entries, most_entries, listing_name, listing_is_needed, fewest_items}
+use Rattle.lf_protocol_file.specs.Sections.{most_items}
+use Rattle.lf_protocol_file.specs.Readings.{Valued, Reading, ◌>>=◌, located}
+use Rattle.lf_protocol_file.specs.Texts.{count_items, count_members}
+use Rattle.lf_protocol_file.specs.Constants.{with_constant}
+use Rattle.lf_protocol_file.specs.Variables.{with_sketch}
+use Rattle.lf_protocol_file.specs.Named.{with_fact, with_let, with_note, with_outcome, with_shown}
 use Rattle.lf_protocol_file.specs.RuleParts.{rule_in}
 
 -- an entry of a section

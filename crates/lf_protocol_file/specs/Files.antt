@@ -3,20 +3,20 @@ use Rattle.std.specs.Prelude.{◌≡◌, ◌⊎◌, ℕ, ◌<◌, ◌≤◌, if�
 use Rattle.toml.specs.Data.{Data, string, Members, no_members, member, get_member}
 use Rattle.toml.specs.Parse.{parse_document}
 use Rattle.lf_texts.specs.Names.{is_name}
-use Rattle.lf_draft.specs.declared.draft.Draft.{Draft}
-use Rattle.lf_document.specs.declared.error.ProtocolError.{ProtocolError}
-use Rattle.lf_document.specs.declared.error.ProtocolError.TheVariants as refusals
-use Rattle.lf_written.specs.declared.declared.Declared.{Declared}
-use Rattle.lf_document.specs.declared.path.Path.TheVariants as paths
-use Rattle.lf_document.specs.declared.section.Section.TheVariants as sections
-use Rattle.lf_document.specs.declared.section.Naming.TheVariants as namings
-use Rattle.lf_document.specs.declared.section.Listing.TheVariants as listings
-use Rattle.lf_document.specs.Refusals.{shown}
-use Rattle.lf_document.specs.Sections.{is_section}
-use Rattle.lf_document.specs.Readings.{Reading, ◌>>=◌}
-use Rattle.lf_draft.specs.Drafts.{nothing}
-use Rattle.lf_draft.specs.Variables.{with_variables}
-use Rattle.lf_draft.specs.Named.{with_all_shown}
+use Rattle.lf_protocol_file.specs.declared.draft.Draft.{Draft}
+use Rattle.lf_protocol_file.specs.declared.error.ProtocolError.{ProtocolError}
+use Rattle.lf_protocol_file.specs.declared.error.ProtocolError.TheVariants as refusals
+use Rattle.lf_protocol_file.specs.declared.declared.Declared.{Declared}
+use Rattle.lf_protocol_file.specs.declared.path.Path.TheVariants as paths
+use Rattle.lf_protocol_file.specs.declared.section.Section.TheVariants as sections
+use Rattle.lf_protocol_file.specs.declared.section.Naming.TheVariants as namings
+use Rattle.lf_protocol_file.specs.declared.section.Listing.TheVariants as listings
+use Rattle.lf_protocol_file.specs.Refusals.{shown}
+use Rattle.lf_protocol_file.specs.Sections.{is_section}
+use Rattle.lf_protocol_file.specs.Readings.{Reading, ◌>>=◌}
+use Rattle.lf_protocol_file.specs.Drafts.{nothing}
+use Rattle.lf_protocol_file.specs.Variables.{with_variables}
+use Rattle.lf_protocol_file.specs.Named.{with_all_shown}
 use Rattle.lf_protocol_file.specs.Chains.{with_last_chain}
 use Rattle.lf_protocol_file.specs.Entries.{with_naming, with_listing}
 

@@ -1,3 +1,13 @@
+pub mod Refusals
+pub mod Sections
+pub mod Readings
+pub mod Texts
+pub mod Spellings
+pub mod Written
+pub mod Drafts
+pub mod Constants
+pub mod Variables
+pub mod Named
 pub mod Chains
 pub mod RuleParts
 pub mod Entries

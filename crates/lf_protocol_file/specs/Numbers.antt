@@ -8,15 +8,15 @@ use Rattle.lf_rules.specs.declared.rule.Chain.{Chain}
 use Rattle.lf_rules.specs.declared.rule.Event.{Event}
 use Rattle.lf_rules.specs.declared.rule.Rule.{Rule}
 use Rattle.lf_taken.specs.Readings.{all_rules}
-use Rattle.lf_document.specs.declared.error.ProtocolError.TheVariants as refusals
-use Rattle.lf_document.specs.declared.path.Path.TheVariants as paths
-use Rattle.lf_document.specs.declared.section.Listing.TheVariants as listings
-use Rattle.lf_document.specs.declared.section.Part.TheVariants as parts
-use Rattle.lf_document.specs.Readings.{Reading, ◌>>=◌, located}
-use Rattle.lf_document.specs.Texts.{count_items}
-use Rattle.lf_draft.specs.declared.draft.Draft.{Draft}
-use Rattle.lf_draft.specs.declared.draft.Who.{Who}
-use Rattle.lf_written.specs.declared.declared.Declared.{Declared}
+use Rattle.lf_protocol_file.specs.declared.error.ProtocolError.TheVariants as refusals
+use Rattle.lf_protocol_file.specs.declared.path.Path.TheVariants as paths
+use Rattle.lf_protocol_file.specs.declared.section.Listing.TheVariants as listings
+use Rattle.lf_protocol_file.specs.declared.section.Part.TheVariants as parts
+use Rattle.lf_protocol_file.specs.Readings.{Reading, ◌>>=◌, located}
+use Rattle.lf_protocol_file.specs.Texts.{count_items}
+use Rattle.lf_protocol_file.specs.declared.draft.Draft.{Draft}
+use Rattle.lf_protocol_file.specs.declared.draft.Who.{Who}
+use Rattle.lf_protocol_file.specs.declared.declared.Declared.{Declared}
 use Rattle.lf_protocol_file.specs.Chains.{with_rule}
 use Rattle.lf_protocol_file.specs.Files.{declared_in}
 use Rattle.lf_protocol_file.specs.RuleParts.{known_parts, who_in, heard_in, condition_in, changes_in, letters_in}

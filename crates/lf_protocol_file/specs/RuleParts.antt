@@ -15,21 +15,21 @@ use Rattle.lf_texts.specs.Sends.{sends_in}
 use Rattle.lf_texts.specs.Values.{nodes_in, when_in}
 use Rattle.lf_texts.specs.declared.events.Heard.{Heard}
 use Rattle.lf_texts.specs.declared.values.When.{When}
-use Rattle.lf_draft.specs.declared.draft.Who.{Who}
-use Rattle.lf_draft.specs.declared.draft.Draft.{Draft}
-use Rattle.lf_document.specs.declared.error.ProtocolError.TheVariants as refusals
-use Rattle.lf_document.specs.declared.fault.Fault.TheVariants as faults
-use Rattle.lf_document.specs.declared.path.Path.TheVariants as paths
-use Rattle.lf_document.specs.declared.section.Listing.TheVariants as listings
-use Rattle.lf_document.specs.declared.section.Part.{Part}
-use Rattle.lf_document.specs.declared.section.Part.TheVariants as parts
-use Rattle.lf_document.specs.Refusals.{shown}
-use Rattle.lf_document.specs.Sections.{is_part, part_name}
-use Rattle.lf_document.specs.Readings.{Valued, Reading, ◌>>=◌, as_value, located}
-use Rattle.lf_document.specs.Texts.{tokens_in}
-use Rattle.lf_draft.specs.Drafts.{place_in}
+use Rattle.lf_protocol_file.specs.declared.draft.Who.{Who}
+use Rattle.lf_protocol_file.specs.declared.draft.Draft.{Draft}
+use Rattle.lf_protocol_file.specs.declared.error.ProtocolError.TheVariants as refusals
+use Rattle.lf_protocol_file.specs.declared.fault.Fault.TheVariants as faults
+use Rattle.lf_protocol_file.specs.declared.path.Path.TheVariants as paths
+use Rattle.lf_protocol_file.specs.declared.section.Listing.TheVariants as listings
+use Rattle.lf_protocol_file.specs.declared.section.Part.{Part}
+use Rattle.lf_protocol_file.specs.declared.section.Part.TheVariants as parts
+use Rattle.lf_protocol_file.specs.Refusals.{shown}
+use Rattle.lf_protocol_file.specs.Sections.{is_part, part_name}
+use Rattle.lf_protocol_file.specs.Readings.{Valued, Reading, ◌>>=◌, as_value, located}
+use Rattle.lf_protocol_file.specs.Texts.{tokens_in}
+use Rattle.lf_protocol_file.specs.Drafts.{place_in}
 use Rattle.lf_protocol_file.specs.Chains.{goes_on, with_rule}
-use Rattle.lf_tokens.specs.declared.token.Token.{Token}
+use Rattle.lf_grammar.specs.declared.token.Token.{Token}
 
 -- each key is one of a rule's, or the first by name that is none is refused
 unfoldable pub known_parts : ℕ → Members → Reading (Unit {0})

@@ -4,11 +4,11 @@ ghost use Rattle.std.specs.Prelude.{◌≡◌, IfOk};
 ghost use Rattle.lf_protocol_file.specs.Chains.{same_event, same_text, goes_on, chain_of, and_chain, with_begun};
 ghost use Rattle.lf_protocol_file.specs.Chains.{longer, begins, continued, with_rule, with_last_chain};
 
-use lf_draft::{Begun, Draft, Who, none_of, push};
+use crate::{Begun, Draft, Who, none_of, push};
+use lf_grammar::Token;
 use lf_list::Listed;
 use lf_rules::{Chain, Event, Rule};
 use lf_texts::same_tokens;
-use lf_tokens::Token;
 use std::alloc::{AllocError, Global};
 
 /// Whether a rule on an event, of some nodes, may go on with the chain of the rules above.

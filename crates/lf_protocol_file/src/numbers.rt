@@ -2,7 +2,7 @@
 
 ghost use Rattle.std.specs.Prelude.{◌≡◌, Ok};
 ghost use Rattle.toml.specs.Data.{Members};
-ghost use Rattle.lf_written.specs.declared.declared.Declared.{Declared};
+ghost use Rattle.lf_protocol_file.specs.declared.declared.Declared.{Declared};
 ghost use Rattle.lf_protocol_file.specs.Files.{file_in};
 ghost use Rattle.lf_protocol_file.specs.Numbers.{AreNumbered};
 

@@ -3,21 +3,20 @@
 ghost use Rattle.std.specs.Prelude.{◌≡◌, ◌≢◌, ◌<◌, ◌≤◌, true, length, MatchResult, IsErrAnd, IfOk, Ok, Err};
 ghost use Rattle.toml.specs.Data.{Members};
 ghost use Rattle.toml.specs.View.{table_view};
-ghost use Rattle.lf_document.specs.Refusals.{shown};
-ghost use Rattle.lf_document.specs.Readings.{Reads};
+ghost use Rattle.lf_protocol_file.specs.Refusals.{shown};
+ghost use Rattle.lf_protocol_file.specs.Readings.{Reads};
 ghost use Rattle.lf_protocol_file.specs.Files.{longest, known_sections, name_in, declared_in, shown_by, with_trace, declared_by, file_in};
-ghost use Rattle.lf_written.specs.Files.{is_whole};
+ghost use Rattle.lf_protocol_file.specs.Written.{is_whole};
 ghost use Rattle.lf_protocol_file.specs.Files.{IsDocument, IsRefused, IsText};
 
 use crate::chains::with_last_chain;
 use crate::sections::{with_listing, with_naming};
-use lf_document::{
-    LONGEST, Listing, Naming, Path, ProtocolError, Section, Shown, at, is_section, name_of,
+use crate::{
+    Declared, Draft, LONGEST, Listing, Naming, Path, ProtocolError, ProtocolFile, Section, Shown,
+    at, is_section, name_of, with_all_shown, with_variables,
 };
-use lf_draft::{Draft, with_all_shown, with_variables};
 use lf_rules::Name;
 use lf_texts::is_name;
-use lf_written::{Declared, ProtocolFile};
 use std::alloc::{AllocError, Global};
 use toml::{Table, Value};
 

@@ -4,18 +4,19 @@ ghost use Rattle.std.specs.Prelude.{◌≡◌, ◌≢◌, Ok, Err};
 ghost use Rattle.toml.specs.View.{view, table_view};
 ghost use Rattle.lf_rules.specs.Forms.{scope_of};
 ghost use Rattle.lf_rules.specs.Terms as terms;
-ghost use Rattle.lf_document.specs.Readings.{Gives, Reads, located};
-ghost use Rattle.lf_document.specs.Refusals.{shown};
+ghost use Rattle.lf_protocol_file.specs.Readings.{Gives, Reads, located};
+ghost use Rattle.lf_protocol_file.specs.Refusals.{shown};
 ghost use Rattle.lf_protocol_file.specs.RuleParts.{known_parts, part_tokens, who_in, heard_in, under, condition_in, changes_in, may_send, letters_in};
 ghost use Rattle.lf_protocol_file.specs.RuleParts.{rule_of, rule_in};
 
 use crate::chains::{goes_on, with_rule};
-use lf_document::{Fault, Listing, Part, Path, ProtocolError, Shown, at, is_part, tokens_in};
-use lf_draft::{Draft, Who, none_of};
+use crate::{
+    Draft, Fault, Listing, Part, Path, ProtocolError, Shown, Who, at, is_part, none_of, tokens_in,
+};
+use lf_grammar::Token;
 use lf_list::Listed;
 use lf_rules::{Assignment, Event, Expr, Leaf, Rule, Scope, Send, Tree};
 use lf_texts::{Heard, When, read_event, read_nodes, read_sends, read_sets, read_when};
-use lf_tokens::Token;
 use std::alloc::Global;
 use toml::{Table, Value};
 

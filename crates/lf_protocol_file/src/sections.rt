@@ -2,14 +2,14 @@
 
 ghost use Rattle.std.specs.Prelude.{◌≡◌, ◌<◌};
 ghost use Rattle.toml.specs.View.{view, table_view, items_view};
-ghost use Rattle.lf_document.specs.Readings.{Gives, Reads};
+ghost use Rattle.lf_protocol_file.specs.Readings.{Gives, Reads};
 ghost use Rattle.lf_protocol_file.specs.Entries.{entered, with_entry, with_entries, with_table, with_naming, with_item, with_items};
 ghost use Rattle.lf_protocol_file.specs.Entries.{with_list, with_listing, is_fit_table, is_fit_list};
 
 use crate::rules::rule_in;
-use lf_document::{Fault, Listing, Naming, Path, ProtocolError, Section, at};
-use lf_draft::{
-    Draft, with_constant, with_fact, with_let, with_note, with_outcome, with_shown, with_sketch,
+use crate::{
+    Draft, Fault, Listing, Naming, Path, ProtocolError, Section, at, with_constant, with_fact,
+    with_let, with_note, with_outcome, with_shown, with_sketch,
 };
 use std::alloc::Global;
 use toml::{Table, Value};
@@ -54,7 +54,7 @@ fn with_table(
 }
 
 /// Whether a section may have so many entries.
-#[tactic(auto, using(lf_document::proofs::Laws::counted_members))]
+#[tactic(auto, using(crate::proofs::Counts::counted_members))]
 fn is_fit_table(naming: Naming, entries: &Table) -> bool
     ensures { result ≡ is_fit_table naming (table_view entries.now) }
 {
@@ -62,7 +62,7 @@ fn is_fit_table(naming: Naming, entries: &Table) -> bool
 }
 
 /// Whether a section may have so many items.
-#[tactic(auto, using(lf_document::proofs::Laws::counted_items))]
+#[tactic(auto, using(crate::proofs::Counts::counted_items))]
 fn is_fit_list(listing: Listing, items: &[Value]) -> bool
     ensures { result ≡ is_fit_list listing (items_view items.now) }
 {

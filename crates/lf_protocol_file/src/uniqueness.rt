@@ -1,8 +1,8 @@
 //! What the definition of a file promises, for every text: calls that compute nothing, whose contracts are the laws.
 
 ghost use Rattle.std.specs.Prelude.{◌≡◌, ℕ, List};
-ghost use Rattle.lf_document.specs.declared.error.ProtocolError.{ProtocolError};
-ghost use Rattle.lf_written.specs.declared.declared.Declared.{Declared};
+ghost use Rattle.lf_protocol_file.specs.declared.error.ProtocolError.{ProtocolError};
+ghost use Rattle.lf_protocol_file.specs.declared.declared.Declared.{Declared};
 ghost use Rattle.lf_protocol_file.specs.Files.{IsRefused, IsText};
 
 /// A text has at most one refusal, and none where it is the text of a file.

@@ -2,8 +2,8 @@
 
 ghost use Rattle.std.specs.Prelude.{◌≡◌, true, Ok};
 ghost use Rattle.toml.specs.Data.{Members};
-ghost use Rattle.lf_written.specs.declared.declared.Declared.{Declared};
-ghost use Rattle.lf_written.specs.Files.{is_whole};
+ghost use Rattle.lf_protocol_file.specs.declared.declared.Declared.{Declared};
+ghost use Rattle.lf_protocol_file.specs.Written.{is_whole};
 ghost use Rattle.lf_protocol_file.specs.Files.{file_in};
 
 /// What a file says is whole: its protocol is well formed, and its outcomes are about facts of the protocol.

@@ -1,8 +1,8 @@
 //! Parts of rules that can't stand in their rules.
 
+use lf_grammar::Token;
 use lf_hint_places::{Hint, Place, Spot, Told, in_quotes, is_of_word, rule_at, said, text_at};
 use lf_texts::{TextError, same_tokens, text_tokens};
-use lf_tokens::Token;
 use std::alloc::{AllocError, Global};
 use toml::{Table, Value};
 

@@ -1,7 +1,7 @@
 //! Rules that no node has.
 
 use crate::uses::Uses;
-use lf_meaning::{fixed_value, sets, truth};
+use lf_rule_machine::{fixed_value, sets, truth};
 use lf_rules::{Chain, Constant, Definition, Given, Value};
 
 /// Why no node has the rules of a chain. None where some node has them, with some number of nodes, by the constants of the file.

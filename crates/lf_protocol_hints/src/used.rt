@@ -3,7 +3,7 @@
 use crate::uses::{Uses, bit, has_leaf};
 use lf_promises::Promise;
 use lf_protocol_file::Outcome;
-use lf_ruled::{Fact, Told};
+use lf_rule_machine::{Fact, Told};
 use lf_rules::{Chain, Definition, Event, Leaf, Rule};
 
 /// How deep an outcome is looked into. No file has a deeper one, since its brackets are limited.

@@ -3,8 +3,8 @@ use Rattle.std.proofs.Common.{◌≡◌, true, refl}
 use Rattle.std.specs.Ordering.{nat_cmp, bool_cmp}
 use Rattle.std.specs.Cmp.Lexicographic.{slice_cmp}
 use Rattle.std.proofs.lemmas.Map.Lookups.{CmpEqualImpliesEq, exact_bytes, exact_unsigned}
-use Rattle.lf_meaning.specs.contracts.state.NoteOrd.TheImpl as message_ord
-use Rattle.lf_meaning.specs.contracts.state.StateOrd.TheImpl as values_ord
+use Rattle.lf_rule_machine.specs.contracts.state.NoteOrd.TheImpl as message_ord
+use Rattle.lf_rule_machine.specs.contracts.state.StateOrd.TheImpl as values_ord
 use Rattle.lf_protocols.specs.declared.note.Note.{Note}
 use Rattle.lf_protocols.specs.declared.state.State.{State}
 use Rattle.lf_protocols.specs.contracts.nodes.NodesOrd.TheImpl as nodes_ord

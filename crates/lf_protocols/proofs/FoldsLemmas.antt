@@ -20,11 +20,11 @@ use Rattle.lf_protocols.specs.CommitTable.{commit_open, commit_poll, commit_part
 use Rattle.lf_protocols.specs.TwoPhaseTable.{two_phase_end, two_phase_step}
 use Rattle.lf_protocols.specs.ThreePhaseTable.{three_phase_hear, three_phase_end, three_phase_join, three_phase_wait, three_phase_step}
 use Rattle.lf_protocols.specs.PrimaryBackupTable.{primary_hear, primary_end, backup_hear, backup_end, client_open, client_hear, primary_backup_step}
-use Rattle.lf_meaning.specs.declared.state.State.{State as Values}
-use Rattle.lf_meaning.specs.declared.state.Note.{Note as Message}
-use Rattle.lf_ruled.specs.Instances.{Instance}
-use Rattle.lf_ruled.specs.Machines as rules
-use Rattle.lf_ruled.specs.Ruleds.{rules_of}
+use Rattle.lf_rule_machine.specs.declared.state.State.{State as Values}
+use Rattle.lf_rule_machine.specs.declared.state.Note.{Note as Message}
+use Rattle.lf_rule_machine.specs.Instances.{Instance}
+use Rattle.lf_rule_machine.specs.Machines as rules
+use Rattle.lf_rule_machine.specs.Ruleds.{rules_of}
 use Rattle.lf_protocols.specs.RuledTurns.{as_any, as_ruled, any_letter, any_out, ruled_out, any_turn, ruled_turn, begin_by_rules, hear_by_rules, end_by_rules}
 use Rattle.lf_protocols.specs.Protocols.{wrapped, ignored, step_of}
 use Rattle.lf_protocols.specs.Folds.{commit_begin, two_phase_hear_one, two_phase_finish, three_phase_hear_one, three_phase_finish}
@@ -240,7 +240,8 @@ folds (kinds.PrimaryBackup nodes patience) node t (states.PrimaryBackup own) xs 
 folds (kinds.Retry nodes tries) node t (states.Ruled own) xs = still (kinds.Retry nodes tries) node t (states.Ruled own) (λ x. refl) xs
 folds (kinds.Redundant nodes tries) node t (states.Ruled own) xs = still (kinds.Redundant nodes tries) node t (states.Ruled own) (λ x. refl) xs
 folds (kinds.TwoPhase nodes patience votes) node t (states.Ruled own) xs = still (kinds.TwoPhase nodes patience votes) node t (states.Ruled own) (λ x. refl) xs
-folds (kinds.ThreePhase nodes patience votes) node t (states.Ruled own) xs = still (kinds.ThreePhase nodes patience votes) node t (states.Ruled own) (λ x. refl) xs
+folds (kinds.ThreePhase nodes patience votes) node t (states.Ruled own) xs =
+    still (kinds.ThreePhase nodes patience votes) node t (states.Ruled own) (λ x. refl) xs
 folds (kinds.PrimaryBackup nodes patience) node t (states.Ruled own) xs = still (kinds.PrimaryBackup nodes patience) node t (states.Ruled own) (λ x. refl) xs
 folds (kinds.Ruled m) node t (states.Retry own) xs = still (kinds.Ruled m) node t (states.Retry own) (λ x. refl) xs
 folds (kinds.Ruled m) node t (states.Redundant own) xs = still (kinds.Ruled m) node t (states.Redundant own) (λ x. refl) xs

@@ -53,7 +53,8 @@ module _ (hear : Turn → Letter Note → Turn) (end : Turn → Turn) (join : Bo
   either vote xs ys true = ap end (polled xs ∙ sym (polled ys))
   either vote xs ys false = ap wait (stays vote xs ∙ sym (stays vote ys))
 
-  commit-ignores : (xs ys : List (Letter Note)) → commit_step hear end join wait nodes votes node t own xs ≡ commit_step hear end join wait nodes votes node t own ys
+  commit-ignores : (xs ys : List (Letter Note))
+      → commit_step hear end join wait nodes votes node t own xs ≡ commit_step hear end join wait nodes votes node t own ys
   commit-ignores xs ys = either (slice_index_or votes node true) xs ys (nat_eq node 0)
 
 -- a commit that is over

@@ -7,3 +7,4 @@ mod FoldsLemmas
 mod Orders
 mod Exactness
 pub mod Laws
+mod Parts

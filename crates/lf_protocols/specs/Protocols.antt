@@ -14,7 +14,7 @@ use Rattle.lf_protocols.specs.declared.state.Phase.{Phase}
 use Rattle.lf_protocols.specs.declared.state.Phase.TheVariants as phases
 use Rattle.lf_protocols.specs.declared.note.Note.{Note}
 use Rattle.lf_protocols.specs.declared.fact.Fact.{Fact}
-use Rattle.lf_ruled.specs.Machines as rules
+use Rattle.lf_rule_machine.specs.Machines as rules
 use Rattle.lf_protocols.specs.declared.fact.Fact.TheVariants as facts
 use Rattle.lf_protocols.specs.Facts.{is_denial}
 use Rattle.lf_protocols.specs.RuledTurns.{any_turn, step_by_rules}

@@ -31,10 +31,10 @@ use Rattle.lf_protocols.specs.TwoPhaseTable.{two_phase_end}
 use Rattle.lf_protocols.specs.ThreePhaseTable.{three_phase_hear, three_phase_end, three_phase_join, three_phase_wait}
 use Rattle.lf_protocols.specs.PrimaryBackupTable.{primary_hear, is_repl, backup_hear, claim, client_open, client_hear}
 use Rattle.lf_protocols.specs.PrimaryBackupTable.{primary_step, backup_step, client_step, primary_backup_step}
-use Rattle.lf_meaning.specs.declared.state.State.{State as Values}
-use Rattle.lf_meaning.specs.declared.state.Note.{Note as Message}
-use Rattle.lf_ruled.specs.Instances.{Instance}
-use Rattle.lf_ruled.specs.RuledLemmas.{fold-keeps, IsCalm, begun-calm, heard-calm, ended-calm}
+use Rattle.lf_rule_machine.specs.declared.state.State.{State as Values}
+use Rattle.lf_rule_machine.specs.declared.state.Note.{Note as Message}
+use Rattle.lf_rule_machine.specs.Instances.{Instance}
+use Rattle.lf_rule_machine.specs.RuledLemmas.{fold-keeps, IsCalm, begun-calm, heard-calm, ended-calm}
 use Rattle.lf_protocols.specs.RuledTurns.{as_any, any_out, begin_by_rules, hear_note, hear_by_rules, step_by_rules}
 use Rattle.lf_protocols.specs.Protocols.{nodes_of, wrapped, ignored, step_of}
 

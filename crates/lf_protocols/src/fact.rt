@@ -40,7 +40,7 @@ pub enum Fact {
     /// The opposite of `Claimed`.
     Unclaimed,
     /// A fact of a protocol of rules.
-    Ruled(lf_ruled::Fact),
+    Ruled(lf_rule_machine::Fact),
 }
 
 impl Fact {

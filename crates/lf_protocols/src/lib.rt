@@ -3,6 +3,8 @@
 //! At each step a node first does what its protocol's table says for that step's number, then handles its letters in
 //! inbox order, then its conditions once. It ignores each note and state that the table doesn't name. The tables stand
 //! in `specs/`, one file for each protocol.
+//!
+//! Laws of what threads may share and hand to each other: protocols, with the rules that they hold.
 #![tactic(auto)]
 
 mod commit;

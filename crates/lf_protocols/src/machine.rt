@@ -215,7 +215,7 @@ fn is_over(t: u32, phase: Phase) -> bool
 
 impl Protocol {
     /// Whether a state of rules shows a fact. It knows only facts of rules, and of others says what a state says that knows nothing of them.
-    fn shows_by_rules(&self, node: u32, state: lf_meaning::State, fact: Fact) -> bool
+    fn shows_by_rules(&self, node: u32, state: lf_rule_machine::State, fact: Fact) -> bool
         requires { node < nodes_of self.now }
         ensures { result ≡ shows_of self.now node (State.Ruled state) fact }
     {

@@ -33,7 +33,7 @@ pub enum Note {
     /// Of a replica: the sender is the primary from now on.
     Claim,
     /// A note of a protocol of rules.
-    Ruled(lf_meaning::Note),
+    Ruled(lf_rule_machine::Note),
 }
 
 impl Note {

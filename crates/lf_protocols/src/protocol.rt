@@ -3,7 +3,7 @@
 ghost use Rattle.std.specs.Prelude.{◌≡◌, ◌↔◌, IsTrue, IsSome, IfSome};
 ghost use Rattle.lf_protocols.specs.Limits.{IsDelivery, IsCommit, IsBackup, IsWithinLimits};
 
-use lf_ruled::Ruled;
+use lf_rule_machine::Ruled;
 use lf_sim::Machine;
 use std::marker::Model;
 

@@ -2,11 +2,12 @@
 
 ghost use Rattle.std.specs.Prelude.{◌≡◌};
 ghost use Rattle.std.specs.List.{fold};
-ghost use Rattle.lf_protocols.specs.RuledTurns.{as_any, as_ruled, any_out, ruled_out, any_turn, ruled_turn, begin_by_rules, hear_by_rules, end_by_rules, step_by_rules};
+ghost use Rattle.lf_protocols.specs.RuledTurns.{as_any, as_ruled, any_out, ruled_out, any_turn, ruled_turn, begin_by_rules};
+ghost use Rattle.lf_protocols.specs.RuledTurns.{hear_by_rules, end_by_rules, step_by_rules};
 
 use crate::{Note, State};
-use lf_meaning as rules;
-use lf_ruled::Ruled;
+use lf_rule_machine as rules;
+use lf_rule_machine::Ruled;
 use lf_sim::{Letter, Out, Stepped};
 
 /// What a node has come to within a step.

@@ -21,7 +21,7 @@ pub enum State {
     /// A state of primary_backup.
     PrimaryBackup(Replica),
     /// A state of a protocol of rules.
-    Ruled(lf_meaning::State),
+    Ruled(lf_rule_machine::State),
 }
 
 /// Whether a node of retry has the data.

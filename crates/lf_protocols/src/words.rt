@@ -8,7 +8,7 @@ ghost use Rattle.lf_protocols.specs.Words.{fact_word, facts_of, fact_name, fact_
 
 use crate::{Fact, Kind, Note, Protocol, State};
 use lf_naming as naming;
-use lf_ruled::Ruled;
+use lf_rule_machine::Ruled;
 use std::alloc::AllocError;
 
 impl Protocol {

@@ -2,7 +2,9 @@
 
 ghost use Rattle.std.specs.Prelude.{◌≡◌, slice_get, min};
 ghost use Rattle.std.specs.List.{list_all};
-ghost use Rattle.lf_rules.specs.Forms.{is_from, has_words, is_kind, is_word_of, is_variable, are_variables, is_form, is_value, is_given, is_constant, is_let, is_fact, is_assigned, is_assignment, are_fields, are_sent, is_send, is_rule_in, is_event, scope_of, sends_of, is_chain, rules_in, is_shown, is_in_limits, is_well_formed};
+ghost use Rattle.lf_rules.specs.Forms.{is_from, has_words, is_kind, is_word_of, is_variable, are_variables, is_form, is_value, is_given};
+ghost use Rattle.lf_rules.specs.Forms.{is_constant, is_let, is_fact, is_assigned, is_assignment, are_fields, are_sent, is_send, is_rule_in};
+ghost use Rattle.lf_rules.specs.Forms.{is_event, scope_of, sends_of, is_chain, rules_in, is_shown, is_in_limits, is_well_formed};
 
 use crate::definition::{Constant, Definition, Given, Guard, Named, NoteForm, Value, Variable};
 use crate::expr::Expr;

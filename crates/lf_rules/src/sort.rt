@@ -1,7 +1,8 @@
 //! What expressions are.
 
 ghost use Rattle.std.specs.Prelude.{◌≡◌};
-ghost use Rattle.lf_rules.specs.Sorts.{same_sort, is_of, where_so, names_constants, names_state, names_lets, is_rule, taken, gives, takes, made, alike, unary_sort, binary_sort};
+ghost use Rattle.lf_rules.specs.Sorts.{same_sort, is_of, where_so, names_constants, names_state, names_lets};
+ghost use Rattle.lf_rules.specs.Sorts.{is_rule, taken, gives, takes, made, alike, unary_sort, binary_sort};
 
 use crate::expr::{Binary, Unary};
 

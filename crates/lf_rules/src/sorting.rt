@@ -2,7 +2,8 @@
 
 ghost use Rattle.std.specs.Prelude.{◌≡◌, slice_get};
 ghost use Rattle.lf_rules.specs.Terms.{term_of};
-ghost use Rattle.lf_rules.specs.Sorts.{constant_sort, let_sort, fact_sort, variable_sort, field_sort, heard_sort, sender_sort, word_sort, leaf_sort, tree_sort, is_a};
+ghost use Rattle.lf_rules.specs.Sorts.{constant_sort, let_sort, fact_sort, variable_sort, field_sort, heard_sort};
+ghost use Rattle.lf_rules.specs.Sorts.{sender_sort, word_sort, leaf_sort, tree_sort, is_a};
 
 use crate::definition::Definition;
 use crate::expr::{Expr, Leaf, Tree};

@@ -6,7 +6,7 @@ use Rattle.lf_protocols.specs.declared.fact.Fact.{Fact}
 use Rattle.lf_outcome.specs.declared.formula.Formula.{Formula}
 use Rattle.lf_scenario.specs.declared.key.Key.TheVariants as keys
 use Rattle.lf_scenario.specs.declared.reading.Described.{Described}
-use Rattle.lf_scenario.specs.declared.scenario.Scenario.{Scenario}
+use Rattle.lf_outcome.specs.declared.scenario.Scenario.{Scenario}
 use Rattle.lf_scenario.specs.Values.{required}
 use Rattle.lf_scenario.specs.Reading.{described_in}
 use Rattle.lf_scenario.specs.Outcomes.{outcome_in}

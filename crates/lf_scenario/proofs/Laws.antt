@@ -2,12 +2,9 @@
 use Rattle.std.proofs.Common.{◌≡◌, ℕ, List, sym, ap, ◌∙◌, subst, inl, inr, arith, Ok, Err}
 use Rattle.std.specs.Prelude.{Some}
 use Rattle.toml.specs.Data.{Members}
-use Rattle.lf_faults.specs.declared.fault.Parts.{Parts}
-use Rattle.lf_sim.specs.Settings.{world_of}
-use Rattle.lf_outcome.specs.Truth.{reaches}
 use Rattle.lf_scenario.specs.declared.error.ScenarioError.{ScenarioError}
-use Rattle.lf_scenario.specs.declared.scenario.Scenario.{Scenario}
-use Rattle.lf_scenario.specs.Sameness.{AreSame}
+use Rattle.lf_outcome.specs.declared.scenario.Scenario.{Scenario}
+use Rattle.lf_outcome.specs.Sameness.{AreSame}
 use Rattle.lf_scenario.specs.Scenarios.{Asked, IsDocument, IsRefused, IsScenario, IsText, asked_in}
 
 -- a text has one list of members
@@ -58,13 +55,3 @@ scenarios_are_one text s t a b =
     let both : Ok a.asked.asked ≡ Ok b.asked.asked = sym reads ∙ b.asked.reading in
     let asked : a.asked.asked ≡ b.asked.asked = cc in
     asked-one b.asked.asked s t (subst (λ x. IsScenario x s) asked a.asked.scenario) b.asked.scenario
-
--- scenarios that are the same run in one world
-pub worlds_are_one : (s t : Scenario) → AreSame s t → world_of s.setting ≡ world_of t.setting
-worlds_are_one s t same = rw (same.protocol, same.network, same.bounds)
-
--- and of each list of faults they say the same: whether it reaches the outcome
-pub answers_are_one : (s t : Scenario) → AreSame s t → (faults : List Parts)
-    → reaches (world_of s.setting) faults s.formula ≡ reaches (world_of t.setting) faults t.formula
-answers_are_one s t same faults =
-    ap (λ w. reaches w faults s.formula) (worlds_are_one s t same) ∙ ap (reaches (world_of t.setting) faults) same.formula

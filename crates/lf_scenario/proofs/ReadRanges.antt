@@ -24,10 +24,10 @@ use Rattle.lf_outcome.specs.Named.{formula_of}
 use Rattle.lf_outcome.specs.Outcomes.{outcome_named, outcome_word, outcomes_of}
 use Rattle.lf_scenario.specs.declared.key.Key.{Key}
 use Rattle.lf_scenario.specs.declared.key.Key.TheVariants as keys
-use Rattle.lf_scenario.specs.Limits.{deepest, most_atoms}
+use Rattle.lf_outcome.specs.Limits.{deepest, most_atoms}
 use Rattle.lf_scenario.specs.declared.error.ScenarioError.TheVariants as refusals
 use Rattle.lf_scenario.specs.Values.{Reading, ◌>>=◌, whole}
-use Rattle.lf_scenario.specs.Formulas.{is_point, is_fact_of, is_in_range, IsFormulaOf}
+use Rattle.lf_outcome.specs.Formulas.{is_point, is_fact_of, is_in_range, IsFormulaOf}
 use Rattle.lf_scenario.specs.Outcomes.{by_word, down_in, fact_in, formula_in, found_fact, in_formula}
 use Rattle.lf_scenario.specs.Outcomes.{limited, list_formula, named_in, node_in, outcome_in, parts_in, shows_in, step_in}
 use Rattle.lf_scenario.proofs.NamedRanges.{outcomes_fit, range-All, range-Any, range-Down, range-Shows}

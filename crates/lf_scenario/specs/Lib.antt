@@ -6,7 +6,5 @@ pub mod Reading
 pub mod Outcomes
 pub mod Limits
 pub mod LinkTables
-pub mod Formulas
 pub mod Ranges
 pub mod Scenarios
-pub mod Sameness

@@ -22,7 +22,7 @@ use Rattle.lf_outcome.specs.Outcomes.{outcome_named}
 use Rattle.lf_outcome.specs.declared.outcome.Outcome.{Outcome as Named}
 use Rattle.lf_scenario.specs.declared.key.Key.{Key}
 use Rattle.lf_scenario.specs.declared.key.Key.TheVariants.{Outcome}
-use Rattle.lf_scenario.specs.Limits.{deepest, most_atoms}
+use Rattle.lf_outcome.specs.Limits.{deepest, most_atoms}
 use Rattle.lf_scenario.specs.declared.error.ScenarioError.TheVariants as refusals
 use Rattle.lf_scenario.specs.Values.{Reading, ◌>>=◌, whole}
 

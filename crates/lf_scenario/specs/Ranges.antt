@@ -3,7 +3,7 @@ use Rattle.std.specs.Prelude.{◌≡◌, ℕ, ◌≤◌, Bool, List}
 use Rattle.lf_faults.specs.Allowed.{IsInLimits}
 use Rattle.lf_protocols.specs.Limits.{IsCommit, IsWithinLimits}
 use Rattle.lf_protocols.specs.Protocols.{nodes_of}
-use Rattle.lf_scenario.specs.Limits.{most_sets}
+use Rattle.lf_outcome.specs.Limits.{most_sets}
 use Rattle.lf_scenario.specs.declared.reading.Delays.{Delays}
 use Rattle.lf_scenario.specs.declared.reading.Described.{Described}
 

@@ -21,7 +21,8 @@ use Rattle.lf_scenario.specs.declared.key.Key.TheVariants.{MaxSets, Seed, Least,
 use Rattle.lf_scenario.specs.declared.error.ScenarioError.TheVariants as refusals
 use Rattle.lf_scenario.specs.declared.names.ProtocolName.{ProtocolName}
 use Rattle.lf_scenario.specs.declared.names.ProtocolName.TheVariants as protocols
-use Rattle.lf_scenario.specs.Limits.{most_sets, usual_sets}
+use Rattle.lf_outcome.specs.Limits.{most_sets}
+use Rattle.lf_scenario.specs.Limits.{usual_sets}
 use Rattle.lf_scenario.specs.declared.reading.Delays.{Delays}
 use Rattle.lf_scenario.specs.declared.reading.Described.{Described}
 use Rattle.lf_scenario.specs.Values.{Reading, ◌>>=◌, whole, seed_in, required, optional, owned, chosen, known}

@@ -11,7 +11,7 @@ use Rattle.lf_scenario.specs.declared.error.ScenarioError.{ScenarioError}
 use Rattle.lf_scenario.specs.declared.error.ScenarioError.TheVariants as refusals
 use Rattle.lf_scenario.specs.Limits.{longest}
 use Rattle.lf_scenario.specs.declared.reading.Described.{Described}
-use Rattle.lf_scenario.specs.declared.scenario.Scenario.{Scenario}
+use Rattle.lf_outcome.specs.declared.scenario.Scenario.{Scenario}
 use Rattle.lf_scenario.specs.Values.{Reading, ◌>>=◌, required}
 use Rattle.lf_scenario.specs.Reading.{described_in}
 use Rattle.lf_scenario.specs.Outcomes.{outcome_in}

@@ -1,16 +1,7 @@
-//! What a scenario may have at most.
+//! What the text of a scenario may have at most, and what it leaves out.
 
 /// The most bytes that the text of a scenario may have.
 pub const LONGEST: usize = 65536;
 
-/// How deep the formula of a scenario may be.
-pub const DEEPEST: u32 = 8;
-
-/// The most atoms that the formula of a scenario may have.
-pub const MOST_ATOMS: u32 = 512;
-
-/// The most sets of faults of one size that a scenario may let the search keep.
-pub const MOST_SETS: u32 = 1000000;
-
-/// How many it lets the search keep where it doesn't say so.
+/// How many sets of faults of one size it lets the search keep where it doesn't say so.
 pub(crate) const USUAL_SETS: u32 = 100000;

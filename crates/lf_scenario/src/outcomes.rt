@@ -3,18 +3,17 @@
 ghost use Rattle.std.specs.Prelude.{◌≡◌, ◌≢◌, IfOk, IfErr};
 ghost use Rattle.toml.specs.View.{view, items_view, table_view};
 ghost use Rattle.lf_outcome.specs.Outcomes.{outcome_named};
-ghost use Rattle.lf_scenario.specs.Formulas.{IsFormulaOf};
+ghost use Rattle.lf_outcome.specs.Formulas.{IsFormulaOf};
 ghost use Rattle.lf_scenario.specs.Ranges.{IsInRange};
 ghost use Rattle.lf_scenario.specs.Values.{required};
 ghost use Rattle.lf_scenario.specs.Outcomes.{node_in, step_in, fact_in, down_of, down_in, shows_of, shows_in};
 ghost use Rattle.lf_scenario.specs.Outcomes.{by_word, formula_in, parts_in, limited, list_formula, named_in, outcome_in};
 
-use crate::limits::{DEEPEST, MOST_ATOMS};
 use crate::reading::Described;
 use crate::value::{at, whole};
 use crate::{Key, ScenarioError};
 use lf_list::Listed;
-use lf_outcome::{Formula, Formulas, atoms, depth, named, outcome_named};
+use lf_outcome::{DEEPEST, Formula, Formulas, MOST_ATOMS, atoms, depth, named, outcome_named};
 use lf_protocols::Fact;
 use std::alloc::Global;
 use toml::{Table, Value};

@@ -5,19 +5,19 @@ ghost use Rattle.toml.specs.Data.{Members};
 ghost use Rattle.toml.specs.View.{table_view};
 ghost use Rattle.lf_latency.specs.Links.{IsLinks};
 ghost use Rattle.lf_protocols.specs.Protocols.{nodes_of};
-ghost use Rattle.lf_scenario.specs.Formulas.{IsFormulaOf};
+ghost use Rattle.lf_outcome.specs.Formulas.{IsFormulaOf};
 ghost use Rattle.lf_scenario.specs.Limits.{longest};
 ghost use Rattle.lf_scenario.specs.Ranges.{IsInRange};
 ghost use Rattle.lf_scenario.specs.Scenarios.{IsDocument, IsScenario, IsAskedBy, IsRefused, IsText, asked_in};
 
+use crate::ScenarioError;
 use crate::limits::LONGEST;
 use crate::links::{Usual, all_links};
 use crate::outcomes::read_formula;
 use crate::reading::{Delays, Described, described_in};
-use crate::{Scenario, ScenarioError};
 use lf_faults::FaultSpec;
 use lf_latency::{Links, Network};
-use lf_outcome::Formula;
+use lf_outcome::{Formula, Scenario};
 use lf_protocols::{Fact, Protocol};
 use lf_sim::Setting;
 use std::alloc::Global;
@@ -74,11 +74,11 @@ pub fn assembled(described: Described, formula: Formula<Fact>, links: Links) -> 
     let bounds = described.bounds;
     let seed = described.delays.seed;
     let network = Network::new(seed, links, bounds.nodes(), bounds.horizon());
-    Scenario {
-        setting: settled(described.protocol, network, bounds),
+    Scenario::new(
+        settled(described.protocol, network, bounds),
         formula,
-        max_sets: described.max_sets,
-    }
+        described.max_sets,
+    )
 }
 
 /// The protocol on the network, with bounds on its faults, where the three agree.

@@ -5,18 +5,19 @@ ghost use Rattle.lf_faults.specs.Allowed.{without_pauses};
 ghost use Rattle.lf_protocols.specs.Limits.{IsWithinLimits};
 ghost use Rattle.lf_protocols.specs.Protocols.{nodes_of};
 ghost use Rattle.toml.specs.View.{view, table_view};
-ghost use Rattle.lf_scenario.specs.Limits.{most_sets};
+ghost use Rattle.lf_outcome.specs.Limits.{most_sets};
 ghost use Rattle.lf_scenario.specs.Ranges.{AreDelays, IsInRange};
 ghost use Rattle.lf_scenario.specs.Values.{required};
 ghost use Rattle.lf_scenario.specs.Reading.{protocol_of, protocol_in, has_tries, has_patience, has_votes};
 ghost use Rattle.lf_scenario.specs.Reading.{kind_of, bounds_in, max_sets_in, delays_in, kind_in, described_in};
 
-use crate::limits::{MOST_SETS, USUAL_SETS};
+use crate::limits::USUAL_SETS;
 use crate::names::ProtocolName;
 use crate::value::{at, known, optional_seed, optional_whole, owned_whole, required_whole};
 use crate::votes::chosen_votes;
 use crate::{Key, ScenarioError};
 use lf_faults::FaultSpec;
+use lf_outcome::MOST_SETS;
 use lf_protocols::Protocol;
 use toml::{Table, Value};
 

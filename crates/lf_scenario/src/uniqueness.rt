@@ -2,8 +2,8 @@
 
 ghost use Rattle.std.specs.Prelude.{◌≡◌, ℕ, List};
 ghost use Rattle.lf_scenario.specs.declared.error.ScenarioError.{ScenarioError};
-ghost use Rattle.lf_scenario.specs.declared.scenario.Scenario.{Scenario};
-ghost use Rattle.lf_scenario.specs.Sameness.{AreSame};
+ghost use Rattle.lf_outcome.specs.declared.scenario.Scenario.{Scenario};
+ghost use Rattle.lf_outcome.specs.Sameness.{AreSame};
 ghost use Rattle.lf_scenario.specs.Scenarios.{IsRefused, IsText};
 
 /// A text has at most one refusal, and none where it is the text of a scenario.

@@ -26,7 +26,8 @@ place-inside nodes n t horizon count a b e =
     let rows : (t + 1) * nodes ≤ (horizon + 1) * nodes = mul-le-mul_right nodes (omega arith) in
     omega (arith, rows)
 
-module _ {A : Type 0} (cells more after : List A) (k : ℕ) (x : A) (is : more ≡ cells ++ x ∷ []) (inside : k < length cells) (long : length after ≡ length cells) where
+module _ {A : Type 0} (cells more after : List A) (k : ℕ) (x : A) (is : more ≡ cells ++ x ∷ []) (inside : k < length cells)
+    (long : length after ≡ length cells) where
   longer : length more ≡ length cells + 1
   longer = ap length is ∙ length-append cells (x ∷ [])
 

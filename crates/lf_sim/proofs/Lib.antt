@@ -7,3 +7,6 @@ mod ListsLemmas
 mod PointsLemmas
 mod RunsLemmas
 mod SchedulesLemmas
+pub mod ChangesLemmas
+pub mod MarksLemmas
+pub mod WaysLemmas

@@ -7,3 +7,5 @@ pub mod Runs
 pub mod Schedules
 pub mod Settings
 pub mod Tables
+pub mod Changes
+pub mod Marks

@@ -2,13 +2,17 @@
 //!
 //! Nodes are numbered from 0 and steps from 1. At each step every node that is up takes its inbox and its state, and
 //! gives a new state and at most one note for each other node.
+//!
+//! The run of one set of faults is made that of another: only those points are worked again that come out otherwise.
 #![tactic(auto)]
 
 mod again;
+mod change;
 mod effects;
 mod grid;
 mod letter;
 mod machine;
+mod marks;
 mod out;
 mod past;
 mod points;
@@ -18,6 +22,7 @@ mod schedule;
 mod setting;
 
 pub use again::play_again;
+pub use change::rerun;
 pub use effects::Effects;
 pub use letter::Letter;
 pub use machine::Machine;

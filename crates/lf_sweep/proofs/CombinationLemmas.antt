@@ -1,5 +1,6 @@
 -- Combinations and their numbers.
-use Rattle.std.proofs.Common.{◌≡◌, ℕ, ◌+◌, ◌*◌, ◌/◌, ◌%◌, ◌<◌, ◌≤◌, List, [], ◌∷◌, ◌++◌, String, Global, string_bytes, length, get_or, drop, map, append_assoc, sym, ap, subst, ◌∙◌, arith, mul-pos, mul_comm, mul_assoc, div-add-mod', refl}
+use Rattle.std.proofs.Common.{◌≡◌, ℕ, ◌+◌, ◌*◌, ◌/◌, ◌%◌, ◌<◌, ◌≤◌, List, [], ◌∷◌, ◌++◌, String, Global, string_bytes, length, get_or}
+use Rattle.std.proofs.Common.{drop, map, append_assoc, sym, ap, subst, ◌∙◌, arith, mul-pos, mul_comm, mul_assoc, div-add-mod', refl}
 use Rattle.std.proofs.lemmas.List.{at_drop_more, map-append}
 use Rattle.std.proofs.lemmas.Nat.{div-mul-add, mod-mul-add, div_below, mod_below, mul-add-lt, mul-le}
 use Rattle.lf_sweep.specs.declared.varied.Varied.{Varied}
@@ -14,7 +15,8 @@ some_combinations (v ∷ vs) = mul-pos v.some (some_combinations vs)
 -- and no fewer with one more that varies
 pub more_combinations : (v : Varied) (vs : List Varied) → combinations vs ≤ count_of v.words * combinations vs
 more_combinations v vs =
-    let least : 1 * combinations vs ≤ count_of v.words * combinations vs = mul-le 1 (combinations vs) (count_of v.words) (combinations vs) v.some (omega arith) in
+    let least : 1 * combinations vs ≤ count_of v.words * combinations vs =
+    mul-le 1 (combinations vs) (count_of v.words) (combinations vs) v.some (omega arith) in
     omega (arith, least)
 
 -- the combinations of those behind the first
@@ -97,8 +99,10 @@ module _ (vs : List Varied) (v : Varied) (i : ℕ) (inside : i < length vs) (is 
       let first : words_at (drop i vs) left
       ≡ word_at v.words (left / combinations (drop (i + 1) vs)) ∷ words_at (drop (i + 1) vs) (left % combinations (drop (i + 1) vs)) =
       at_drop_more (λ xs. words_at xs left) vs i v inside
-      ∙ ap (λ (x : Varied). word_at x.words (left / combinations (drop (i + 1) vs)) ∷ words_at (drop (i + 1) vs) (left % combinations (drop (i + 1) vs))) (sym is) in
+      ∙ ap (λ (x : Varied). word_at x.words (left / combinations (drop (i + 1) vs)) ∷ words_at (drop (i + 1) vs) (left % combinations (drop (i + 1) vs)))
+      (sym is) in
       let here : string_bytes word ∷ rest ≡ words_at (drop i vs) left =
       ap (λ w. w ∷ rest) word_is ∙ ap (λ b. word_at v.words (left / b) ∷ words_at (drop (i + 1) vs) (left % b)) base_is ∙ sym first in
-      ap (λ l. map string_bytes l ++ rest) pushed_is ∙ ap (λ l. l ++ rest) (map-append string_bytes words (word ∷ [])) ∙ append_assoc (map string_bytes words) (string_bytes word ∷ []) rest
+      ap (λ l. map string_bytes l ++ rest) pushed_is ∙ ap (λ l. l ++ rest) (map-append string_bytes words (word ∷ []))
+      ∙ append_assoc (map string_bytes words) (string_bytes word ∷ []) rest
       ∙ ap (λ l. map string_bytes words ++ l) here ∙ so_far

@@ -4,7 +4,8 @@ use Rattle.std.proofs.lemmas.Bool.{cases_Bool, and_parts, false≢true}
 use Rattle.std.proofs.lemmas.Option.{same_Some}
 use Rattle.toml.specs.Data.{Data, string, integer, float, boolean, datetime, table, array, Items, item, no_items, Members, member, no_members}
 use Rattle.toml.specs.Tables.{Expression, Definition, key_value, std_table, array_table}
-use Rattle.toml.specs.Text.{IsValueText, IsItemsText, IsMembersText, IsLineText, IsLinesText, IsDocumentText, after_item, are_tables, before_item, breaks_lines, elements, expressions, is_section, needs_header, pairs, section, sections}
+use Rattle.toml.specs.Text.{IsValueText, IsItemsText, IsMembersText, IsLineText, IsLinesText, IsDocumentText, after_item, are_tables}
+use Rattle.toml.specs.Text.{before_item, breaks_lines, elements, expressions, is_section, needs_header, pairs, section, sections}
 use Rattle.lf_sweep.specs.declared.varied.Varied.{Varied}
 use Rattle.lf_sweep.specs.Exact.{has_no_floats, items_have_no_floats, members_have_no_floats}
 use Rattle.lf_sweep.specs.Texts.{IsScenario, IsTextWith, with_words}

@@ -4,3 +4,4 @@ mod ListedLemmas
 mod MemberLemmas
 mod ReadingLemmas
 mod TextLemmas
+mod LineLemmas

@@ -1,5 +1,6 @@
 -- Values at the keys of a scenario, by the entries of a map.
-use Rattle.std.proofs.Common.{◌≡◌, ℕ, ◌+◌, ◌≤◌, false, ◌++◌, ◌∙◌, replicate, Some, subst, List, [], ◌∷◌, String, Global, Ordering, Less, Equal, Greater, string_bytes, nat_cmp, refl, ap}
+use Rattle.std.proofs.Common.{◌≡◌, ℕ, ◌+◌, ◌≤◌, false, ◌++◌, ◌∙◌, replicate, Some, subst, List, [], ◌∷◌, String}
+use Rattle.std.proofs.Common.{Global, Ordering, Less, Equal, Greater, string_bytes, nat_cmp, refl, ap}
 use Rattle.std.proofs.lemmas.List.{replicate_more}
 use Rattle.std.proofs.lemmas.Cmp.{nat_list_cmp_total}
 use Rattle.std.specs.Cmp.{tied_itself}

@@ -1,5 +1,6 @@
 -- What varies, as it is read.
-use Rattle.std.proofs.Common.{◌≡◌, ◌≢◌, ℕ, ◌<◌, suc, List, [], ◌∷◌, ◌++◌, length, string_bytes, Option, Some, None, Result, Ok, Err, Bor, IfErr, refl, sym, ap, subst, ◌∙◌, arith, inl, inr}
+use Rattle.std.proofs.Common.{◌≡◌, ◌≢◌, ℕ, ◌<◌, suc, List, [], ◌∷◌, ◌++◌, length, string_bytes, Option, Some, None}
+use Rattle.std.proofs.Common.{Result, Ok, Err, Bor, IfErr, refl, sym, ap, subst, ◌∙◌, arith, inl, inr}
 use Rattle.std.specs.Prelude.{MatchOption, MatchResult}
 use Rattle.std.proofs.lemmas.List.{length-map}
 use Rattle.std.proofs.lemmas.Str.Pattern.{IsSplitOnceResult, split_after, split_parts}
@@ -8,7 +9,8 @@ use Rattle.lf_sweep.specs.declared.error.VaryError.TheVariants as faults
 use Rattle.lf_sweep.specs.declared.varied.Varied.{Varied}
 use Rattle.lf_sweep.specs.declared.words.Words.{Words}
 use Rattle.lf_sweep.specs.declared.words.Words.TheVariants as words
-use Rattle.lf_sweep.specs.Varied.{AreListed, AreNoNumbers, AreNoWords, AreNotListed, AreNumbers, AreWords, IsCut, IsNoneOf, IsNotVaried, IsPlace, IsRange, IsVaried, Lacks}
+use Rattle.lf_sweep.specs.Varied.{AreListed, AreNoNumbers, AreNoWords, AreNotListed, AreNumbers, AreWords}
+use Rattle.lf_sweep.specs.Varied.{IsCut, IsNoneOf, IsNotVaried, IsPlace, IsRange, IsVaried, Lacks}
 use Rattle.lf_sweep.proofs.ListedLemmas.{list_or_none, values_once}
 
 -- `split_once` cuts a text at the first of a byte

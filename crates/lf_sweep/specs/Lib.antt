@@ -9,3 +9,7 @@ pub mod Texts
 pub mod Exact
 pub mod Lines
 pub mod Parts
+pub mod Counts
+pub mod Faults
+pub mod Rows
+pub mod Sweeps

@@ -1,5 +1,6 @@
 -- Values in a list, as they are written.
-use Rattle.std.specs.Prelude.{◌≡◌, ℕ, ◌+◌, ◌≤◌, ◌<◌, ◌==◌, ◌&&◌, ◌||◌, ⊤, not, Bool, true, false, List, [], ◌∷◌, ◌++◌, length, take, drop, slice_index_or, is_some}
+use Rattle.std.specs.Prelude.{◌≡◌, ℕ, ◌+◌, ◌≤◌, ◌<◌, ◌==◌, ◌&&◌, ◌||◌, ⊤, not, Bool, true, false}
+use Rattle.std.specs.Prelude.{List, [], ◌∷◌, ◌++◌, length, take, drop, slice_index_or, is_some}
 use Rattle.std.specs.List.{list_any}
 use Rattle.toml.specs.Parse.{parse_value}
 use Rattle.lf_sweep.specs.declared.error.VaryError.{VaryError}

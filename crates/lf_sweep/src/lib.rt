@@ -3,28 +3,44 @@
 //! A sweep asks of one scenario again and again, with other values at some of its keys. What varies is written `KEY=VALUES`; the
 //! combinations of the values are numbered, the last key that varies runs fastest. Each has the words of its values, and the text of the
 //! scenario that has these values.
+//!
+//! Sweeps: the lines of all combinations of values of one scenario, whoever replies to it.
+//!
+//! The lines are written in the order of the combinations, whatever the number of workers.
 #![tactic(auto)]
 
 mod apart;
+mod asker;
+mod counts;
 mod error;
+mod fault;
 mod laws;
 mod line;
+mod lines;
 mod listed;
 mod members;
 mod part;
 mod plan;
 mod reading;
+mod row;
+mod study;
+mod sweeping;
 mod text;
 mod value;
 mod varied;
 mod words;
 
+pub use asker::{Asker, Replied};
+pub use counts::{Counts, Kind};
 pub use error::{PlanError, TextError, VaryError};
+pub use fault::SweepFault;
 pub use laws::{combinations_are_numbered, texts_are_one};
 pub use line::line_of;
 pub use part::{MOST_PARTS, Part};
 pub use plan::{MOST_COMBINATIONS, Plan};
 pub use reading::read_varied;
+pub use study::Study;
+pub use sweeping::{sweep, sweep_shared};
 pub use text::text_of;
 pub use varied::{Place, Varied};
 pub use words::{MOST_VALUES, Words};

@@ -4,7 +4,8 @@ ghost use Rattle.std.specs.Prelude.{◌≡◌, ◌≢◌, ◌≤◌, ◌<◌, �
 ghost use Rattle.lf_sweep.specs.declared.varied.Place.{Place};
 ghost use Rattle.lf_sweep.specs.declared.words.Words.{Words};
 ghost use Rattle.lf_sweep.specs.declared.varied.Varied.{Varied};
-ghost use Rattle.lf_sweep.specs.Varied.{AreListed, AreNoNumbers, AreNoWords, AreNotListed, AreNumbers, AreWords, IsConstant, IsCut, IsNoPlace, IsNoneOf, IsNotVaried};
+ghost use Rattle.lf_sweep.specs.Varied.{AreListed, AreNoNumbers, AreNoWords, AreNotListed, AreNumbers, AreWords};
+ghost use Rattle.lf_sweep.specs.Varied.{IsConstant, IsCut, IsNoPlace, IsNoneOf, IsNotVaried};
 ghost use Rattle.lf_sweep.specs.Varied.{IsPlace, IsRange, IsVaried};
 ghost use Rattle.lf_sweep.specs.Words.{count_of, most_values};
 

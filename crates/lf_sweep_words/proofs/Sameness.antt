@@ -1,5 +1,6 @@
 -- A text says one thing that varies.
-use Rattle.std.proofs.Common.{◌≡◌, ◌∙◌, ℕ, ◌<◌, List, [], ◌∷◌, refl, sym, ap, subst, true, false, codes, inl, inr, map, length, string_bytes, Option, Some, None}
+use Rattle.std.proofs.Common.{◌≡◌, ◌∙◌, ℕ, ◌<◌, List, [], ◌∷◌, refl, sym, ap, subst, true, false}
+use Rattle.std.proofs.Common.{codes, inl, inr, map, length, string_bytes, Option, Some, None}
 use Rattle.std.specs.Prelude.{Bool, ◌||◌, ◌+◌, ◌-◌, if◌then◌else◌}
 use Rattle.std.specs.List.{list_any}
 use Rattle.std.specs.Str.{bytes_eq}

@@ -9,9 +9,9 @@ use Rattle.lf_sim.specs.Outs.{note_to}
 use Rattle.lf_sim.specs.OutsLemmas.{note_to-nothing}
 use Rattle.lf_sim.specs.Runs.{World, letter, did}
 use Rattle.lf_sim.proofs.Laws.{did-zero, letter-silent}
-use Rattle.lf_meaning.specs.declared.state.State.{State}
-use Rattle.lf_meaning.specs.declared.state.Note.{Note as Message}
-use Rattle.lf_ruled.specs.Instances.{Instance}
+use Rattle.lf_rule_machine.specs.declared.state.State.{State}
+use Rattle.lf_rule_machine.specs.declared.state.Note.{Note as Message}
+use Rattle.lf_rule_machine.specs.Instances.{Instance}
 use Rattle.lf_protocols.specs.declared.note.Note.{Note}
 use Rattle.lf_protocols.specs.RuledTurns.{hear_by_rules}
 use Rattle.lf_taken.specs.Turns.{taken_by_note, taken_by_letters}

@@ -1,5 +1,6 @@
 -- How rules are numbered, and which are taken of chains that are gone through.
-use Rattle.std.proofs.Common.{◌≡◌, ℕ, ◌+◌, ◌<◌, ◌≤◌, Bool, true, ◌&&◌, List, ◌∷◌, ◌++◌, length, take, drop, nat_le, sym, ap, ◌∙◌, arith, append_assoc, slice_index_or}
+use Rattle.std.proofs.Common.{◌≡◌, ℕ, ◌+◌, ◌<◌, ◌≤◌, Bool, true, ◌&&◌, List, ◌∷◌, ◌++◌, length, take}
+use Rattle.std.proofs.Common.{drop, nat_le, sym, ap, ◌∙◌, arith, append_assoc, slice_index_or}
 use Rattle.std.proofs.Common.{add-one, drop-cons}
 use Rattle.std.specs.Prelude.{slice_get, Some}
 use Rattle.std.specs.List.{fold, sum_by}
@@ -10,10 +11,10 @@ use Rattle.lf_sim.specs.declared.out.Stepped.{Stepped}
 use Rattle.lf_rules.specs.declared.rule.Chain.{Chain}
 use Rattle.lf_rules.specs.declared.definition.Definition.{Definition}
 use Rattle.lf_rules.specs.Forms.{rules_in, is_from, is_in_limits, is_well_formed}
-use Rattle.lf_meaning.specs.declared.moment.Moment.{Moment}
-use Rattle.lf_meaning.specs.declared.state.State.{State}
-use Rattle.lf_meaning.specs.declared.state.Note.{Note}
-use Rattle.lf_acting.specs.Choices.{take_at}
+use Rattle.lf_rule_machine.specs.declared.moment.Moment.{Moment}
+use Rattle.lf_rule_machine.specs.declared.state.State.{State}
+use Rattle.lf_rule_machine.specs.declared.state.Note.{Note}
+use Rattle.lf_rule_machine.specs.Choices.{take_at}
 use Rattle.lf_taken.specs.Numbers.{taken_at, taken_through}
 
 -- the rules of a chain and of those after it

@@ -10,14 +10,14 @@ use Rattle.lf_rules.specs.declared.rule.Rule.{Rule}
 use Rattle.lf_rules.specs.declared.rule.Chain.{Chain}
 use Rattle.lf_rules.specs.declared.definition.Definition.{Definition}
 use Rattle.lf_rules.specs.Forms.{rules_in}
-use Rattle.lf_meaning.specs.declared.moment.Moment.{Moment}
-use Rattle.lf_meaning.specs.declared.state.State.{State}
-use Rattle.lf_meaning.specs.declared.state.Note.{Note}
-use Rattle.lf_meaning.specs.Sets.{is_true}
-use Rattle.lf_meaning.specs.Values.{value_of}
-use Rattle.lf_acting.specs.Events.{first_true, do_found, act}
-use Rattle.lf_acting.specs.Choices.{chosen, take_at}
-use Rattle.lf_acting.proofs.Laws.{chosen-acts}
+use Rattle.lf_rule_machine.specs.declared.moment.Moment.{Moment}
+use Rattle.lf_rule_machine.specs.declared.state.State.{State}
+use Rattle.lf_rule_machine.specs.declared.state.Note.{Note}
+use Rattle.lf_rule_machine.specs.Sets.{is_true}
+use Rattle.lf_rule_machine.specs.Values.{value_of}
+use Rattle.lf_rule_machine.specs.Events.{first_true, do_found, act}
+use Rattle.lf_rule_machine.specs.Choices.{chosen, take_at}
+use Rattle.lf_rule_machine.proofs.Laws.{chosen-acts}
 use Rattle.lf_taken.specs.Numbers.{number_true, taken_of, taken_at, taken_through, taken_in}
 use Rattle.lf_taken.specs.Readings.{all_rules, do_number}
 use Rattle.lf_taken.proofs.NumbersLemmas.{rules-cons}

@@ -7,12 +7,12 @@ use Rattle.lf_rules.specs.declared.rule.Rule.{Rule}
 use Rattle.lf_rules.specs.declared.rule.Chain.{Chain}
 use Rattle.lf_rules.specs.declared.definition.Definition.{Definition}
 use Rattle.lf_rules.specs.Forms.{rules_in}
-use Rattle.lf_meaning.specs.declared.moment.Moment.{Moment}
-use Rattle.lf_meaning.specs.declared.state.State.{State}
-use Rattle.lf_meaning.specs.declared.state.Note.{Note}
-use Rattle.lf_meaning.specs.Sets.{is_true}
-use Rattle.lf_meaning.specs.Values.{value_of}
-use Rattle.lf_acting.specs.Choices.{chosen, take_at}
+use Rattle.lf_rule_machine.specs.declared.moment.Moment.{Moment}
+use Rattle.lf_rule_machine.specs.declared.state.State.{State}
+use Rattle.lf_rule_machine.specs.declared.state.Note.{Note}
+use Rattle.lf_rule_machine.specs.Sets.{is_true}
+use Rattle.lf_rule_machine.specs.Values.{value_of}
+use Rattle.lf_rule_machine.specs.Choices.{chosen, take_at}
 
 -- the number of the first rule of a chain that isn't of an earlier one
 abbrev pub first_number : Definition → ℕ → ℕ

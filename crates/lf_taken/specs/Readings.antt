@@ -4,10 +4,10 @@ use Rattle.lf_sim.specs.declared.out.Stepped.{Stepped}
 use Rattle.lf_rules.specs.declared.rule.Rule.{Rule}
 use Rattle.lf_rules.specs.declared.rule.Chain.{Chain}
 use Rattle.lf_rules.specs.declared.definition.Definition.{Definition}
-use Rattle.lf_meaning.specs.declared.moment.Moment.{Moment}
-use Rattle.lf_meaning.specs.declared.state.State.{State}
-use Rattle.lf_meaning.specs.declared.state.Note.{Note}
-use Rattle.lf_acting.specs.Events.{do_found}
+use Rattle.lf_rule_machine.specs.declared.moment.Moment.{Moment}
+use Rattle.lf_rule_machine.specs.declared.state.State.{State}
+use Rattle.lf_rule_machine.specs.declared.state.Note.{Note}
+use Rattle.lf_rule_machine.specs.Events.{do_found}
 
 -- the rules of all chains, in order
 abbrev pub all_rules : List Chain → List Rule

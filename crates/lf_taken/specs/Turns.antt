@@ -5,10 +5,10 @@ use Rattle.lf_sim.specs.declared.letter.Letter.{Letter}
 use Rattle.lf_sim.specs.declared.out.Stepped.{Stepped}
 use Rattle.lf_rules.specs.declared.rule.Event.{Event}
 use Rattle.lf_rules.specs.declared.rule.Event.TheVariants as events
-use Rattle.lf_meaning.specs.declared.state.State.{State}
-use Rattle.lf_meaning.specs.declared.state.Note.{Note as Message}
-use Rattle.lf_ruled.specs.Instances.{Instance}
-use Rattle.lf_ruled.specs.Machines.{moment, no_fields, opened, wake_of}
+use Rattle.lf_rule_machine.specs.declared.state.State.{State}
+use Rattle.lf_rule_machine.specs.declared.state.Note.{Note as Message}
+use Rattle.lf_rule_machine.specs.Instances.{Instance}
+use Rattle.lf_rule_machine.specs.Machines.{moment, no_fields, opened, wake_of}
 use Rattle.lf_protocols.specs.declared.note.Note.{Note}
 use Rattle.lf_protocols.specs.declared.note.Note.TheVariants as notes
 use Rattle.lf_protocols.specs.RuledTurns.{begin_by_rules, hear_by_rules}

@@ -48,7 +48,8 @@ impl Point<'_> {
         requires run { IsRun (world_of self.now.setting.now) self.now.run.now }
         requires from { from < (world_of self.now.setting.now).rules.nodes }
         ensures { let w = world_of self.now.setting.now in let faults = set_of self.now.run.now in
-            IfOk result (λ _. found.new.items ≡ found.old.items ++ letters_from w faults (did w faults) self.now.node (self.now.past + 1) from (self.now.past + 1)) }
+            IfOk result (λ _. found.new.items
+            ≡ found.old.items ++ letters_from w faults (did w faults) self.now.node (self.now.past + 1) from (self.now.past + 1)) }
     {
         'steps: for sent in 0..self.past + 1 {
             self.push_letter(from, sent, found)?;
@@ -67,7 +68,8 @@ impl Point<'_> {
         requires from { from < (world_of self.now.setting.now).rules.nodes }
         requires sent { sent ≤ self.now.past }
         ensures { let w = world_of self.now.setting.now in let faults = set_of self.now.run.now in
-            IfOk result (λ _. found.new.items ≡ found.old.items ++ option_to_list (letter w faults (did w faults) self.now.node (self.now.past + 1) from sent)) }
+            IfOk result (λ _. found.new.items
+            ≡ found.old.items ++ option_to_list (letter w faults (did w faults) self.now.node (self.now.past + 1) from sent)) }
     {
         if let Some(letter) = self.letter(from, sent) {
             found.push(letter)?;

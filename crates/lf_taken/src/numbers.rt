@@ -2,15 +2,14 @@
 
 ghost use Rattle.std.specs.Prelude.{◌≡◌, ◌+◌, ◌≤◌, ◌++◌, IfOk, Some, length, slice_get, take};
 ghost use Rattle.lf_rules.specs.Forms.{rules_in};
-ghost use Rattle.lf_meaning.specs.Sets.{is_true};
-ghost use Rattle.lf_meaning.specs.Values.{value_of};
+ghost use Rattle.lf_rule_machine.specs.Sets.{is_true};
+ghost use Rattle.lf_rule_machine.specs.Values.{value_of};
 ghost use Rattle.std.specs.List.{fold};
-ghost use Rattle.lf_acting.specs.Events.{act};
-ghost use Rattle.lf_acting.specs.Choices.{take_at};
+ghost use Rattle.lf_rule_machine.specs.Events.{act};
+ghost use Rattle.lf_rule_machine.specs.Choices.{take_at};
 ghost use Rattle.lf_taken.specs.Numbers.{number_true, taken_of, taken_at, taken_through, taken_in};
 
-use lf_acting::{chosen, go_through};
-use lf_meaning::{Moment, Note, State, value_of};
+use lf_rule_machine::{Moment, Note, State, chosen, go_through, value_of};
 use lf_rules::{Chain, Definition, Event, Rule};
 use lf_sim::Stepped;
 use std::alloc::{AllocError, Global};

@@ -5,10 +5,10 @@ ghost use Rattle.std.specs.List.{fold};
 ghost use Rattle.lf_sim.specs.declared.out.Stepped.{Stepped};
 ghost use Rattle.lf_rules.specs.declared.rule.Event.{Event};
 ghost use Rattle.lf_rules.specs.declared.definition.Definition.{Definition};
-ghost use Rattle.lf_meaning.specs.declared.moment.Moment.{Moment};
-ghost use Rattle.lf_meaning.specs.declared.state.State.{State};
-ghost use Rattle.lf_meaning.specs.declared.state.Note.{Note};
-ghost use Rattle.lf_acting.specs.Events.{act};
+ghost use Rattle.lf_rule_machine.specs.declared.moment.Moment.{Moment};
+ghost use Rattle.lf_rule_machine.specs.declared.state.State.{State};
+ghost use Rattle.lf_rule_machine.specs.declared.state.Note.{Note};
+ghost use Rattle.lf_rule_machine.specs.Events.{act};
 ghost use Rattle.lf_taken.specs.Numbers.{taken_in};
 ghost use Rattle.lf_taken.specs.Readings.{do_number};
 

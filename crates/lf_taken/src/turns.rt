@@ -2,17 +2,16 @@
 
 ghost use Rattle.std.specs.Prelude.{◌≡◌, ◌++◌, IfOk, slice_get};
 ghost use Rattle.std.specs.List.{fold};
-ghost use Rattle.lf_acting.specs.Events.{act};
-ghost use Rattle.lf_ruled.specs.Constants.{row_of};
-ghost use Rattle.lf_ruled.specs.Machines.{moment, opened, act_alone, wake_of};
+ghost use Rattle.lf_rule_machine.specs.Events.{act};
+ghost use Rattle.lf_rule_machine.specs.Constants.{row_of};
+ghost use Rattle.lf_rule_machine.specs.Machines.{moment, opened, act_alone, wake_of};
 ghost use Rattle.lf_protocols.specs.RuledTurns.{hear_by_rules};
 ghost use Rattle.lf_taken.specs.Numbers.{taken_in};
 ghost use Rattle.lf_taken.specs.Turns.{taken_alone, taken_by_note, taken_by_letters, taken_in_step, taken_in_turn};
 
 use crate::numbers::{self, Turn};
-use lf_meaning::{Moment, State};
 use lf_protocols::Note;
-use lf_ruled::Ruled;
+use lf_rule_machine::{Moment, Ruled, State};
 use lf_rules::Event;
 use lf_sim::{Letter, Machine, Out, Stepped};
 use std::alloc::{AllocError, Global};

@@ -1,8 +1,8 @@
 //! Limits that all texts have.
 
 use lf_expression_hints::{is_number, pieces_of};
+use lf_grammar::{MOST_OPEN, MOST_TOKENS, TokenError, read_tokens};
 use lf_hint_places::{Told, Words, said, said_of};
-use lf_tokens::{MOST_OPEN, MOST_TOKENS, TokenError, read_tokens};
 use std::alloc::{AllocError, Global};
 
 /// Which limit of all texts the text at a place passes: numbers are 0 to 255, and there are only so many tokens, and brackets open at once. None

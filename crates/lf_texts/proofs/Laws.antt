@@ -11,7 +11,7 @@ use Rattle.lf_rules.specs.declared.sort.Sort.{Sort}
 use Rattle.lf_rules.specs.declared.sort.Sort.TheVariants as sorts
 use Rattle.lf_rules.specs.declared.definition.Definition.{Definition}
 use Rattle.lf_rules.specs.declared.definition.NoteForm.{NoteForm}
-use Rattle.lf_tokens.specs.declared.token.Token.{Token}
+use Rattle.lf_grammar.specs.declared.token.Token.{Token}
 use Rattle.lf_grammar.specs.Places.{Context}
 use Rattle.lf_texts.specs.declared.events.Heard.{Heard}
 use Rattle.lf_texts.specs.declared.values.When.{When}

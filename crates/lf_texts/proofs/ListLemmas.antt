@@ -1,8 +1,8 @@
 -- Items in a row, read one by one.
 use Rattle.std.proofs.Common.{◌≡◌, ℕ, suc, ◌+◌, ◌-◌, ◌<◌, ◌≤◌, List, [], ◌∷◌, ◌++◌, Option, Some, None, Ok, Err, length, zero, drop, get_or, drop-cons}
 use Rattle.std.proofs.Common.{add-one, length-append, subst, refl, arith}
-use Rattle.lf_tokens.specs.declared.sign.Sign.{Sign}
-use Rattle.lf_tokens.specs.declared.token.Token.{Token}
+use Rattle.lf_grammar.specs.declared.sign.Sign.{Sign}
+use Rattle.lf_grammar.specs.declared.token.Token.{Token}
 use Rattle.lf_grammar.specs.Fronts.{behind_sign}
 use Rattle.lf_texts.specs.declared.error.TextError.{TextError}
 use Rattle.lf_texts.specs.declared.error.TextError.TheVariants as faults

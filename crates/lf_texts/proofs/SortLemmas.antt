@@ -8,7 +8,7 @@ use Rattle.lf_rules.specs.Trees.{parts}
 use Rattle.lf_rules.specs.declared.expr.Leaf.TheVariants as leaves
 use Rattle.lf_rules.specs.declared.sort.Sort.{Sort}
 use Rattle.lf_rules.specs.declared.sort.Sort.TheVariants as sorts
-use Rattle.lf_tokens.specs.declared.token.Token.{Token}
+use Rattle.lf_grammar.specs.declared.token.Token.{Token}
 use Rattle.lf_grammar.specs.Expressions.{first_sum, first_truth}
 use Rattle.lf_grammar.specs.Fronts.{behind_word}
 use Rattle.lf_grammar.specs.Places.{Context}
@@ -22,7 +22,7 @@ use Rattle.lf_texts.specs.Reading.{Reading, ◌>>=◌, wanted, checked, Read}
 use Rattle.lf_texts.specs.Values.{expression, of_sort, first_of_sort, first_nodes, nodes_in, value_in, guard_in, else_in, when_in}
 use Rattle.std.proofs.Common.{ℕ, zero, suc, ◌++◌}
 use Rattle.std.specs.List.{list_all}
-use Rattle.lf_tokens.specs.declared.sign.Sign.{Sign}
+use Rattle.lf_grammar.specs.declared.sign.Sign.{Sign}
 use Rattle.lf_grammar.specs.Fronts.{behind_sign}
 use Rattle.lf_texts.specs.Lists.{listed}
 use Rattle.std.proofs.lemmas.Bool.{and_from, eq-eqb}

@@ -7,8 +7,8 @@ use Rattle.lf_rules.specs.declared.expr.Leaf.{Leaf}
 use Rattle.lf_rules.specs.declared.expr.Leaf.TheVariants as leaves
 use Rattle.lf_rules.specs.declared.rule.Assignment.{Assignment}
 use Rattle.lf_rules.specs.declared.sort.Sort.{Sort}
-use Rattle.lf_tokens.specs.declared.sign.Sign.TheVariants as signs
-use Rattle.lf_tokens.specs.declared.token.Token.{Token}
+use Rattle.lf_grammar.specs.declared.sign.Sign.TheVariants as signs
+use Rattle.lf_grammar.specs.declared.token.Token.{Token}
 use Rattle.lf_grammar.specs.Places.{Context, leaf_of}
 use Rattle.lf_texts.specs.declared.error.TextError.TheVariants as faults
 use Rattle.lf_texts.specs.Fronts.{ended, first_word, past}

@@ -1,6 +1,6 @@
 -- Why texts aren't read.
-use Rattle.lf_tokens.specs.declared.error.TokenError.{TokenError}
-use Rattle.lf_tokens.specs.declared.error.TokenError.TheVariants as tokens
+use Rattle.lf_grammar.specs.declared.token_error.TokenError.{TokenError}
+use Rattle.lf_grammar.specs.declared.token_error.TokenError.TheVariants as tokens
 use Rattle.lf_grammar.specs.declared.error.Unread.{Unread}
 use Rattle.lf_grammar.specs.declared.error.Unread.TheVariants as readings
 use Rattle.lf_texts.specs.declared.error.TextError.{TextError}

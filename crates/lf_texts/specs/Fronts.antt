@@ -1,11 +1,11 @@
 -- The tokens of texts, and what comes first among tokens.
 use Rattle.std.specs.Prelude.{ℕ, Bool, true, false, ◌&&◌, ◌==◌, List, [], ◌∷◌, Result, Ok, Err}
 use Rattle.std.specs.Str.{bytes_eq}
-use Rattle.lf_tokens.specs.declared.error.TokenError.{TokenError}
-use Rattle.lf_tokens.specs.declared.sign.Sign.{Sign}
-use Rattle.lf_tokens.specs.declared.token.Token.{Token}
-use Rattle.lf_tokens.specs.declared.token.Token.TheVariants as tokens
-use Rattle.lf_tokens.specs.Tokens.{tokens_of}
+use Rattle.lf_grammar.specs.declared.token_error.TokenError.{TokenError}
+use Rattle.lf_grammar.specs.declared.sign.Sign.{Sign}
+use Rattle.lf_grammar.specs.declared.token.Token.{Token}
+use Rattle.lf_grammar.specs.declared.token.Token.TheVariants as tokens
+use Rattle.lf_grammar.specs.Tokens.{tokens_of}
 use Rattle.lf_grammar.specs.Fronts.{behind_sign, behind_word, same_sign}
 use Rattle.lf_texts.specs.declared.error.TextError.TheVariants as faults
 use Rattle.lf_texts.specs.Faults.{of_tokens}

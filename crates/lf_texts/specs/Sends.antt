@@ -2,8 +2,8 @@
 use Rattle.std.specs.Prelude.{List, [], codes, Ok}
 use Rattle.lf_rules.specs.Kinds.{sort_of}
 use Rattle.lf_rules.specs.declared.rule.Send.{Send}
-use Rattle.lf_tokens.specs.declared.sign.Sign.TheVariants as signs
-use Rattle.lf_tokens.specs.declared.token.Token.{Token}
+use Rattle.lf_grammar.specs.declared.sign.Sign.TheVariants as signs
+use Rattle.lf_grammar.specs.declared.token.Token.{Token}
 use Rattle.lf_grammar.specs.Places.{Context}
 use Rattle.lf_texts.specs.Fronts.{ended, first_word, past_word}
 use Rattle.lf_texts.specs.Forms.{form_from}

@@ -7,7 +7,7 @@ use Rattle.lf_rules.specs.Trees.{parts}
 use Rattle.lf_rules.specs.declared.expr.Leaf.TheVariants as leaves
 use Rattle.lf_rules.specs.declared.sort.Sort.{Sort}
 use Rattle.lf_rules.specs.declared.sort.Sort.TheVariants as sorts
-use Rattle.lf_tokens.specs.declared.token.Token.{Token}
+use Rattle.lf_grammar.specs.declared.token.Token.{Token}
 use Rattle.lf_grammar.specs.Expressions.{first_truth, first_sum}
 use Rattle.lf_grammar.specs.Fronts.{behind_word}
 use Rattle.lf_grammar.specs.Places.{Context}

@@ -1,9 +1,9 @@
 -- What variables hold.
 use Rattle.std.specs.Prelude.{ℕ, ◌≤◌, List, [], ◌∷◌, length, Option, Some, None, Ok}
 use Rattle.lf_rules.specs.declared.kind.Kind.{Kind}
-use Rattle.lf_tokens.specs.declared.sign.Sign.TheVariants as signs
-use Rattle.lf_tokens.specs.declared.token.Token.{Token}
-use Rattle.lf_tokens.specs.declared.token.Token.TheVariants as tokens
+use Rattle.lf_grammar.specs.declared.sign.Sign.TheVariants as signs
+use Rattle.lf_grammar.specs.declared.token.Token.{Token}
+use Rattle.lf_grammar.specs.declared.token.Token.TheVariants as tokens
 use Rattle.lf_grammar.specs.Places.{Context}
 use Rattle.lf_grammar.specs.declared.place.Meaning.{Meaning}
 use Rattle.lf_texts.specs.declared.variables.VariableText.{VariableText}

@@ -10,9 +10,8 @@ use crate::TextError;
 use crate::fronts::{ended, first_word, past};
 use crate::lists::put;
 use crate::values::first_of_sort;
-use lf_grammar::{Place, behind_sign};
+use lf_grammar::{Place, Sign, Token, behind_sign};
 use lf_rules::{Assignment, Leaf, Sort};
-use lf_tokens::{Sign, Token};
 use std::alloc::Global;
 
 /// The most variables that a rule sets.

@@ -2,8 +2,7 @@
 
 ghost use Rattle.std.specs.Prelude.{◌≡◌};
 
-use lf_grammar::Unread;
-use lf_tokens::TokenError;
+use lf_grammar::{TokenError, Unread};
 use std::alloc::AllocError;
 use thiserror::Error;
 

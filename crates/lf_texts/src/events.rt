@@ -11,10 +11,9 @@ use crate::forms::form_named;
 use crate::fronts::{ended, first_word};
 use crate::lists::{closed, opened, put};
 use crate::names::{is_free, named};
-use lf_grammar::{Meaning, Place};
+use lf_grammar::{Meaning, Place, Token};
 use lf_list::Listed;
 use lf_rules::{Event, Kind, Name};
-use lf_tokens::Token;
 use std::alloc::Global;
 
 /// What a rule is on.

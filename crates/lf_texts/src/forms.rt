@@ -10,10 +10,9 @@ use crate::fronts::{ended, first_word, past};
 use crate::kinds::first_kind;
 use crate::lists::put;
 use crate::names::{is_name, is_note_name, named};
-use lf_grammar::behind_sign;
+use lf_grammar::{Sign, Token, behind_sign};
 use lf_list::Listed;
 use lf_rules::{Definition, Kind, Name, NoteForm, Variable};
-use lf_tokens::{Sign, Token};
 use std::alloc::Global;
 
 /// The most fields that a note has.

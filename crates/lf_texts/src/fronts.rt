@@ -5,9 +5,8 @@ ghost use Rattle.lf_texts.specs.Fronts.{same_token, same_tokens, text_in, ended,
 ghost use Rattle.lf_texts.specs.Reading.{Says, Gives};
 
 use crate::TextError;
-use lf_grammar::{behind_sign, behind_word};
+use lf_grammar::{Sign, Token, behind_sign, behind_word, read_tokens};
 use lf_rules::Name;
-use lf_tokens::{Sign, Token, read_tokens};
 use std::alloc::Global;
 
 /// The tokens of a text, or its first fault from the left.

@@ -7,8 +7,8 @@ ghost use Rattle.lf_texts.specs.Reading.{Says, read_by};
 
 use crate::TextError;
 use crate::fronts::past;
+use lf_grammar::{Sign, Token};
 use lf_rules::{Kind, Variable};
-use lf_tokens::{Sign, Token};
 
 /// The greatest value of a step.
 const LAST_STEP: u8 = 48;

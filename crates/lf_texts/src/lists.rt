@@ -6,7 +6,7 @@ ghost use Rattle.lf_texts.specs.Reading.{Says};
 
 use crate::TextError;
 use crate::fronts::past;
-use lf_tokens::{Sign, Token};
+use lf_grammar::{Sign, Token};
 
 /// Puts an item behind the others.
 pub(crate) fn put<T: Drop>(items: &mut Vec<T>, item: T) -> Result<(), TextError>

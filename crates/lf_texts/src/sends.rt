@@ -13,10 +13,9 @@ use crate::forms::form_named;
 use crate::fronts::{ended, first_word, past_word};
 use crate::lists::{closed, opened, put};
 use crate::values::{first_nodes, first_of_sort};
-use lf_grammar::{Place, behind_sign};
+use lf_grammar::{Place, Sign, Token, behind_sign};
 use lf_list::Listed;
 use lf_rules::{Expr, Kind, Send};
-use lf_tokens::{Sign, Token};
 use std::alloc::Global;
 
 /// The most notes that a rule sends.

@@ -11,9 +11,8 @@ ghost use Rattle.lf_texts.specs.Values.{expression, of_sort, first_of_sort, firs
 
 use crate::TextError;
 use crate::fronts::ended;
-use lf_grammar::{Place, Typed, Unread, as_set, behind_word, read_sum, read_truth};
+use lf_grammar::{Place, Token, Typed, Unread, as_set, behind_word, read_sum, read_truth};
 use lf_rules::{Expr, Leaf, Sort, Tree};
-use lf_tokens::Token;
 use std::alloc::Global;
 
 /// When a rule is taken.

@@ -11,10 +11,9 @@ use crate::fronts::{ended, first_word, past};
 use crate::kinds::{first_range, kind_named};
 use crate::lists::put;
 use crate::names::{is_free, is_name, named};
-use lf_grammar::{Meaning, Place, behind_sign};
+use lf_grammar::{Meaning, Place, Sign, Token, behind_sign};
 use lf_list::Listed;
 use lf_rules::{Kind, Name};
-use lf_tokens::{Sign, Token};
 use std::alloc::Global;
 
 /// The most words that a variable has.

@@ -1,2 +1,6 @@
 mod Lines
 mod Pieces
+mod Firsts
+mod ChangeLines
+mod Points
+mod RuleLines

@@ -2,3 +2,8 @@ pub mod Lines
 pub mod Namings
 pub mod Traces
 pub mod Words
+pub mod Beside
+pub mod Changes
+pub mod Elsewhere
+pub mod First
+pub mod RuleTraces

@@ -14,7 +14,8 @@ use Rattle.lf_tree.specs.declared.tree.Node.TheVariants as kind
 use Rattle.lf_tree.specs.Texts.{depth_of, depth_step}
 use Rattle.lf_tree.specs.Trees.{is_ascending, is_count}
 use Rattle.lf_tree.specs.Reading.{Reading, ◌>>=◌, checked, some_or, fault_named, fault_in, whole_in, step_in, all_in, faults_in, edges_in, steps_in, reach_in}
-use Rattle.lf_tree.specs.Reading.{BranchData, set_in, answer_in, format_in, one_in, branch_parts, tree_parts, leaf_in, leaf_or, kids_in, branch_in, node_in, most_branches, parts_in}
+use Rattle.lf_tree.specs.Reading.{BranchData, set_in, answer_in, format_in, one_in, branch_parts, tree_parts}
+use Rattle.lf_tree.specs.Reading.{leaf_in, leaf_or, kids_in, branch_in, node_in, most_branches, parts_in}
 use Rattle.lf_tree.specs.Reading.{tree_in}
 use Rattle.lf_tree.proofs.NodeCases.{fold-Misses, fold-Reaches, depth-Branch-le}
 
@@ -95,7 +96,8 @@ tree-low d =
     (λ parts p. after-ok (λ _. ⊤) IsShallow (answer_in parts.answer) _ (any-ok (answer_in parts.answer))
     (λ a q. after-ok (λ _. ⊤) IsShallow (format_in parts.format) (λ f. node_in most_branches parts.root >>= (λ n. Ok (record { answer = a; root = n })))
     (any-ok (format_in parts.format))
-    (λ f r. after-ok (IsLow 6) IsShallow (node_in most_branches parts.root) (λ n. Ok (record { answer = a; root = n })) (node-low 6 parts.root) (λ n low. low))))
+    (λ f r. after-ok (IsLow 6) IsShallow (node_in most_branches parts.root) (λ n. Ok (record { answer = a; root = n }))
+    (node-low 6 parts.root) (λ n low. low))))
 
 -- What can be wrong
 
@@ -218,5 +220,6 @@ tree-sound d =
     after-sound (some_or Form (tree_parts d)) parts_in
     (some-sound Form (tree_parts d) refl)
     (λ parts. after-sound (answer_in parts.answer) _ (answer-sound parts.answer)
-    (λ a. after-sound (format_in parts.format) (λ f. node_in most_branches parts.root >>= (λ n. Ok (record { answer = a; root = n }))) (format-sound parts.format)
+    (λ a. after-sound (format_in parts.format) (λ f. node_in most_branches parts.root >>= (λ n. Ok (record { answer = a; root = n })))
+    (format-sound parts.format)
     (λ f. after-sound (node_in most_branches parts.root) (λ n. Ok (record { answer = a; root = n })) (node-sound most_branches parts.root) (λ n. tt))))

@@ -1,7 +1,7 @@
 -- How a run differs from that without one of its faults, by the cases of the code.
 use Rattle.std.proofs.Common.{◌≡◌, ℕ, Bool, true, false, List, length, ◌==◌, sym, ap, ◌∙◌, cond}
-use Rattle.lf_changes.specs.Elsewhere.{elsewhere, told_or}
-use Rattle.lf_changes.specs.First.{first_difference}
+use Rattle.lf_trace.specs.Elsewhere.{elsewhere, told_or}
+use Rattle.lf_trace.specs.First.{first_difference}
 use Rattle.lf_faults.specs.declared.fault.Parts.{Parts}
 use Rattle.lf_outcome.specs.declared.formula.Formula.{Formula}
 use Rattle.lf_sim.specs.Runs.{World}

@@ -1,9 +1,9 @@
 -- What each fault of a set is needed for.
 use Rattle.std.specs.Prelude.{ℕ, suc, Bool, false, true, if◌then◌else◌, List, [], ◌++◌, length, take, drop, codes, slice_get, Option, None, Some}
 use Rattle.std.specs.Option.{unwrap_or}
-use Rattle.lf_changes.specs.Elsewhere.{elsewhere, told_or}
-use Rattle.lf_changes.specs.First.{first_difference}
-use Rattle.lf_failing.specs.Failing.{first_failing}
+use Rattle.lf_trace.specs.Elsewhere.{elsewhere, told_or}
+use Rattle.lf_trace.specs.First.{first_difference}
+use Rattle.lf_outcome.specs.Failing.{first_failing}
 use Rattle.lf_faults.specs.declared.fault.Parts.{Parts}
 use Rattle.lf_faults.specs.declared.fault.Parts.TheVariants.{Omit, Crash, Pause}
 use Rattle.lf_faults.specs.Texts.{spelling}

@@ -7,12 +7,10 @@ ghost use Rattle.lf_trace.specs.Traces.{end_word};
 ghost use Rattle.lf_why.specs.Sets.{difference, failing_step, head, name_at, reason, reasons, stop_difference, stops, stops_at, without};
 
 use crate::without::without;
-use lf_changes::{elsewhere, first_difference};
-use lf_failing::first_failing;
 use lf_faults::{Fault, FaultSet, Parts, fault_text};
-use lf_outcome::Formula;
+use lf_outcome::{Formula, first_failing};
 use lf_sim::{Run, Setting, run};
-use lf_trace::{Worded, end_word};
+use lf_trace::{Worded, elsewhere, end_word, first_difference};
 use std::alloc::{AllocError, Global};
 
 /// What each fault is needed for that a run of this setting has: for each, in their order, `without FAULT: reaches` or `without FAULT: misses`, by the run of

@@ -16,7 +16,8 @@ use Rattle.lf_words.specs.declared.types.Asked.TheVariants as asked
 use Rattle.lf_words.specs.declared.unasked.Unasked.{Unasked}
 use Rattle.lf_words.specs.declared.unasked.Unasked.TheVariants as unasked
 use Rattle.lf_words.proofs.Plain.{counted_fault, counted_names, is_taken, named_search, written_fault, written_names}
-use Rattle.lf_words.proofs.Plainly.{Search, answer_or_search, both, check_or_search, draw_or_search, no_thing, protocol_or_search, run_or_search, some_is, why_or_search}
+use Rattle.lf_words.proofs.Plainly.{Search, answer_or_search, both, check_or_search, draw_or_search, no_thing}
+use Rattle.lf_words.proofs.Plainly.{protocol_or_search, run_or_search, some_is, why_or_search}
 use Rattle.lf_words.proofs.Reading.{no_truth}
 
 -- a certificate for the scenario of a file would be written into it, or into the file of its protocol

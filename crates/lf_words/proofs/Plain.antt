@@ -125,7 +125,8 @@ unfolding clap_on_literals
 run_fault file faults taken taken_too = rw (taken.no_end, taken.no_long, taken.no_short, taken_too.no_end, taken_too.no_long, taken_too.no_short) refl
 
 pub run_names : (file faults : Text) → IsTaken file → IsTaken faults
-    → option_map named_run (subcommand_of program (codes "run" ∷ file ∷ faults ∷ [])) ≡ Some (codes "run", Some file, Some faults, (false, false, false, None), None, None)
+    → option_map named_run (subcommand_of program (codes "run" ∷ file ∷ faults ∷ []))
+    ≡ Some (codes "run", Some file, Some faults, (false, false, false, None), None, None)
 unfolding clap_on_literals
 run_names file faults taken taken_too = rw (taken.no_end, taken.no_long, taken.no_short, taken_too.no_end, taken_too.no_long, taken_too.no_short) refl
 

@@ -21,8 +21,10 @@ use Rattle.lf_words.specs.declared.types.Shown.TheVariants as shown
 use Rattle.lf_words.specs.declared.unasked.Unasked.{Unasked}
 use Rattle.lf_words.specs.declared.unasked.Unasked.TheVariants as unasked
 use Rattle.lf_words.proofs.Plain.{IsTaken, is_taken, named_alone, named_answer, named_check, named_draw, named_one, named_run, named_search}
-use Rattle.lf_words.proofs.Plain.{answer_fault, answer_names, check_fault, check_names, draw_fault, draw_names, run_fault, run_names, search_fault, search_names}
-use Rattle.lf_words.proofs.Plain.{help_fault, protocol_fault, protocol_names, short_help_fault, short_version_fault, unknown_fault, version_fault, why_fault, why_names}
+use Rattle.lf_words.proofs.Plain.{answer_fault, answer_names, check_fault, check_names, draw_fault}
+use Rattle.lf_words.proofs.Plain.{draw_names, run_fault, run_names, search_fault, search_names}
+use Rattle.lf_words.proofs.Plain.{help_fault, protocol_fault, protocol_names, short_help_fault, short_version_fault}
+use Rattle.lf_words.proofs.Plain.{unknown_fault, version_fault, why_fault, why_names}
 use Rattle.lf_words.proofs.Reading.{apart, no_truth}
 
 abbrev Run : Type 0
@@ -237,7 +239,8 @@ asks_run : (words : List Text) (o : Option (Text × List Row)) (file faults : St
     → words ≡ codes "run" ∷ string_bytes file ∷ string_bytes faults ∷ [] → IsAskedIn words o (asked.Run file faults shown.Whole None None)
 asks_run words None file faults names is = absurd (no_thing _ names)
 asks_run words (Some p) file faults names is =
-    let pair : named_run p ≡ (codes "run", Some (string_bytes file), Some (string_bytes faults), (false, false, false, None), None, None) = some_is _ _ names in (
+    let pair : named_run p ≡ (codes "run", Some (string_bytes file), Some (string_bytes faults), (false, false, false, None), None, None) =
+    some_is _ _ names in (
       (
         ap (λ (q : Run). q.0) pair,
         ap (λ (q : Run). q.1) pair,

@@ -2,7 +2,8 @@
 
 ghost use Rattle.std.specs.Prelude.{◌≡◌, IfOk, false};
 ghost use Rattle.clap.specs.Words.{App, Rule, app_of, rule_of, with_rule, with_subcommand};
-ghost use Rattle.lf_words.specs.Commands.{IsBuilt, answer, check, delays, draw, faults, flag, known, of_file, option, plain, positional, program, protocol, quiet, run, search, why};
+ghost use Rattle.lf_words.specs.Commands.{IsBuilt, answer, check, delays, draw, faults, flag, known, of_file, option};
+ghost use Rattle.lf_words.specs.Commands.{plain, positional, program, protocol, quiet, run, search, why};
 
 use clap::{Arg, ArgAction, Command};
 use std::alloc::{AllocError, Global};

@@ -1,7 +1,7 @@
 //! What is told of wrong words.
 
+use crate::nearest;
 use clap::Error;
-use lf_near::nearest;
 use std::alloc::{AllocError, Global};
 
 /// The words that a command line can begin with.

@@ -17,7 +17,7 @@ use Rattle.lf_cone.proofs.Laws.{sharp_one, required_one}
 use Rattle.lf_certificate.specs.Grown.{IsReachFor}
 use Rattle.lf_marks.specs.Steps.{Mark, IsAnswer}
 use Rattle.lf_marks.specs.Steps as mark
-use Rattle.lf_search.specs.Found.{IsBranch, IsFound}
+use Rattle.lf_certificate.specs.Found.{IsBranch, IsFound}
 use Rattle.lf_work.proofs.EdgeLemmas.{few-ascending}
 
 module _ {State Note Fact : Type 0} (w : World State Note Fact) (b : Bounds) (formula : Formula Fact) (faults excluded : List Parts) where

@@ -9,7 +9,7 @@ use Rattle.lf_outcome.specs.Truth.{reaches}
 use Rattle.lf_cone.specs.Cones.{AreRequired}
 use Rattle.lf_marks.specs.Steps.{Mark, IsAnswer}
 use Rattle.lf_marks.specs.Steps as mark
-use Rattle.lf_search.specs.Found.{IsFound}
+use Rattle.lf_certificate.specs.Found.{IsFound}
 use Rattle.lf_work.proofs.FoundLemmas as lemmas
 
 module _ {State Note Fact : Type 0} (w : World State Note Fact) (b : Bounds) (formula : Formula Fact) (faults excluded : List Parts) where

@@ -19,7 +19,7 @@ use Rattle.lf_cone.proofs.Laws.{sharp_exists, required_one, required_exist}
 use Rattle.lf_certificate.specs.Grown.{IsReachFor}
 use Rattle.lf_marks.specs.Steps.{Mark}
 use Rattle.lf_marks.specs.Steps as mark
-use Rattle.lf_search.specs.Found.{IsFound}
+use Rattle.lf_certificate.specs.Found.{IsFound}
 use Rattle.lf_work.proofs.FoundLemmas.{reach-one}
 
 reaches_set : IsSet (List ℕ)

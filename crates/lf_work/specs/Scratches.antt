@@ -1,7 +1,7 @@
 -- What a scratch holds.
 use Rattle.std.specs.Prelude.{◌≡◌, IfSome}
 use Rattle.std.specs.Arc.{arc_value}
-use Rattle.lf_scenario.specs.declared.scenario.Scenario.{Scenario}
+use Rattle.lf_outcome.specs.declared.scenario.Scenario.{Scenario}
 use Rattle.lf_sim.specs.Settings.{world_of}
 use Rattle.lf_work.specs.Jobs.{IsSpentOf}
 use Rattle.lf_work.specs.declared.scratch.Played.{Played}

@@ -3,14 +3,13 @@
 ghost use Rattle.std.specs.Arc.{arc_value};
 ghost use Rattle.lf_marks.specs.Answers.{mark_for};
 ghost use Rattle.lf_sim.specs.Settings.{world_of};
-ghost use Rattle.lf_search.specs.Found.{IsFound};
+ghost use Rattle.lf_certificate.specs.Found.{IsFound};
 
 use crate::job::Job;
 use crate::spent::Spent;
 use lf_faults::{Fault, FaultSet};
 use lf_marks::Answer;
-use lf_outcome::Reach;
-use lf_scenario::Scenario;
+use lf_outcome::{Reach, Scenario};
 
 /// A job with its answer, which is what the run of the job's set shows: whether it misses the outcome, and where it reaches it and has
 /// fewer faults than the budget, the sharp reach of what the outcome rests on and the edges that are required within it. The type keeps
@@ -28,7 +27,7 @@ impl Finding {
     ghost use Rattle.lf_faults.specs.declared.fault.Parts.{Parts};
     ghost use Rattle.lf_marks.specs.Steps as mark;
     ghost use Rattle.lf_outcome.specs.Truth.{reaches};
-    ghost use Rattle.lf_search.specs.Found.{IsBranch};
+    ghost use Rattle.lf_certificate.specs.Found.{IsBranch};
     ghost use Rattle.lf_work.specs.Jobs.{IsSpentOf};
 
     /// The job that was worked.

@@ -5,7 +5,7 @@ ghost use Rattle.std.specs.Arc.{arc_value};
 
 use crate::spent::Spent;
 use lf_faults::{Fault, FaultSet};
-use lf_scenario::Scenario;
+use lf_outcome::Scenario;
 use std::alloc::AllocError;
 use std::sync::Arc;
 

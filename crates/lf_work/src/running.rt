@@ -8,9 +8,8 @@ ghost use Rattle.lf_work.specs.Scratches.{IsPlayedFor, IsScratchFor};
 use crate::job::Job;
 use crate::scratch::{Played, Scratch};
 use lf_faults::FaultSpec;
-use lf_player::rerun;
 use lf_protocols::Protocol;
-use lf_sim::{Setting, run};
+use lf_sim::{Setting, rerun, run};
 use std::alloc::AllocError;
 use std::sync::Arc;
 

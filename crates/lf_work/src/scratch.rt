@@ -5,8 +5,8 @@ ghost use Rattle.lf_sim.specs.Settings.{IsRun, world_of};
 
 use crate::spent::Spent;
 use lf_faults::Fault;
+use lf_outcome::Scenario;
 use lf_protocols::Protocol;
-use lf_scenario::Scenario;
 use lf_sim::Run;
 use std::alloc::Global;
 use std::sync::Arc;
@@ -32,7 +32,7 @@ pub struct Scratch {
 
 impl Scratch {
     ghost use Rattle.std.specs.Prelude.{◌≡◌, IfSome, None, Some};
-    ghost use Rattle.lf_scenario.specs.declared.scenario.Scenario.{Scenario};
+    ghost use Rattle.lf_outcome.specs.declared.scenario.Scenario.{Scenario};
     ghost use Rattle.lf_work.specs.Jobs.{IsSpentOf};
     ghost use Rattle.lf_work.specs.Scratches.{IsScratchFor};
 

@@ -4,7 +4,7 @@ ghost use Rattle.std.specs.Prelude.{◌≡◌, IfOk};
 ghost use Rattle.std.specs.Arc.{arc_value};
 
 use lf_faults::Fault;
-use lf_scenario::Scenario;
+use lf_outcome::Scenario;
 use std::alloc::{AllocError, Global};
 use std::sync::Arc;
 

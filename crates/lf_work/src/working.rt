@@ -4,7 +4,7 @@ ghost use Rattle.std.specs.Prelude.{◌≡◌, ◌≤◌, IfOk, length};
 ghost use Rattle.std.specs.Arc.{arc_value};
 ghost use Rattle.lf_marks.specs.Answers.{mark_for, reach_of, edges_of};
 ghost use Rattle.lf_sim.specs.Settings.{IsRun, set_of, world_of};
-ghost use Rattle.lf_search.specs.Found.{IsFound};
+ghost use Rattle.lf_certificate.specs.Found.{IsFound};
 ghost use Rattle.lf_work.specs.Jobs.{IsOfJob};
 ghost use Rattle.lf_work.specs.Scratches.{IsScratchFor};
 

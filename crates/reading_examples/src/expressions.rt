@@ -1,9 +1,8 @@
 //! Expressions, read: how many parts they have.
 
-use lf_grammar::{Place, read_truth};
+use lf_grammar::{Place, read_tokens, read_truth};
 use lf_list::Listed;
 use lf_rules::{Definition, Scope, Tree};
-use lf_tokens::read_tokens;
 use std::alloc::Global;
 
 /// How many parts an expression has that the text is.

@@ -2,7 +2,7 @@
 
 use crate::build::{agrees, columns, definition, number, words};
 use lf_naming::{fact_named, push_fact};
-use lf_ruled::{Fact, Told};
+use lf_rule_machine::{Fact, Told};
 use lf_rules::Definition;
 use std::alloc::{AllocError, Global};
 use std::process::Abort;

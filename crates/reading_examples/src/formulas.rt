@@ -1,13 +1,12 @@
 //! Promises, read and told in a short form as the formulas that they are.
 
-use lf_grammar::Place;
+use lf_grammar::{Place, read_tokens};
 use lf_list::Listed;
 use lf_outcome::Formula;
+use lf_own_scenario::{Scene, UnfoldError, unfold};
 use lf_promises::{Promise, PromiseError, read_promise};
 use lf_protocols::Fact;
 use lf_rules::{Definition, Kind, Name, Scope, Variable};
-use lf_tokens::read_tokens;
-use lf_unfolding::{Scene, UnfoldError, unfold};
 use std::alloc::{AllocError, Global};
 use std::process::Abort;
 

@@ -6,7 +6,7 @@ ghost use Rattle.lf_rules.specs.declared.expr.Binary.TheVariants as twos;
 ghost use Rattle.lf_rules.specs.declared.expr.Leaf.TheVariants as leaves;
 ghost use Rattle.lf_rules.specs.declared.sort.Scope.TheVariants as scopes;
 ghost use Rattle.lf_rules.specs.declared.sort.Sort.TheVariants as sorts;
-ghost use Rattle.lf_tokens.specs.Tokens.{tokens_of};
+ghost use Rattle.lf_grammar.specs.Tokens.{tokens_of};
 ghost use Rattle.lf_grammar.specs.Expressions as expressions;
 ghost use Rattle.lf_grammar.specs.Places.{Context, context_of};
 ghost use Rattle.lf_grammar.specs.Readings.{said};
@@ -14,10 +14,10 @@ ghost use Rattle.lf_promises.specs.Promises as promises;
 
 use crate::build::{agrees, definition};
 use lf_grammar::{
-    Place, Typed, Unread, bracketed_is_read_back, enough_steps_read_the_same, read_truth,
+    Place, Token, TokenError, Typed, Unread, bracketed_is_read_back, enough_steps_read_the_same,
+    read_tokens, read_truth,
 };
 use lf_rules::{Definition, Scope};
-use lf_tokens::{Token, TokenError, read_tokens};
 use std::alloc::Global;
 
 /// Where no name is declared, in a rule that is on no note.

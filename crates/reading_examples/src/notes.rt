@@ -1,8 +1,8 @@
 //! The texts of notes.
 
 use crate::build::{agrees, columns, definition, fill, number, words};
-use lf_meaning::Note;
 use lf_naming::push_note;
+use lf_rule_machine::Note;
 use std::alloc::{AllocError, Global};
 
 /// For each line a note's form and its fields, and the text. What isn't there has no text.

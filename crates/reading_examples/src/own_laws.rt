@@ -3,25 +3,26 @@
 ghost use Rattle.std.specs.Prelude.{◌≡◌, ◌≢◌, true, codes, IfErr, IfOk, IfSome, IsTrue, Some};
 ghost use Rattle.toml.specs.Data.{Members, string, get_member};
 ghost use Rattle.toml.specs.View.{table_view};
-ghost use Rattle.lf_document.specs.declared.error.ProtocolError.{ProtocolError};
+ghost use Rattle.lf_protocol_file.specs.declared.error.ProtocolError.{ProtocolError};
 ghost use Rattle.lf_own_scenario.specs.Kept.{IsPromised};
 ghost use Rattle.lf_own_scenario.specs.Scenarios.{IsRefusedWith, IsTextWith};
 ghost use Rattle.lf_protocol_file.specs.Files as files;
 ghost use Rattle.lf_protocol_file.specs.Numbers.{AreNumbered};
-ghost use Rattle.lf_scenario.specs.Sameness.{AreSame};
+ghost use Rattle.lf_outcome.specs.Sameness.{AreSame};
 ghost use Rattle.lf_scenario.specs.Scenarios.{IsDocument};
 ghost use Rattle.lf_scenario.specs.declared.error.ScenarioError.{ScenarioError};
-ghost use Rattle.lf_scenario.specs.declared.scenario.Scenario.{Scenario};
-ghost use Rattle.lf_written.specs.declared.declared.Declared.{Declared};
-ghost use Rattle.lf_written.specs.Files.{is_whole};
+ghost use Rattle.lf_outcome.specs.declared.scenario.Scenario.{Scenario};
+ghost use Rattle.lf_protocol_file.specs.declared.declared.Declared.{Declared};
+ghost use Rattle.lf_protocol_file.specs.Written.{is_whole};
 
 use crate::build::agrees;
-use lf_document::at;
+use lf_outcome::Scenario;
 use lf_own_scenario::{outcomes_are_kept, read_with, scenarios_are_one};
 use lf_protocol_file::{
-    ProtocolError, ProtocolFile, files_are_one, files_are_whole, numbers_are_places, read_protocol,
+    ProtocolError, ProtocolFile, at, files_are_one, files_are_whole, numbers_are_places,
+    read_protocol,
 };
-use lf_scenario::{Scenario, ScenarioError};
+use lf_scenario::ScenarioError;
 use std::alloc::Global;
 use toml::{Table, Value};
 

@@ -1,8 +1,8 @@
 //! The texts of states.
 
 use crate::build::{agrees, columns, definition, fill};
-use lf_meaning::State;
 use lf_naming::push_state;
+use lf_rule_machine::State;
 use std::alloc::{AllocError, Global};
 
 /// For each line the variables that a trace shows, their values, and the text. What isn't there has no text.

@@ -1,6 +1,6 @@
 //! Texts, read.
 
-use lf_grammar::{Meaning, Place};
+use lf_grammar::{Meaning, Place, Token};
 use lf_list::Listed;
 use lf_rules::{Definition, Event, Kind, Leaf, Name, NoteForm, Scope, Variable};
 use lf_texts::{
@@ -8,7 +8,6 @@ use lf_texts::{
     read_nodes, read_note, read_sends, read_sets, read_value, read_variable, read_when,
     same_tokens, text_tokens,
 };
-use lf_tokens::Token;
 use std::alloc::{AllocError, Global};
 
 fn name(alloc: Global, text: &str) -> Result<Name, AllocError> {

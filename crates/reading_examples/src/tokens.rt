@@ -1,6 +1,6 @@
 //! The tokens of texts.
 
-use lf_tokens::{Sign, Token, TokenError, read_tokens};
+use lf_grammar::{Sign, Token, TokenError, read_tokens};
 use std::alloc::{AllocError, Global};
 
 /// Texts, each with its tokens or its fault.

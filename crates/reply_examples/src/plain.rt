@@ -5,7 +5,8 @@ use leastfault::{
     NoWatch, Searched, all_bytes, all_report, answer_reply, check_bytes, check_bytes_rows,
     plain_all, plain_answer, report, search_bytes,
 };
-use lf_scenario::{Scenario, read};
+use lf_outcome::Scenario;
+use lf_scenario::read;
 use lf_streams::{FromRead, ToWrite};
 use lf_tree::to_text;
 use std::alloc::{AllocError, Global};

@@ -1,8 +1,7 @@
 //! Makes definitions of values.
 
 use lf_list::Listed;
-use lf_meaning::{Note, State};
-use lf_ruled::Ruled;
+use lf_rule_machine::{Note, Ruled, State};
 use lf_rules::{
     Assignment, Binary, Chain, Constant, Definition, Event, Expr, Given, Guard, Kind, Leaf, Name,
     NoteForm, Rule, Rules, Send, Sort, Tree, Unary, Value, Variable,

@@ -4,8 +4,7 @@ use crate::build::{
     Made, and, binary, chain, definition, equal, expr, form, leaf, letter, machine, more, note,
     number, one, only, plain, rule, send, send_with, set, state, unary, variable, yes,
 };
-use lf_meaning::{Note, State};
-use lf_ruled::Ruled;
+use lf_rule_machine::{Note, Ruled, State};
 use lf_rules::{
     Assignment, Binary, Chain, Event, Kind, Leaf, NoteForm, Rule, Send, Unary, Variable,
 };

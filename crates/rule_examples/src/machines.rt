@@ -5,8 +5,7 @@ use crate::build::{
     rule, set, state, yes,
 };
 use lf_list::Listed;
-use lf_meaning::State;
-use lf_ruled::{Fact, Ruled, Told};
+use lf_rule_machine::{Fact, Ruled, State, Told};
 use lf_rules::{Chain, Constant, Definition, Event, Given, Kind, Leaf, Sort, Value};
 use lf_sim::Machine;
 use std::alloc::{AllocError, Global};

@@ -4,7 +4,7 @@ use crate::build::{
     chain, constant, definition, form, leaf, number, one, plain, rule, send, set, worded,
 };
 use lf_list::Listed;
-use lf_ruled::Ruled;
+use lf_rule_machine::Ruled;
 use lf_rules::{Definition, Event, Given, Kind, Leaf, Name, Rules, Sort, Value};
 use std::alloc::{AllocError, Global};
 use std::sync::Arc;

@@ -5,8 +5,7 @@ use crate::build::{
     note, number, one, only, plain, rule, send, set, state, unary, variable, word, worded,
 };
 use lf_list::Listed;
-use lf_meaning::State;
-use lf_ruled::{Fact, Ruled, Told};
+use lf_rule_machine::{Fact, Ruled, State, Told};
 use lf_rules::{
     Assignment, Binary, Chain, Constant, Definition, Event, Given, Guard, Kind, Leaf, NoteForm,
     Send, Sort, Unary, Value, Variable,

@@ -4,8 +4,8 @@ ghost use Rattle.std.specs.Prelude.{IfOk};
 
 use crate::texts::{agrees, asked, columns, is_text};
 use crate::told::found;
+use lf_outcome::Scenario;
 use lf_pool::{Gate, NoGate};
-use lf_scenario::Scenario;
 use lf_work::{Finding, Job, Scratch, work_suited};
 use std::alloc::{AllocError, Global};
 use std::process::Abort;

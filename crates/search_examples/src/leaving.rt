@@ -4,8 +4,8 @@ ghost use Rattle.std.specs.Prelude.{IfOk};
 
 use crate::gates::wait_for;
 use crate::texts::{agrees, asked};
+use lf_outcome::Scenario;
 use lf_pool::{Gate, NoGate, Solved, solve};
-use lf_scenario::Scenario;
 use lf_tree::to_text;
 use lf_work::{Finding, Job, Scratch, work_suited};
 use std::alloc::{AllocError, Global};

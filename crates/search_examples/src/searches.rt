@@ -2,8 +2,8 @@
 
 use crate::texts::{agrees, asked, columns, is_text, scenario};
 use crate::told::{found, found_all};
+use lf_outcome::Scenario;
 use lf_pool::NoGate;
-use lf_scenario::Scenario;
 use std::alloc::Global;
 use std::rt::Clock;
 use std::sync::{Arc, Wait};

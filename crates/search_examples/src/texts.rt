@@ -1,7 +1,8 @@
 //! The texts of examples, and how they are compared.
 
 use lf_faults::{FaultSet, fault_text};
-use lf_scenario::{Scenario, read};
+use lf_outcome::Scenario;
+use lf_scenario::read;
 use std::alloc::{AllocError, Global};
 use std::process::Abort;
 use std::sync::Arc;

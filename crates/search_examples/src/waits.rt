@@ -4,8 +4,8 @@ ghost use Rattle.std.specs.Prelude.{◌≡◌, ◌+◌, Some, IfOk};
 ghost use Rattle.std.specs.Arc.{arc_value};
 
 use crate::texts::{agrees, asked};
+use lf_outcome::Scenario;
 use lf_pool::{Gate, NoGate, Searched, Share, SharedBook, Turn};
-use lf_scenario::Scenario;
 use lf_work::{Finding, Job, Scratch, work_suited};
 use std::alloc::{AllocError, Global};
 use std::marker::Brand;

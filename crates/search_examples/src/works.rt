@@ -2,7 +2,7 @@
 
 use crate::texts::{agrees, scenario};
 use lf_faults::{Fault, FaultSet};
-use lf_scenario::Scenario;
+use lf_outcome::Scenario;
 use lf_work::{Finding, Job, work};
 use std::alloc::Global;
 use std::sync::Arc;

@@ -2,7 +2,7 @@
 
 use crate::made::Made;
 use lf_protocols::{Fact, Note, Protocol};
-use lf_ruled::Ruled;
+use lf_rule_machine::Ruled;
 use lf_rules::{Given, Rules};
 use lf_sim::{Machine, Run, Setting, run};
 use std::alloc::{AllocError, Global};

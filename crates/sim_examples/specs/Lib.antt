@@ -1,3 +1,7 @@
+pub mod Doors
+pub mod DoorsLemmas
+pub mod Mazes
+pub mod MazesLemmas
 pub mod Beacons
 pub mod BeaconsLemmas
 pub mod Samples

@@ -4,8 +4,7 @@ ghost use Rattle.std.specs.Prelude.{◌≡◌, IfOk};
 ghost use Rattle.lf_sim.specs.Settings.{IsRun, set_of, world_of};
 
 use lf_faults::FaultSet;
-use lf_player::rerun;
-use lf_sim::{Machine, Run, Setting, run};
+use lf_sim::{Machine, Run, Setting, rerun, run};
 use std::alloc::{AllocError, Global};
 
 /// Runs of one setting, one set of faults after another. It has the run of the set that it played last.

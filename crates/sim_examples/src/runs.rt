@@ -4,8 +4,7 @@ use crate::machines::{Hub, Ring};
 use crate::plain::{is_plain, plain};
 use crate::texts::{agrees, set, setting};
 use lf_faults::FaultSet;
-use lf_player::rerun;
-use lf_sim::{Machine, Setting, Stepped, run, runs_agree};
+use lf_sim::{Machine, Setting, Stepped, rerun, run, runs_agree};
 use std::alloc::Global;
 use std::process::Abort;
 

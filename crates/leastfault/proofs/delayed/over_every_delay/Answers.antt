@@ -1,5 +1,5 @@
 use Rattle.std.proofs.Common.{subst}
-use Rattle.lf_arrivals.specs.Answers.{IsFirstUnder}
+use Rattle.lf_delays.specs.Answers.{IsFirstUnder}
 use Rattle.lf_sim.specs.Settings.{world_of}
 use Rattle.leastfault.proofs.delayed.over_every_delay.Goals as goal
 

@@ -1,6 +1,6 @@
 use Rattle.std.proofs.Common.{◌≡◌, ◌≢◌, inr, string_bytes}
 use Rattle.std.proofs.lemmas.Result.{IfOk-weaker}
-use Rattle.lf_document.specs.declared.error.ProtocolError.{ProtocolError}
+use Rattle.lf_protocol_file.specs.declared.error.ProtocolError.{ProtocolError}
 use Rattle.leastfault.specs.Protocols.{IsProtocolReply, protocol_refusal}
 use Rattle.leastfault.proofs.protocol.protocol_reply.Goals as goal
 

@@ -2,7 +2,7 @@ use Rattle.std.proofs.Common.{◌≡◌, ◌≢◌, Some, true, inl, string_byte
 use Rattle.std.proofs.lemmas.Result.{IfOk-weaker}
 use Rattle.lf_sim.specs.Settings.{world_of}
 use Rattle.lf_scenario.specs.declared.error.ScenarioError.{ScenarioError}
-use Rattle.lf_rule_trace.specs.RuleTraces.{rule_trace}
+use Rattle.lf_trace.specs.RuleTraces.{rule_trace}
 use Rattle.leastfault.specs.Answers.{reaches_in}
 use Rattle.leastfault.specs.Replies.{IsRunReply}
 use Rattle.leastfault.specs.Reports.{no_set_line, refusal, run_status}

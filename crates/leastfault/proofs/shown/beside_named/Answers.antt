@@ -1,6 +1,6 @@
 use Rattle.std.proofs.Common.{◌≡◌, inl, inr, string_bytes}
 use Rattle.std.proofs.lemmas.Result.{IfOk-weaker}
-use Rattle.lf_changes.specs.Beside.{beside_by}
+use Rattle.lf_trace.specs.Beside.{beside_by}
 use Rattle.lf_sim.specs.Settings.{world_of}
 use Rattle.lf_trace.specs.Words.{words_of}
 use Rattle.leastfault.specs.Answers.{reaches_in}

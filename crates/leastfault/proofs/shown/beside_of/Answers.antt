@@ -1,5 +1,5 @@
 use Rattle.std.proofs.Common.{ap, ◌∙◌}
-use Rattle.lf_changes.specs.Beside.{beside_by}
+use Rattle.lf_trace.specs.Beside.{beside_by}
 use Rattle.lf_outcome.specs.Truth.{reaches}
 use Rattle.lf_sim.specs.Settings.{set_of, world_of}
 use Rattle.lf_trace.specs.Words.{words_of}

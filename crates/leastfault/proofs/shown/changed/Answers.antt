@@ -1,7 +1,7 @@
 use Rattle.std.proofs.Common.{ap, ◌∙◌}
 use Rattle.lf_outcome.specs.Truth.{reaches}
 use Rattle.lf_sim.specs.Settings.{world_of}
-use Rattle.lf_changes.specs.Changes.{changes_by}
+use Rattle.lf_trace.specs.Changes.{changes_by}
 use Rattle.lf_trace.specs.Words.{words_of}
 use Rattle.leastfault.specs.Reports.{run_status}
 use Rattle.leastfault.proofs.shown.changed.Goals as goal

@@ -1,12 +1,12 @@
 use Rattle.std.proofs.Common.{◌≡◌, ℕ, ◌+◌, None, Some, ap, sym, subst, string_bytes, ◌∙◌}
-use Rattle.lf_alone.specs.Ends.{IsFull}
+use Rattle.lf_book.specs.Ends.{IsFull}
 use Rattle.lf_book.specs.Books.{state_of}
 use Rattle.lf_book.specs.declared.book.Book.{Book}
 use Rattle.lf_book.proofs.Laws.{count_one}
 use Rattle.lf_marks.specs.Counting.{IsCount}
 use Rattle.lf_marks.specs.Steps as mark
 use Rattle.lf_pool.specs.Solved.{IsFullBook}
-use Rattle.lf_scenario.specs.declared.scenario.Scenario.{Scenario}
+use Rattle.lf_outcome.specs.declared.scenario.Scenario.{Scenario}
 use Rattle.leastfault.specs.declared.answering.Wanted.{Wanted}
 use Rattle.leastfault.specs.declared.answering.Wanted.TheVariants as wanted
 use Rattle.leastfault.specs.declared.reply.Reply.{Reply}

@@ -37,8 +37,13 @@ visit-visit_kids-requires g t c κs within =
     let is : c.args.node.now ≡ kind.Branch branch.reach edges kids =
     given-Branch c.args.node.now branch.reach branch.edges edges branch.kids kids branch.is c.as_slice.ensures c.as_slice-in-Branch.ensures in
     let r : IsRightBranch (world_of s) s.spec j.formula.now j.last c.args.depth c.args.set excluded branch.reach edges kids =
-    right-Branch (world_of s) s.spec j.formula.now j.last c.args.depth p branch.reach edges kids is right in
-    (omega arith, (within.0, (within.1.0, (within.1.1.0, (within.1.1.1, (r.above, ((λ f h. ((r.required.each f).0 h).allowed), (r.each, c.in_ok-fault.ensures.spent))))))))
+    right-Branch (world_of s) s.spec j.formula.now j.last c.args.depth p branch.reach edges kids is right in (
+      omega arith,
+      (
+        within.0,
+        (within.1.0, (within.1.1.0, (within.1.1.1, (r.above, ((λ f h. ((r.required.each f).0 h).allowed), (r.each, c.in_ok-fault.ensures.spent)))))),
+      ),
+    )
 
 pub visit-returns-in-Misses-clause-walk : goal.visit-returns-in-Misses-clause-walk
 visit-returns-in-Misses-clause-walk g t c =

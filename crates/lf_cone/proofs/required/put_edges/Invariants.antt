@@ -5,4 +5,5 @@ use Rattle.lf_cone.proofs.required.put_edges.Given as goal
 
 abbrev pub invariant-loop-step : goal.invariant-loop-step
 invariant-loop-step g l =
-    IsGathered (IsRequired (world_of l.setting) l.view.effects.set l.setting.spec l.view.reach l.view.marks.faults.now) (place_at (sender_row 0 l.step) 0) l.found.items
+    IsGathered (IsRequired (world_of l.setting) l.view.effects.set l.setting.spec l.view.reach l.view.marks.faults.now)
+    (place_at (sender_row 0 l.step) 0) l.found.items

@@ -15,5 +15,6 @@ returns-clause-arrivals c =
 
 pub delays-preserved : goal.delays-preserved
 delays-preserved c =
-    put_more c.args.network.now c.args.delays.now c.delays.delay-index (record { slot = record { from = 0; to = 0; step = 0 }; at = 0 }) c.delays.arrivals c.put.new.self
+    put_more c.args.network.now c.args.delays.now c.delays.delay-index (record { slot = record { from = 0; to = 0; step = 0 }; at = 0 })
+    c.delays.arrivals c.put.new.self
     c.keeps_limits.ensures.nodes_at_most c.keeps_limits.ensures.horizon_at_most c.requires c.delays-test.true c.delays.invariant c.put.ensures

@@ -5,7 +5,8 @@ use Rattle.lf_delays.proofs.reading.read_delay.Goals as goal
 
 pub returns-in_err-cut : goal.returns-in_err-cut
 returns-in_err-cut c =
-    rw c.from_residual.ensures (none-spaceless c.args.piece.now c.args.piece.now refl (rfind_char 32 c.args.piece.now None c.in_err-cut.ensures.cases (lit< tt)))
+    rw c.from_residual.ensures
+    (none-spaceless c.args.piece.now c.args.piece.now refl (rfind_char 32 c.args.piece.now None c.in_err-cut.ensures.cases (lit< tt)))
 
 pub returns-in_err-slot : goal.returns-in_err-slot
 returns-in_err-slot c =

@@ -1,6 +1,6 @@
 use Rattle.std.proofs.Common.{sym, subst}
 use Rattle.std.specs.Prelude.{◌≡◌, ◌≢◌, Option, All, Contains, IfNone, IfSome}
-use Rattle.lf_ruled.specs.declared.fact.Fact.{Fact}
+use Rattle.lf_rule_machine.specs.declared.fact.Fact.{Fact}
 use Rattle.lf_naming.specs.Names.{fact_name}
 use Rattle.lf_naming.specs.Facts.{facts_of}
 use Rattle.lf_naming.proofs.Laws.{found_named, none_named}

@@ -1,6 +1,6 @@
 use Rattle.std.proofs.Common.{◌++◌}
 use Rattle.std.specs.Prelude.{Some}
-use Rattle.lf_ruled.specs.declared.fact.Told.TheVariants as tolds
+use Rattle.lf_rule_machine.specs.declared.fact.Told.TheVariants as tolds
 use Rattle.lf_naming.specs.Facts.{both, flag_facts, guard_facts, has_name, word_facts}
 use Rattle.lf_naming.proofs.FirstsLemmas.{before_rest, past_first}
 use Rattle.lf_naming.proofs.finding.first_named.Goals as goal

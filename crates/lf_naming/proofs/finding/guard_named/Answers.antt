@@ -1,5 +1,5 @@
 use Rattle.std.specs.Prelude.{find}
-use Rattle.lf_ruled.specs.declared.fact.Told.TheVariants as tolds
+use Rattle.lf_rule_machine.specs.declared.fact.Told.TheVariants as tolds
 use Rattle.lf_naming.specs.Facts.{both, guard_facts, has_name}
 use Rattle.lf_naming.proofs.FirstsLemmas.{not_here}
 use Rattle.lf_naming.proofs.finding.guard_named.Goals as goal

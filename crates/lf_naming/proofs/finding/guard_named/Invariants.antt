@@ -1,6 +1,6 @@
 use Rattle.std.proofs.Common.{◌≡◌}
 use Rattle.std.specs.Prelude.{find}
-use Rattle.lf_ruled.specs.declared.fact.Told.TheVariants as tolds
+use Rattle.lf_rule_machine.specs.declared.fact.Told.TheVariants as tolds
 use Rattle.lf_naming.specs.Facts.{both, guard_facts, has_name}
 use Rattle.lf_naming.proofs.FirstsLemmas.{first_from}
 use Rattle.lf_naming.proofs.finding.guard_named.Given as goal

@@ -1,5 +1,5 @@
 use Rattle.std.specs.Prelude.{find, slice_get}
-use Rattle.lf_ruled.specs.declared.fact.Told.TheVariants as tolds
+use Rattle.lf_rule_machine.specs.declared.fact.Told.TheVariants as tolds
 use Rattle.lf_naming.specs.Facts.{both, has_name, own_words}
 use Rattle.lf_naming.proofs.FirstsLemmas.{not_here}
 use Rattle.lf_naming.proofs.finding.own_word_named.Goals as goal

@@ -21,4 +21,5 @@ fields-preserved c =
 pub returns : goal.returns
 returns c =
     let f = field_text c.args.definition.now c.args.note.now in
-    c.fields.invariant ∙ ap (λ fields. string_bytes c.args.text.now ++ join_with_byte 44 (map f fields)) (fields_whole c.args.kinds.now c.fields.place c.fields-test.false)
+    c.fields.invariant ∙ ap (λ fields. string_bytes c.args.text.now ++ join_with_byte 44 (map f fields))
+    (fields_whole c.args.kinds.now c.fields.place c.fields-test.false)

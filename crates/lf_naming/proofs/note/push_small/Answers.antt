@@ -12,5 +12,6 @@ loop-letter-preserved c =
 
 pub returns : goal.returns
 returns c =
-    let t = YieldsList-end (YieldsList-from_chars c.args.name.now c.utf8.name cc) c.loop-letter.yielded _ c.loop-letter.yielded_by _ _ c.in-None.is c.next.ensures.steps in
+    let t = YieldsList-end (YieldsList-from_chars c.args.name.now c.utf8.name cc) c.loop-letter.yielded _ c.loop-letter.yielded_by
+    _ _ c.in-None.is c.next.ensures.steps in
     small_told (string_bytes c.args.text.now) (string_bytes c.loop-letter.text) c.args.name.now c.loop-letter.yielded c.utf8.name c.loop-letter.invariant t.0

@@ -1,7 +1,7 @@
 use Rattle.std.proofs.Common.{◌≡◌, ◌+◌, ◌++◌, true, false, ap, ◌∙◌, sym, length, map, string_bytes, arith}
 use Rattle.std.specs.Fmt.{decimal}
 use Rattle.std.specs.List.{filter, join_with_byte, range_with_len}
-use Rattle.lf_meaning.specs.Sets.{has}
+use Rattle.lf_rule_machine.specs.Sets.{has}
 use Rattle.lf_naming.specs.Pieces.{before_piece}
 use Rattle.lf_naming.proofs.PiecesLemmas.{failing_more, passing_count, passing_told, piece_told}
 use Rattle.lf_naming.proofs.value.push_members.Goals as goal

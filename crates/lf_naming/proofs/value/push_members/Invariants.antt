@@ -1,7 +1,7 @@
 use Rattle.std.proofs.Common.{◌≡◌, ◌≤◌, ◌++◌, length, map, string_bytes}
 use Rattle.std.specs.Fmt.{decimal}
 use Rattle.std.specs.List.{filter, join_with_byte, range_with_len}
-use Rattle.lf_meaning.specs.Sets.{has}
+use Rattle.lf_rule_machine.specs.Sets.{has}
 use Rattle.lf_naming.proofs.value.push_members.Given as goal
 
 -- the nodes so far

@@ -1,5 +1,5 @@
 use Rattle.std.proofs.Common.{rules}
-use Rattle.lf_ruled.specs.Constants.{given_table}
+use Rattle.lf_rule_machine.specs.Constants.{given_table}
 use Rattle.lf_own_scenario.proofs.RangeLemmas.{formula-where}
 use Rattle.lf_own_scenario.proofs.outcomes.formula_of.Goals as goal
 

@@ -1,5 +1,5 @@
 use Rattle.std.proofs.Common.{◌≡◌, drop, true}
-use Rattle.lf_written.specs.Files.{are_named}
+use Rattle.lf_protocol_file.specs.Written.{are_named}
 use Rattle.lf_own_scenario.specs.Outcomes.{named}
 use Rattle.lf_own_scenario.proofs.outcomes.named.Given as goal
 

@@ -1,6 +1,6 @@
 use Rattle.std.proofs.Common.{◌≡◌, true}
 use Rattle.lf_sim.specs.Settings.{world_of}
-use Rattle.lf_search.specs.Levels.{AreAllLeast}
+use Rattle.lf_certificate.specs.Levels.{AreAllLeast}
 use Rattle.lf_book.specs.Books.{scenario_of, state_of}
 use Rattle.lf_pool.proofs.SolvedLemmas.{ended-searched}
 use Rattle.lf_pool.proofs.answers.all_of.Goals as goal

@@ -10,6 +10,7 @@ returns c =
     record {
       answer = c.in-Ok.ensures.tree.answer;
       same = refl;
-      searched = ended-searched m c.in-Ok.tree c.answered-runs.result c.books_are_closed.ensures.bounded c.books_are_closed.ensures.closed c.requires c.in-Ok.ensures.places
+      searched = ended-searched m c.in-Ok.tree c.answered-runs.result c.books_are_closed.ensures.bounded c.books_are_closed.ensures.closed
+          c.requires c.in-Ok.ensures.places
           c.answered-runs.ensures c.in-Ok.ensures.tree c.in-Ok.ensures.accepted;
     }

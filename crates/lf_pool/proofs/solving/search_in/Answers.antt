@@ -2,7 +2,7 @@ use Rattle.std.proofs.Common.{sym, ◌∙◌, subst}
 use Rattle.std.specs.Prelude.{IfOk}
 use Rattle.std.specs.Arc.{arc_value}
 use Rattle.lf_book.specs.Books.{scenario_of}
-use Rattle.lf_scenario.specs.declared.scenario.Scenario.{Scenario}
+use Rattle.lf_outcome.specs.declared.scenario.Scenario.{Scenario}
 use Rattle.lf_pool.specs.Solved.{IsEnded}
 use Rattle.lf_pool.proofs.ScenarioLemmas.{some-one}
 use Rattle.lf_pool.proofs.SolvedLemmas.{same-itself, end-refused}

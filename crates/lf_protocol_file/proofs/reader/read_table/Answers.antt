@@ -1,7 +1,7 @@
 use Rattle.std.proofs.Common.{◌≡◌, sym, ap, ◌∙◌}
 use Rattle.toml.specs.View.{table_view}
-use Rattle.lf_document.specs.declared.section.Naming.TheVariants as namings
-use Rattle.lf_draft.specs.declared.draft.Draft.{Draft}
+use Rattle.lf_protocol_file.specs.declared.section.Naming.TheVariants as namings
+use Rattle.lf_protocol_file.specs.declared.draft.Draft.{Draft}
 use Rattle.lf_protocol_file.specs.Entries.{with_naming}
 use Rattle.lf_protocol_file.proofs.WholeFiles.{read-whole}
 use Rattle.lf_protocol_file.proofs.reader.read_table.Goals as goal

@@ -13,7 +13,8 @@ returns-in_err-by c =
 pub returns-in_err-workers : goal.returns-in_err-workers
 returns-in_err-workers c =
     let p = err_from_is_err_and c.from_residual-in_err-workers.result c.from_residual-in_err-workers.ensures.1 in
-    rw (p.1, p.2) (nothing_by _ (IsMatched (rows_of (found_of c.args.matches.now))) c.in_err-workers.field-0.0 (λ a m. (a.workers, m.workers)) c.in_err-workers.ensures)
+    rw (p.1, p.2) (nothing_by _ (IsMatched (rows_of (found_of c.args.matches.now))) c.in_err-workers.field-0.0 (λ a m. (a.workers, m.workers))
+    c.in_err-workers.ensures)
 
 pub returns-in_err-part : goal.returns-in_err-part
 returns-in_err-part c =
@@ -28,4 +29,5 @@ returns-in_err-plan c =
 pub returns-in_err-file : goal.returns-in_err-file
 returns-in_err-file c =
     let p = err_from_is_err_and c.from_residual-in_err-file.result c.from_residual-in_err-file.ensures.1 in
-    rw (p.1, p.2) (nothing_by _ (IsMatched (rows_of (found_of c.args.matches.now))) c.in_err-file.field-0.0 (λ a m. (string_bytes a.file, m.file)) c.in_err-file.ensures)
+    rw (p.1, p.2) (nothing_by _ (IsMatched (rows_of (found_of c.args.matches.now))) c.in_err-file.field-0.0 (λ a m. (string_bytes a.file, m.file))
+    c.in_err-file.ensures)

@@ -1,9 +1,9 @@
 use Rattle.std.proofs.Common.{◌≡◌, ◌++◌, ap, ◌∙◌}
 use Rattle.std.specs.List.{fold}
 use Rattle.std.proofs.lemmas.Result.{IfOk-equal}
-use Rattle.lf_acting.specs.Events.{act}
-use Rattle.lf_acting.specs.Choices.{take_at, chosen}
-use Rattle.lf_acting.proofs.Laws.{chosen-acts}
+use Rattle.lf_rule_machine.specs.Events.{act}
+use Rattle.lf_rule_machine.specs.Choices.{take_at, chosen}
+use Rattle.lf_rule_machine.proofs.Laws.{chosen-acts}
 use Rattle.lf_taken.specs.Numbers.{taken_through, taken_in}
 use Rattle.lf_taken.proofs.numbers.act.Goals as goal
 

@@ -1,6 +1,6 @@
 use Rattle.std.proofs.Common.{◌≡◌, ◌++◌, drop}
 use Rattle.std.specs.List.{fold}
-use Rattle.lf_acting.specs.Choices.{take_at}
+use Rattle.lf_rule_machine.specs.Choices.{take_at}
 use Rattle.lf_taken.specs.Numbers.{taken_through}
 use Rattle.lf_taken.proofs.numbers.take_all.Given as goal
 

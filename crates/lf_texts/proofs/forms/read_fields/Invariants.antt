@@ -1,5 +1,5 @@
 use Rattle.std.proofs.Common.{◌≡◌, ◌-◌, []}
-use Rattle.lf_tokens.specs.declared.sign.Sign.TheVariants as signs
+use Rattle.lf_grammar.specs.declared.sign.Sign.TheVariants as signs
 use Rattle.lf_texts.specs.Forms.{first_field}
 use Rattle.lf_texts.specs.Lists.{listed}
 use Rattle.lf_texts.proofs.forms.read_fields.Given as goal

@@ -1,7 +1,7 @@
 use Rattle.std.proofs.Common.{rules, ◌≡◌, ◌≤◌, [], List, map, length, Result, Ok, Err, IfOk, Vec, Global, subst}
 use Rattle.std.proofs.lemmas.List.{length-map}
 use Rattle.lf_rules.specs.declared.kind.Kind.{Kind}
-use Rattle.lf_tokens.specs.declared.sign.Sign.TheVariants as signs
+use Rattle.lf_grammar.specs.declared.sign.Sign.TheVariants as signs
 use Rattle.lf_texts.specs.declared.error.TextError.{TextError}
 use Rattle.lf_texts.specs.declared.forms.Field.{Field}
 use Rattle.lf_texts.specs.Forms.{first_field}

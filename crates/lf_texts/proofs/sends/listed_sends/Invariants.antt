@@ -1,5 +1,5 @@
 use Rattle.std.proofs.Common.{◌≡◌, ◌-◌, []}
-use Rattle.lf_tokens.specs.declared.sign.Sign.TheVariants as signs
+use Rattle.lf_grammar.specs.declared.sign.Sign.TheVariants as signs
 use Rattle.lf_grammar.specs.Places.{context_of}
 use Rattle.lf_texts.specs.Lists.{listed}
 use Rattle.lf_texts.specs.Sends.{first_send}

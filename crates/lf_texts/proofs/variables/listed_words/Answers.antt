@@ -1,5 +1,5 @@
 use Rattle.std.proofs.Common.{rules, ◌≡◌, ◌≢◌, ◌∙◌, [], ◌∷◌, Err, sym}
-use Rattle.lf_tokens.specs.declared.sign.Sign.TheVariants as signs
+use Rattle.lf_grammar.specs.declared.sign.Sign.TheVariants as signs
 use Rattle.lf_texts.specs.Variables.{first_free}
 use Rattle.lf_texts.specs.declared.error.TextError.TheVariants as faults
 use Rattle.lf_texts.specs.Lists.{listed}

@@ -1,5 +1,5 @@
 use Rattle.std.proofs.Common.{◌∷◌, [], arith}
-use Rattle.lf_tokens.specs.declared.sign.Sign.TheVariants as signs
+use Rattle.lf_grammar.specs.declared.sign.Sign.TheVariants as signs
 use Rattle.lf_texts.specs.Variables.{first_free}
 use Rattle.lf_texts.proofs.ListLemmas.{listed_count}
 use Rattle.lf_texts.proofs.variables.read_words.Goals as goal

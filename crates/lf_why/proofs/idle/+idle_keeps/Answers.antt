@@ -42,7 +42,8 @@ idle_keeps-returns-else-up g t c =
     let w = world_of c.args.setting.now in
     let n = c.in-Shows.node in
     let s = c.in-Shows.step in
-    c.if-up.false ∙ kept_off w c.args.formula.now n s c.in-Shows.fact c.up-in-Shows.result (c.by_cases.ensures.shows (idle_world w) [] n s c.in-Shows.fact) c.in-Shows.is
+    c.if-up.false ∙ kept_off w c.args.formula.now n s c.in-Shows.fact c.up-in-Shows.result (c.by_cases.ensures.shows (idle_world w) [] n s c.in-Shows.fact)
+    c.in-Shows.is
     (c.up-in-Shows.ensures.meaning w c.requires.run ∙ ap (λ faults. is_up w faults n s) c.requires.set)
     c.if-up.false
 

@@ -1,6 +1,6 @@
 use Rattle.std.proofs.Common.{◌≡◌, ◌∙◌, sym, string_bytes}
 use Rattle.std.proofs.lemmas.Result.{IfOk-weaker}
-use Rattle.lf_changes.specs.First.{first_difference}
+use Rattle.lf_trace.specs.First.{first_difference}
 use Rattle.lf_sim.specs.Settings.{set_of, world_of}
 use Rattle.lf_why.specs.Sets.{stop_difference}
 use Rattle.lf_why.proofs.Differences.{nothing_else, told_elsewhere}

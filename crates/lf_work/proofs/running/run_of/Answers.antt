@@ -1,7 +1,7 @@
 use Rattle.std.proofs.Common.{ap, ◌∙◌, subst}
 use Rattle.std.specs.Arc.{arc_value}
 use Rattle.lf_sim.specs.Settings.{IsRun, world_of}
-use Rattle.lf_scenario.specs.declared.scenario.Scenario.{Scenario}
+use Rattle.lf_outcome.specs.declared.scenario.Scenario.{Scenario}
 use Rattle.lf_work.specs.Scratches.{IsPlayedFor}
 use Rattle.lf_work.proofs.running.run_of.Goals as goal
 

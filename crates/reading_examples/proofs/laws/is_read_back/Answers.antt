@@ -1,5 +1,5 @@
 use Rattle.std.proofs.Common.{Ok, sym, ap, ◌∙◌}
-use Rattle.lf_tokens.specs.Tokens.{tokens_of}
+use Rattle.lf_grammar.specs.Tokens.{tokens_of}
 use Rattle.reading_examples.proofs.laws.is_read_back.Goals as goal
 
 pub read_back-requires : goal.read_back-requires

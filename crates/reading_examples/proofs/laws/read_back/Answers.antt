@@ -9,9 +9,9 @@ use Rattle.lf_rules.specs.declared.expr.Leaf.TheVariants as leaves
 use Rattle.lf_rules.specs.declared.sort.Scope.TheVariants as scopes
 use Rattle.lf_rules.specs.declared.sort.Sort.{Sort}
 use Rattle.lf_rules.specs.declared.sort.Sort.TheVariants as sorts
-use Rattle.lf_tokens.specs.declared.error.TokenError.{TokenError}
-use Rattle.lf_tokens.specs.declared.token.Token.{Token}
-use Rattle.lf_tokens.specs.Tokens.{tokens_of}
+use Rattle.lf_grammar.specs.declared.token_error.TokenError.{TokenError}
+use Rattle.lf_grammar.specs.declared.token.Token.{Token}
+use Rattle.lf_grammar.specs.Tokens.{tokens_of}
 use Rattle.lf_grammar.specs.Bracketed.{bracketed, IsPlain, IsWritable}
 use Rattle.lf_grammar.specs.Expressions.{Found, first_truth, found}
 use Rattle.lf_grammar.specs.Places.{Context, context_of}

@@ -1,11 +1,11 @@
 use Rattle.std.proofs.Common.{◌≡◌, ◌≢◌, ℕ, true, List, Result, Ok, Err, MatchResult, IfOk, IfErr}
 use Rattle.toml.specs.Data.{Members}
-use Rattle.lf_document.specs.declared.error.ProtocolError.{ProtocolError}
-use Rattle.lf_document.specs.declared.error.ProtocolError.TheVariants as refusals
+use Rattle.lf_protocol_file.specs.declared.error.ProtocolError.{ProtocolError}
+use Rattle.lf_protocol_file.specs.declared.error.ProtocolError.TheVariants as refusals
 use Rattle.lf_protocol_file.specs.Files.{file_in, IsDocument, IsRefused, IsText}
 use Rattle.lf_protocol_file.specs.Numbers.{AreNumbered}
-use Rattle.lf_written.specs.declared.declared.Declared.{Declared}
-use Rattle.lf_written.specs.Files.{is_whole}
+use Rattle.lf_protocol_file.specs.declared.declared.Declared.{Declared}
+use Rattle.lf_protocol_file.specs.Written.{is_whole}
 use Rattle.reading_examples.proofs.own_laws.file_once.Goals as goal
 
 -- what a reading is

@@ -6,9 +6,9 @@ use Rattle.lf_own_scenario.specs.Kept.{IsPromised}
 use Rattle.lf_own_scenario.specs.Scenarios.{IsAskedWith, IsRefusedWith, IsTextWith}
 use Rattle.lf_scenario.specs.declared.error.ScenarioError.{ScenarioError}
 use Rattle.lf_scenario.specs.declared.error.ScenarioError.TheVariants as refusals
-use Rattle.lf_scenario.specs.declared.scenario.Scenario.{Scenario}
+use Rattle.lf_outcome.specs.declared.scenario.Scenario.{Scenario}
 use Rattle.lf_scenario.specs.Scenarios.{IsDocument}
-use Rattle.lf_written.specs.declared.declared.Declared.{Declared}
+use Rattle.lf_protocol_file.specs.declared.declared.Declared.{Declared}
 use Rattle.reading_examples.proofs.own_laws.kept.Goals as goal
 
 -- a text is a document of one table of members

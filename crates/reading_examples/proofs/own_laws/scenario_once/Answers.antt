@@ -2,8 +2,8 @@ use Rattle.std.proofs.Common.{◌≡◌, ◌≢◌, ℕ, List, Result, Ok, Err, 
 use Rattle.lf_own_scenario.specs.Scenarios.{IsRefusedWith, IsTextWith}
 use Rattle.lf_scenario.specs.declared.error.ScenarioError.{ScenarioError}
 use Rattle.lf_scenario.specs.declared.error.ScenarioError.TheVariants as refusals
-use Rattle.lf_scenario.specs.declared.scenario.Scenario.{Scenario}
-use Rattle.lf_written.specs.declared.declared.Declared.{Declared}
+use Rattle.lf_outcome.specs.declared.scenario.Scenario.{Scenario}
+use Rattle.lf_protocol_file.specs.declared.declared.Declared.{Declared}
 use Rattle.reading_examples.proofs.own_laws.scenario_once.Goals as goal
 
 -- what a reading is

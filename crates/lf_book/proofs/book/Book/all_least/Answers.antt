@@ -2,7 +2,7 @@ use Rattle.std.proofs.Common.{◌≡◌, true, rules}
 use Rattle.std.specs.Arc.{arc_value}
 use Rattle.lf_certificate.specs.Accepted.{IsBounded}
 use Rattle.lf_sim.specs.Settings.{world_of}
-use Rattle.lf_search.specs.Closed.{MissesAt}
+use Rattle.lf_certificate.specs.Closed.{MissesAt}
 use Rattle.lf_book.specs.Books.{state_of}
 use Rattle.lf_book.proofs.EndedLemmas.{ended_least}
 use Rattle.lf_book.proofs.LeastLemmas.{members_permuted}

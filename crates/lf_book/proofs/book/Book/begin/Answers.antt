@@ -2,8 +2,8 @@ use Rattle.std.proofs.Common.{refl, arith, false}
 use Rattle.std.specs.Arc.{arc_value}
 use Rattle.lf_marks.specs.Marks.{mark_at, level_of}
 use Rattle.lf_sim.specs.Settings.{world_of}
-use Rattle.lf_search.specs.States.{State, IsStart}
-use Rattle.lf_search.proofs.Laws.{start_closed, start_first}
+use Rattle.lf_certificate.specs.States.{State, IsStart}
+use Rattle.lf_certificate.proofs.Laws.{start_closed, start_first}
 use Rattle.lf_book.proofs.book.Book.begin.Goals as goal
 
 pub invariant_of-result : goal.invariant_of-result

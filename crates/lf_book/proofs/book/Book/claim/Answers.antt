@@ -2,7 +2,7 @@ use Rattle.std.proofs.Common.{◌+◌, refl, ap, arith, is_some}
 use Rattle.std.specs.Arc.{arc_value}
 use Rattle.lf_marks.specs.Marks.{mark_at, level_of}
 use Rattle.lf_sim.specs.Settings.{world_of}
-use Rattle.lf_search.specs.States.{State}
+use Rattle.lf_certificate.specs.States.{State}
 use Rattle.lf_book.specs.Books.{state_of, task_of_job}
 use Rattle.lf_book.proofs.StateLemmas.{ticket-before, claimed-closed, claimed-missing, takes}
 use Rattle.lf_book.proofs.book.Book.claim.Goals as goal

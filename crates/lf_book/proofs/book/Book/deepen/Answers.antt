@@ -4,9 +4,9 @@ use mathlib.Core.Logic.{∥∥₁_elim, ∥∥₁_map, ∥∥₁_prop}
 use Rattle.lf_certificate.specs.Accepted.{IsBounded}
 use Rattle.lf_marks.specs.Marks.{mark_at, level_of}
 use Rattle.lf_sim.specs.Settings.{world_of}
-use Rattle.lf_search.specs.Events.{FindsAnswer, FindsNone, GoesDown}
-use Rattle.lf_search.specs.States.{State}
-use Rattle.lf_search.proofs.Laws.{answer_closed, none_closed, down_closed, down_first}
+use Rattle.lf_certificate.specs.Events.{FindsAnswer, FindsNone, GoesDown}
+use Rattle.lf_certificate.specs.States.{State}
+use Rattle.lf_certificate.proofs.Laws.{answer_closed, none_closed, down_closed, down_first}
 use Rattle.lf_book.specs.Books.{state_of}
 use Rattle.lf_book.proofs.CountLemmas.{some-ready, some-claimed}
 use Rattle.lf_book.proofs.StateLemmas.{all-done, few-waiting, full-again, none-misses, some-misses, level-within}

@@ -2,7 +2,7 @@ use Rattle.std.proofs.Common.{refl, ap}
 use Rattle.std.specs.Arc.{arc_value}
 use Rattle.lf_marks.specs.Answers.{mark_for}
 use Rattle.lf_marks.specs.Marks.{mark_at, level_of}
-use Rattle.lf_search.specs.States.{State}
+use Rattle.lf_certificate.specs.States.{State}
 use Rattle.lf_book.specs.Books.{state_of, task_of_finding}
 use Rattle.lf_book.proofs.FilingLemmas.{files, filed-keeps}
 use Rattle.lf_book.proofs.book.Book.file_claimed.Goals as goal

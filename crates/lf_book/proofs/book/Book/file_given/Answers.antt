@@ -1,6 +1,6 @@
 use Rattle.std.proofs.Common.{sym, subst}
 use Rattle.std.specs.Arc.{arc_value}
-use Rattle.lf_scenario.specs.Sameness.{AreSame}
+use Rattle.lf_outcome.specs.Sameness.{AreSame}
 use Rattle.lf_work.specs.declared.job.Job.{Job}
 use Rattle.lf_book.specs.Books.{scenario_of, IsGivenFor, IsRefusedFor, task_of_job}
 use Rattle.lf_book.proofs.book.Book.file_given.Goals as goal

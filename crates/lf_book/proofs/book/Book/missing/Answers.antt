@@ -3,7 +3,7 @@ use Rattle.std.specs.Arc.{arc_value}
 use Rattle.lf_faults.specs.declared.fault.Parts.{Parts}
 use Rattle.lf_marks.specs.Marks.{mark_at, level_of}
 use Rattle.lf_sim.specs.Settings.{world_of}
-use Rattle.lf_search.specs.Tasks.{Task, task_at}
+use Rattle.lf_certificate.specs.Tasks.{Task, task_at}
 use Rattle.lf_book.specs.Books.{state_of}
 use Rattle.lf_book.proofs.MissingLemmas.{set_at, items_of, item_is, few_items, item_stands, led-more, led-whole, missing_different, missing_each}
 use Rattle.lf_book.proofs.book.Book.missing.Goals as goal

@@ -1,7 +1,7 @@
 use Rattle.std.proofs.Common.{refl}
 use Rattle.std.specs.Arc.{arc_value}
 use Rattle.lf_marks.specs.Marks.{mark_at, level_of}
-use Rattle.lf_search.specs.States.{State}
+use Rattle.lf_certificate.specs.States.{State}
 use Rattle.lf_book.specs.Books.{state_of}
 use Rattle.lf_book.proofs.FilingLemmas.{reclaim-keeps}
 use Rattle.lf_book.proofs.book.Book.reclaim.Goals as goal

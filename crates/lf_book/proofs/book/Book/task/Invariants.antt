@@ -1,6 +1,6 @@
 use Rattle.std.proofs.Common.{◌≡◌, Some, take}
 use Rattle.lf_marks.specs.Marks.{mark_at}
-use Rattle.lf_search.specs.Tasks.{task_at}
+use Rattle.lf_certificate.specs.Tasks.{task_at}
 use Rattle.lf_book.proofs.book.Book.task.Given as goal
 
 -- what the path leads to so far

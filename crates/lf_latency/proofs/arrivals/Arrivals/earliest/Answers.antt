@@ -5,7 +5,8 @@ use Rattle.lf_latency.proofs.arrivals.Arrivals.earliest.Goals as goal
 
 pub loop-k-preserved : goal.loop-k-preserved
 loop-k-preserved c =
-    filled_more c.args.network.now (earliest c.args.network.now.links) c.loop-k.steps c.loop-k.k c.first_step.result c.loop-k.invariant c.loop-k-test.true c.first_step.ensures
+    filled_more c.args.network.now (earliest c.args.network.now.links) c.loop-k.steps c.loop-k.k c.first_step.result c.loop-k.invariant
+    c.loop-k-test.true c.first_step.ensures
 
 pub returns-clause-value : goal.returns-clause-value
 returns-clause-value c =

@@ -27,7 +27,8 @@ pub put_state-requires-clause-within : goal.put_state-requires-clause-within
 put_state-requires-clause-within c =
     let m = c.args.self.now in
     let found = rw c.standing.ensures at c.in-Some.ensures in
-    let less = removed-claim (standing m.claims) (standing c.remove-place.new.self) c.args.ticket c.in-Some.index c.remove-place.result found c.remove-place.ensures.value
+    let less =
+    removed-claim (standing m.claims) (standing c.remove-place.new.self) c.args.ticket c.in-Some.index c.remove-place.result found c.remove-place.ensures.value
     c.remove-place.ensures.items c.remove-place.ensures.count in
     claim-within m.level m.start m.sets.items (drop m.at m.queue.items) m.coming.items m.opened.items (standing m.claims) m.untaken m.waiting
     m.answered m.state c.args.ticket c.remove-place.result.place (standing c.remove-place.new.self) less
@@ -36,7 +37,8 @@ pub put_state-requires-clause-first : goal.put_state-requires-clause-first
 put_state-requires-clause-first c =
     let m = c.args.self.now in
     let found = rw c.standing.ensures at c.in-Some.ensures in
-    let less = removed-claim (standing m.claims) (standing c.remove-place.new.self) c.args.ticket c.in-Some.index c.remove-place.result found c.remove-place.ensures.value
+    let less =
+    removed-claim (standing m.claims) (standing c.remove-place.new.self) c.args.ticket c.in-Some.index c.remove-place.result found c.remove-place.ensures.value
     c.remove-place.ensures.items c.remove-place.ensures.count in
     (claimed-kids c.args.ticket (slice_get m.sets.items c.remove-place.result.place)
     (claim-was m.level m.start m.sets.items (drop m.at m.queue.items) m.coming.items m.opened.items (standing m.claims) m.untaken m.waiting
@@ -46,7 +48,8 @@ pub put_state-requires-clause-taken : goal.put_state-requires-clause-taken
 put_state-requires-clause-taken c =
     let m = c.args.self.now in
     let found = rw c.standing.ensures at c.in-Some.ensures in
-    let less = removed-claim (standing m.claims) (standing c.remove-place.new.self) c.args.ticket c.in-Some.index c.remove-place.result found c.remove-place.ensures.value
+    let less =
+    removed-claim (standing m.claims) (standing c.remove-place.new.self) c.args.ticket c.in-Some.index c.remove-place.result found c.remove-place.ensures.value
     c.remove-place.ensures.items c.remove-place.ensures.count in
     (claimed-kids c.args.ticket (slice_get m.sets.items c.remove-place.result.place)
     (claim-was m.level m.start m.sets.items (drop m.at m.queue.items) m.coming.items m.opened.items (standing m.claims) m.untaken m.waiting
@@ -56,12 +59,14 @@ pub invariant_of-self : goal.invariant_of-self
 invariant_of-self c =
     let m = c.args.self.now in
     let found = rw c.standing.ensures at c.in-Some.ensures in
-    let less = removed-claim (standing m.claims) (standing c.remove-place.new.self) c.args.ticket c.in-Some.index c.remove-place.result found c.remove-place.ensures.value
+    let less =
+    removed-claim (standing m.claims) (standing c.remove-place.new.self) c.args.ticket c.in-Some.index c.remove-place.result found c.remove-place.ensures.value
     c.remove-place.ensures.items c.remove-place.ensures.count in
     let is : c.kids_of-kids.result ≡ kids_beneath (mark_for c.args.answer) = c.kids_of-kids.ensures.value in
     let re = subst (λ (k : Mark). IsRemarked (look m.sets.items) (look c.put_state.new.sets.items) c.remove-place.result.place k) c.state_for.ensures.mark
     c.put_state.ensures.remarked in
-    let noted = subst (λ (k : ℕ). (y : ℕ) → times y c.put_if.new.places.items ≡ times y m.coming.items + once (nat_lt 0 k && c.remove-place.result.place == y)) is
+    let noted =
+    subst (λ (k : ℕ). (y : ℕ) → times y c.put_if.new.places.items ≡ times y m.coming.items + once (nat_lt 0 k && c.remove-place.result.place == y)) is
     c.put_if.ensures.times in
     let s = state-answered m.level m.start m.sets.items (drop m.at m.queue.items) m.coming.items m.opened.items (standing m.claims) m.untaken m.waiting
     m.answered m.state c.args.ticket c.remove-place.result.place (standing c.remove-place.new.self) less c.put_state.new.sets.items
@@ -84,7 +89,8 @@ pub returns-clause-answered : goal.returns-clause-answered
 returns-clause-answered c =
     let m = c.args.self.now in
     let found = rw c.standing.ensures at c.in-Some.ensures in
-    let less = removed-claim (standing m.claims) (standing c.remove-place.new.self) c.args.ticket c.in-Some.index c.remove-place.result found c.remove-place.ensures.value
+    let less =
+    removed-claim (standing m.claims) (standing c.remove-place.new.self) c.args.ticket c.in-Some.index c.remove-place.result found c.remove-place.ensures.value
     c.remove-place.ensures.items c.remove-place.ensures.count in
     let re = subst (λ (k : Mark). IsRemarked (look m.sets.items) (look c.put_state.new.sets.items) c.remove-place.result.place k) c.state_for.ensures.mark
     c.put_state.ensures.remarked in

@@ -10,7 +10,8 @@ pub put_state-requires-clause-within : goal.put_state-requires-clause-within
 put_state-requires-clause-within c =
     let m = c.args.self.now in
     let t = (get_or (standing m.claims) c.args.index unclaimed).ticket in
-    let less = removed-claim (standing m.claims) (standing c.remove-place.new.self) t c.args.index c.remove-place.result (claim-here (standing m.claims) c.args.index c.requires)
+    let less = removed-claim (standing m.claims) (standing c.remove-place.new.self) t c.args.index c.remove-place.result
+    (claim-here (standing m.claims) c.args.index c.requires)
     c.remove-place.ensures.value c.remove-place.ensures.items c.remove-place.ensures.count in
     claim-within m.level m.start m.sets.items (drop m.at m.queue.items) m.coming.items m.opened.items (standing m.claims) m.untaken m.waiting
     m.answered m.state t c.remove-place.result.place (standing c.remove-place.new.self) less
@@ -19,7 +20,8 @@ pub put_state-requires-clause-first : goal.put_state-requires-clause-first
 put_state-requires-clause-first c =
     let m = c.args.self.now in
     let t = (get_or (standing m.claims) c.args.index unclaimed).ticket in
-    let less = removed-claim (standing m.claims) (standing c.remove-place.new.self) t c.args.index c.remove-place.result (claim-here (standing m.claims) c.args.index c.requires)
+    let less = removed-claim (standing m.claims) (standing c.remove-place.new.self) t c.args.index c.remove-place.result
+    (claim-here (standing m.claims) c.args.index c.requires)
     c.remove-place.ensures.value c.remove-place.ensures.items c.remove-place.ensures.count in
     (claimed-kids t (slice_get m.sets.items c.remove-place.result.place)
     (claim-was m.level m.start m.sets.items (drop m.at m.queue.items) m.coming.items m.opened.items (standing m.claims) m.untaken m.waiting
@@ -29,7 +31,8 @@ pub put_state-requires-clause-taken : goal.put_state-requires-clause-taken
 put_state-requires-clause-taken c =
     let m = c.args.self.now in
     let t = (get_or (standing m.claims) c.args.index unclaimed).ticket in
-    let less = removed-claim (standing m.claims) (standing c.remove-place.new.self) t c.args.index c.remove-place.result (claim-here (standing m.claims) c.args.index c.requires)
+    let less = removed-claim (standing m.claims) (standing c.remove-place.new.self) t c.args.index c.remove-place.result
+    (claim-here (standing m.claims) c.args.index c.requires)
     c.remove-place.ensures.value c.remove-place.ensures.items c.remove-place.ensures.count in
     (claimed-kids t (slice_get m.sets.items c.remove-place.result.place)
     (claim-was m.level m.start m.sets.items (drop m.at m.queue.items) m.coming.items m.opened.items (standing m.claims) m.untaken m.waiting
@@ -39,7 +42,8 @@ pub invariant_of-self : goal.invariant_of-self
 invariant_of-self c =
     let m = c.args.self.now in
     let t = (get_or (standing m.claims) c.args.index unclaimed).ticket in
-    let less = removed-claim (standing m.claims) (standing c.remove-place.new.self) t c.args.index c.remove-place.result (claim-here (standing m.claims) c.args.index c.requires)
+    let less = removed-claim (standing m.claims) (standing c.remove-place.new.self) t c.args.index c.remove-place.result
+    (claim-here (standing m.claims) c.args.index c.requires)
     c.remove-place.ensures.value c.remove-place.ensures.items c.remove-place.ensures.count in
     let s = state-freed m.level m.start m.sets.items (drop m.at m.queue.items) m.coming.items m.opened.items (standing m.claims) m.untaken m.waiting
     m.answered m.state t c.remove-place.result.place (standing c.remove-place.new.self) less c.put_state.new.sets.items
@@ -61,7 +65,8 @@ invariant_of-self c =
 pub returns-clause-gave_back : goal.returns-clause-gave_back
 returns-clause-gave_back c p t found h =
     let m = c.args.self.now in
-    let less = removed-claim (standing m.claims) (standing c.remove-place.new.self) t c.args.index c.remove-place.result found c.remove-place.ensures.value c.remove-place.ensures.items
+    let less = removed-claim (standing m.claims) (standing c.remove-place.new.self) t c.args.index c.remove-place.result found
+    c.remove-place.ensures.value c.remove-place.ensures.items
     c.remove-place.ensures.count in
     freed-back m.level m.start m.sets.items (drop m.at m.queue.items) m.coming.items m.opened.items (standing m.claims) m.untaken m.waiting
     m.answered m.state t c.remove-place.result.place (standing c.remove-place.new.self) less c.put_state.new.sets.items

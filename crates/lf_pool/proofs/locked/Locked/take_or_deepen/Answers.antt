@@ -1,6 +1,6 @@
 use Rattle.std.proofs.Common.{rules, Some, sym, ap, ◌∙◌}
 use Rattle.lf_book.specs.Books.{state_of}
-use Rattle.lf_search.specs.Events.{FindsLevelDone}
+use Rattle.lf_certificate.specs.Events.{FindsLevelDone}
 use Rattle.lf_pool.proofs.HoldLemmas.{take-counted, deepened-counted, still-busy}
 use Rattle.lf_pool.proofs.locked.Locked.take_or_deepen.Goals as goal
 

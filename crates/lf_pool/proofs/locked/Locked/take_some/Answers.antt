@@ -1,6 +1,6 @@
 use Rattle.std.proofs.Common.{sym, subst, ◌∙◌, arith, List}
 use Rattle.std.proofs.lemmas.List.Elements.{All-push}
-use Rattle.lf_scenario.specs.declared.scenario.Scenario.{Scenario}
+use Rattle.lf_outcome.specs.declared.scenario.Scenario.{Scenario}
 use Rattle.lf_book.specs.Books.{scenario_of, task_of_job, IsGivenFor}
 use Rattle.lf_pool.specs.Holds.{AreJobsOf, AreTaken, IsJobOf, IsLeftIn}
 use Rattle.lf_pool.specs.declared.locked.hand.Claim.{Claim}

@@ -48,7 +48,8 @@ returns-in-Some c =
     let kept : set_omits faults c.args.from p.node c.args.sent ≡ false =
     ap (λ s. set_omits s c.args.from p.node c.args.sent) (sym c.set.ensures) ∙ sym c.omits.ensures ∙ c.if-omits.false in
     let made : Note → Letter Note = λ note. record { from = c.args.from; sent = c.args.sent; note = note } in
-    sym (letter-comes w faults (did w faults) p.node (p.past + 1) c.args.from c.args.sent c.if-from-self.false (sym c.arrival.ensures.value ∙ c.if-arrival-self.false) kept
+    sym (letter-comes w faults (did w faults) p.node (p.past + 1) c.args.from c.args.sent c.if-from-self.false
+    (sym c.arrival.ensures.value ∙ c.if-arrival-self.false) kept
     ∙ ap (option_map made) (sym (c.sent.ensures.meaning w c.requires.run) ∙ c.in-Some.is))
 
 pub returns-in-None : goal.returns-in-None
@@ -59,5 +60,6 @@ returns-in-None c =
     let kept : set_omits faults c.args.from p.node c.args.sent ≡ false =
     ap (λ s. set_omits s c.args.from p.node c.args.sent) (sym c.set.ensures) ∙ sym c.omits.ensures ∙ c.if-omits.false in
     let made : Note → Letter Note = λ note. record { from = c.args.from; sent = c.args.sent; note = note } in
-    sym (letter-comes w faults (did w faults) p.node (p.past + 1) c.args.from c.args.sent c.if-from-self.false (sym c.arrival.ensures.value ∙ c.if-arrival-self.false) kept
+    sym (letter-comes w faults (did w faults) p.node (p.past + 1) c.args.from c.args.sent c.if-from-self.false
+    (sym c.arrival.ensures.value ∙ c.if-arrival-self.false) kept
     ∙ ap (option_map made) (sym (c.sent.ensures.meaning w c.requires.run) ∙ c.in-None.is))

@@ -1,7 +1,7 @@
 use Rattle.std.proofs.Common.{◌++◌, ap}
 use Rattle.std.proofs.lemmas.Result.{IfOk-equal}
 use Rattle.lf_rules.specs.declared.definition.Definition.{Definition}
-use Rattle.lf_acting.specs.Events.{act}
+use Rattle.lf_rule_machine.specs.Events.{act}
 use Rattle.lf_taken.specs.Numbers.{taken_in}
 use Rattle.lf_taken.proofs.NumbersLemmas.{few_rules}
 use Rattle.lf_taken.proofs.turns.Acting.push.Goals as goal

@@ -1,8 +1,8 @@
 use Rattle.std.proofs.Common.{◌++◌, ap}
 use Rattle.std.proofs.lemmas.Result.{IfOk-equal}
-use Rattle.lf_meaning.specs.declared.moment.Moment.{Moment}
-use Rattle.lf_ruled.specs.Machines.{moment, no_fields}
-use Rattle.lf_acting.specs.Events.{act}
+use Rattle.lf_rule_machine.specs.declared.moment.Moment.{Moment}
+use Rattle.lf_rule_machine.specs.Machines.{moment, no_fields}
+use Rattle.lf_rule_machine.specs.Events.{act}
 use Rattle.lf_taken.specs.Numbers.{taken_in}
 use Rattle.lf_taken.proofs.turns.Acting.push_alone.Goals as goal
 

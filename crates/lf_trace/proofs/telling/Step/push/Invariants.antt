@@ -8,4 +8,5 @@ use Rattle.lf_trace.proofs.telling.Step.push.Given as goal
 abbrev pub invariant-nodes : goal.invariant-nodes
 invariant-nodes g l =
     string_bytes l.text
-    ≡ string_bytes l.initial.text ++ each_below (node_line (g.M.Worded.words l.self.setting.now.machine) (world_of l.self.setting.now) (set_of l.self.run.now) l.self.number) l.node
+    ≡ string_bytes l.initial.text
+    ++ each_below (node_line (g.M.Worded.words l.self.setting.now.machine) (world_of l.self.setting.now) (set_of l.self.run.now) l.self.number) l.node

@@ -8,4 +8,5 @@ use Rattle.lf_trace.proofs.telling.Step.push_notes.Given as goal
 abbrev pub invariant-senders : goal.invariant-senders
 invariant-senders g l =
     string_bytes l.text
-    ≡ string_bytes l.initial.text ++ each_below (sender_lines (g.M.Worded.words l.self.setting.now.machine) (world_of l.self.setting.now) (set_of l.self.run.now) l.self.number) l.from
+    ≡ string_bytes l.initial.text
+    ++ each_below (sender_lines (g.M.Worded.words l.self.setting.now.machine) (world_of l.self.setting.now) (set_of l.self.run.now) l.self.number) l.from

@@ -8,4 +8,5 @@ use Rattle.lf_trace.proofs.telling.Step.push_notes_of.Given as goal
 abbrev pub invariant-receivers : goal.invariant-receivers
 invariant-receivers g l =
     string_bytes l.text
-    ≡ string_bytes l.initial.text ++ each_below (slot_line (g.M.Worded.words l.self.setting.now.machine) (world_of l.self.setting.now) (set_of l.self.run.now) l.self.number l.from) l.to
+    ≡ string_bytes l.initial.text
+    ++ each_below (slot_line (g.M.Worded.words l.self.setting.now.machine) (world_of l.self.setting.now) (set_of l.self.run.now) l.self.number l.from) l.to

@@ -4,7 +4,7 @@ use Rattle.lf_faults.specs.declared.fault.Parts.{Parts}
 use Rattle.lf_marks.specs.Answers.{mark_for, edges_of}
 use Rattle.lf_marks.specs.Steps as mark
 use Rattle.lf_sim.specs.Settings.{world_of}
-use Rattle.lf_search.specs.Found.{IsFound}
+use Rattle.lf_certificate.specs.Found.{IsFound}
 use Rattle.lf_work.proofs.MereLemmas.{found-again}
 use Rattle.lf_work.proofs.finding.Finding.branch.Goals as goal
 

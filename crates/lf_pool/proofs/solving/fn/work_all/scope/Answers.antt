@@ -10,4 +10,5 @@ spawn-requires-send-F g c = λ κs within.
     let rt : IsSync (param 1 g.row.R) = search (rules, c.requires) parts 8 in
     let gate : IsSync (param 2 g.row.G) = search (rules, c.requires) parts 8 in
     let L = param 0 g.row.L in
-    param_send 1 _ (arg_send _ exit.no _ (captured_send _ _ _ _ _ _ _ _ _ _ _ _ _ rt (shared_sync L g.L.Searched g.L.Ledger) (share_send L g.L.Searched g.L.Ledger) gate))
+    param_send 1 _ (arg_send _ exit.no
+    _ (captured_send _ _ _ _ _ _ _ _ _ _ _ _ _ rt (shared_sync L g.L.Searched g.L.Ledger) (share_send L g.L.Searched g.L.Ledger) gate))

@@ -1,4 +1,0 @@
-pub mod Doors
-pub mod DoorsLemmas
-pub mod Mazes
-pub mod MazesLemmas

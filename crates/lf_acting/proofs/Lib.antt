@@ -1,4 +1,0 @@
-mod ChoicesLemmas
-mod FoldsLemmas
-pub mod Laws
-mod RangesLemmas

@@ -1,5 +1,0 @@
-use Rattle.lf_acting.proofs.RangesLemmas.{act-ranged}
-use Rattle.lf_acting.proofs.readings.events_keep_ranges.Goals as goal
-
-pub returns : goal.returns
-returns c = λ d at event turn ranged. act-ranged d at event turn ranged

@@ -1,8 +1,0 @@
-use Rattle.std.proofs.Common.{◌≡◌}
-use Rattle.std.specs.List.{fold, range_with_len}
-use Rattle.lf_acting.specs.Events.{put}
-use Rattle.lf_acting.proofs.sending.put_all.Given as goal
-
--- what it comes to with the nodes so far
-abbrev pub invariant-loop-to : goal.invariant-loop-to
-invariant-loop-to l = l.turn ≡ fold (put l.at l.set l.note) l.initial.turn (range_with_len 0 l.to)

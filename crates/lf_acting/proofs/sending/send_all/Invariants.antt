@@ -1,8 +1,0 @@
-use Rattle.std.proofs.Common.{◌≡◌, take}
-use Rattle.std.specs.List.{fold}
-use Rattle.lf_acting.specs.Events.{send}
-use Rattle.lf_acting.proofs.sending.send_all.Given as goal
-
--- what it comes to with the sends so far
-abbrev pub invariant-loop-message : goal.invariant-loop-message
-invariant-loop-message l = l.turn ≡ fold (send l.definition l.at) l.initial.turn (take l.message-index l.sends)

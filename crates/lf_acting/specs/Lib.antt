@@ -1,4 +1,0 @@
-pub mod Events
-pub mod Readings
-pub mod Choices
-pub mod Ranges

@@ -1,6 +1,0 @@
-mod BookLemmas
-mod CountLemmas
-mod FullLemmas
-mod KeepLemmas
-pub mod Laws
-mod TurnLemmas

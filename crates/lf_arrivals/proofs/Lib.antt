@@ -1,3 +1,0 @@
-mod Agreeing
-mod Answering
-pub mod Laws

@@ -1,5 +1,0 @@
-use Rattle.lf_arrivals.proofs.Answering.{over_seed}
-use Rattle.lf_arrivals.proofs.facts.answers_come_before_those_of_seeds.Goals as goal
-
-pub returns : goal.returns
-returns g c timing b w formula answer first seed faults allowed miss = over_seed timing b w formula answer first seed faults allowed miss

@@ -1,4 +1,0 @@
-pub mod Beside
-pub mod Changes
-pub mod Elsewhere
-pub mod First

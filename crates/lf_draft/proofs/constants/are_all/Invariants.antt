@@ -1,8 +1,0 @@
-use Rattle.std.proofs.Common.{◌≡◌, drop}
-use Rattle.toml.specs.View.{items_view}
-use Rattle.lf_draft.specs.Constants.{are_all}
-use Rattle.lf_draft.proofs.constants.are_all.Given as goal
-
--- those so far are of the sort
-abbrev pub invariant-items : goal.invariant-items
-invariant-items l = are_all l.sort (items_view (drop l.value-index l.items)) ≡ are_all l.sort (items_view l.items)

@@ -1,4 +1,0 @@
-pub mod Drafts
-pub mod Constants
-pub mod Variables
-pub mod Named

@@ -1,2 +1,0 @@
-mod FailingLemmas
-pub mod Laws

@@ -1,2 +1,0 @@
-mod SetsLemmas
-mod ValuesLemmas

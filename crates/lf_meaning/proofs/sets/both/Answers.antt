@@ -1,5 +1,0 @@
-use Rattle.lf_meaning.proofs.SetsLemmas.{both-is}
-use Rattle.lf_meaning.proofs.sets.both.Goals as goal
-
-pub returns-clause-value : goal.returns-clause-value
-returns-clause-value c = both-is c.args.one c.args.other

@@ -1,5 +1,0 @@
-use Rattle.lf_meaning.proofs.SetsLemmas.{either-is}
-use Rattle.lf_meaning.proofs.sets.either.Goals as goal
-
-pub returns-clause-value : goal.returns-clause-value
-returns-clause-value c = either-is c.args.one c.args.other

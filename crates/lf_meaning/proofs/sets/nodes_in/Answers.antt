@@ -1,5 +1,0 @@
-use Rattle.lf_meaning.proofs.SetsLemmas.{nodes_in-is}
-use Rattle.lf_meaning.proofs.sets.nodes_in.Goals as goal
-
-pub returns-clause-value : goal.returns-clause-value
-returns-clause-value c = nodes_in-is c.args.number

@@ -1,6 +1,0 @@
-use Rattle.std.proofs.Common.{ap, ◌∙◌}
-use Rattle.lf_meaning.specs.Sets.{below}
-use Rattle.lf_meaning.proofs.values.all_nodes.Goals as goal
-
-pub returns-clause-value : goal.returns-clause-value
-returns-clause-value c = c.below.ensures.value ∙ ap below c.from.ensures

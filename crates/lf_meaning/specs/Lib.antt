@@ -1,4 +1,0 @@
-pub mod Sets
-pub mod States
-pub mod Operators
-pub mod Values

@@ -1,5 +1,0 @@
-use Rattle.std.proofs.Common.{IfSome, Contains}
-use Rattle.lf_near.proofs.nearest.Given as goal
-
-abbrev pub invariant-loop-name : goal.invariant-loop-name
-invariant-loop-name l = IfSome l.found (λ name. Contains l.names name)

@@ -1,5 +1,0 @@
-use Rattle.lf_own_scenario.proofs.RangeLemmas.{formula-of}
-use Rattle.lf_own_scenario.proofs.laws.promises_are_formulas.Goals as goal
-
-pub returns : goal.returns
-returns c = formula-of

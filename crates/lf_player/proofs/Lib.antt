@@ -1,3 +1,0 @@
-pub mod ChangesLemmas
-pub mod MarksLemmas
-pub mod WaysLemmas

@@ -1,5 +1,0 @@
-use Rattle.lf_player.proofs.MarksLemmas.{none-told}
-use Rattle.lf_player.proofs.marks.Marks.none.Goals as goal
-
-pub invariant_of-result : goal.invariant_of-result
-invariant_of-result c = record { told = none-told 400 50 }

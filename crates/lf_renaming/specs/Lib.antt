@@ -1,2 +1,0 @@
-pub mod Renaming
-pub mod Machines

@@ -1,0 +1,121 @@
+-- Orders and tests for equality that tell apart what differs, put together from those of the parts.
+use Rattle.std.proofs.Common.{◌≡◌, Bool, true, false, ◌||◌, List, [], ◌∷◌, refl, sym, ap, ◌∙◌, subst, inl, inr}
+use Rattle.std.specs.Prelude.{Option, None, Some, ◌↔◌}
+use Rattle.std.specs.List.{Contains, list_any}
+use Rattle.std.specs.Option.{option_cmp, option_eq}
+use Rattle.std.specs.declared.cmp.Ordering.{Ordering}
+use Rattle.std.specs.declared.cmp.Ordering.TheVariants.{Less, Equal, Greater}
+use Rattle.std.specs.Ordering.{ordering_then, bool_cmp, is_eq}
+use Rattle.std.specs.Cmp.Lexicographic.{slice_cmp}
+use Rattle.std.proofs.lemmas.Map.Lookups.{CmpEqualImpliesEq}
+use denote.Struct.Field.{Field}
+use denote.Enum.Bare.{Bare}
+use denote.Enum.Declared.{Record}
+use denote.Enum.Compared.{Each, by}
+use Rattle.lf_list.proofs.Laws.{none-in, Contains-first, Contains-more, cases_in}
+
+-- one order and then another: both are level
+pub then_Equal : (a b : Ordering) → ordering_then a b ≡ Equal → (a ≡ Equal) × (b ≡ Equal)
+then_Equal Less b h = cc
+then_Equal Equal b h = (refl, h)
+then_Equal Greater b h = cc
+
+Equal-from : (a : Ordering) → is_eq a ≡ true → a ≡ Equal
+Equal-from Less h = cc
+Equal-from Equal h = refl
+Equal-from Greater h = cc
+
+pub exact_flags : CmpEqualImpliesEq bool_cmp
+exact_flags false false h = refl
+exact_flags false true h = cc
+exact_flags true false h = cc
+exact_flags true true h = refl
+
+module _ {A : Type 0} (R : A → A → Ordering) (exact : CmpEqualImpliesEq R) where
+  pub exact_lists : CmpEqualImpliesEq (slice_cmp R)
+  exact_lists [] [] h = refl
+  exact_lists [] (y ∷ ys) h = cc
+  exact_lists (x ∷ xs) [] h = cc
+  exact_lists (x ∷ xs) (y ∷ ys) h =
+      let both = then_Equal (R x y) (slice_cmp R xs ys) h in
+      let first = exact x y both.0 in let rest = exact_lists xs ys both.1 in
+      λ i. first i ∷ rest i
+
+  pub exact_options : CmpEqualImpliesEq (option_cmp R)
+  exact_options None None h = refl
+  exact_options None (Some y) h = cc
+  exact_options (Some x) None h = cc
+  exact_options (Some x) (Some y) h = ap Some (exact x y h)
+
+  -- a test that agrees with the order
+  pub same_by_order : (x y : A) (test : Bool) → test ≡ is_eq (R x y) → test ≡ true → x ≡ y
+  same_by_order x y test agrees h = exact x y (Equal-from (R x y) (sym agrees ∙ h))
+
+-- an enum, where the order of each variant's fields tells them apart
+abbrev pub Exacts : (Fss : List (List Field)) → Each Ordering Fss → Type 0
+Exacts [] each = Unit {0}
+Exacts (Fs ∷ Fss) each = CmpEqualImpliesEq each.0 × Exacts Fss each.1
+
+exact_choices : (Fss : List (List Field)) (each : Each Ordering Fss) → Exacts Fss each → CmpEqualImpliesEq (by Less Greater Fss each)
+exact_choices [] each exact x y h = absurd x
+exact_choices (Fs ∷ Fss) each exact (inl x) (inl y) h = ap inl (exact.0 x y h)
+exact_choices (Fs ∷ Fss) each exact (inl x) (inr y) h = cc
+exact_choices (Fs ∷ Fss) each exact (inr x) (inl y) h = cc
+exact_choices (Fs ∷ Fss) each exact (inr x) (inr y) h = ap inr (exact_choices Fss each.1 exact.1 x y h)
+
+-- and one whose variants have no fields
+abbrev level : (Fss : List (List Field)) → Each Ordering Fss
+level [] = tt
+level (Fs ∷ Fss) = (λ x y. Equal, level Fss)
+
+exact_level : (Fss : List (List Field)) → Bare Fss → Exacts Fss (level Fss)
+exact_level [] bare = tt
+exact_level ([] ∷ Fss) bare = (λ x y h. refl, exact_level Fss bare)
+exact_level ((F ∷ Fs) ∷ Fss) bare = absurd bare
+
+-- a variant without fields before others
+abbrev pub bare : {Rest : Type 0} → Rest → CmpEqualImpliesEq {K = Unit {0}} (λ x y. Equal) × Rest
+bare rest = (λ x y h. refl, rest)
+
+module _ (N : Record) where
+  pub exact_variants : (each : Each Ordering N.parts) → Exacts N.parts each → (x y : N.D)
+      → by Less Greater N.parts each (N.as_values x) (N.as_values y) ≡ Equal → x ≡ y
+  exact_variants each exact x y h =
+      sym (N.eta x) ∙ ap N.make (exact_choices N.parts each exact (N.as_values x) (N.as_values y) h) ∙ N.eta y
+
+  pub exact_bare : Bare N.parts → (x y : N.D) → by Less Greater N.parts (level N.parts) (N.as_values x) (N.as_values y) ≡ Equal → x ≡ y
+  exact_bare bare = exact_variants (level N.parts) (exact_level N.parts bare)
+
+module _ {A : Type 0} (same : A → A → Bool) (exact : (x y : A) → same x y ≡ true → x ≡ y) where
+  pub same_options : (x y : Option A) → option_eq same x y ≡ true → x ≡ y
+  same_options None None h = refl
+  same_options None (Some y) h = cc
+  same_options (Some x) None h = cc
+  same_options (Some x) (Some y) h = ap Some (exact x y h)
+
+  pub options_itself : ((x : A) → same x x ≡ true) → (x : Option A) → option_eq same x x ≡ true
+  options_itself itself None = refl
+  options_itself itself (Some x) = itself x
+
+  found_at : (a x : A) (xs : List A) (b rest : Bool) → same x a ≡ b → (rest ≡ true → Contains xs a) → (b || rest) ≡ true → Contains (x ∷ xs) a
+  found_at a x xs true rest e later h = subst (λ y. Contains (x ∷ xs) y) (exact x a e) (Contains-first x xs)
+  found_at a x xs false rest e later h = Contains-more x xs a (later h)
+
+  from_any : (a : A) (xs : List A) → list_any (λ x. same x a) xs ≡ true → Contains xs a
+  from_any a [] h = cc
+  from_any a (x ∷ xs) h = found_at a x xs (same x a) (list_any (λ y. same y a) xs) refl (from_any a xs) h
+
+  or-second : (b c : Bool) → c ≡ true → (b || c) ≡ true
+  or-second true c e = refl
+  or-second false c e = e
+
+  to_any : ((x : A) → same x x ≡ true) → (a : A) (xs : List A) → Contains xs a → list_any (λ x. same x a) xs ≡ true
+  to_any itself a [] h = absurd (none-in a h)
+  to_any itself a (x ∷ xs) h = elim (cases_in x xs a h) [
+    | inl first ↦ ap (λ b. b || list_any (λ y. same y a) xs) (ap (λ z. same z a) first ∙ itself a)
+    | inr later ↦ or-second (same x a) (list_any (λ y. same y a) xs) (to_any itself a xs later)
+  ]
+
+  -- a search by the test finds what is in the list
+  pub any_is : ((x : A) → same x x ≡ true) → (a : A) (xs : List A) → (list_any (λ x. same x a) xs ≡ true) ↔ Contains xs a
+  any_is itself a xs = (from_any a xs, to_any itself a xs)

@@ -1,0 +1,8 @@
+mod SetsLemmas
+mod ValuesLemmas
+mod ChoicesLemmas
+mod FoldsLemmas
+pub mod Laws
+mod RangesLemmas
+mod IndexesLemmas
+mod FactRangesLemmas

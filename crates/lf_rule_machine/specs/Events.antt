@@ -1,0 +1,137 @@
+-- What a node does at an event: which rules are taken, and what they do.
+use Rattle.std.specs.Prelude.{ℕ, ◌+◌, Bool, true, false, not, ◌&&◌, ◌||◌, ◌==◌, nat_lt, if◌then◌else◌, min}
+use Rattle.std.specs.Prelude.{List, [], ◌∷◌, Option, None, Some, slice_set, slice_get, replicate}
+use Rattle.std.specs.List.{fold, range_with_len}
+use Rattle.lf_sim.specs.declared.out.Stepped.{Stepped}
+use Rattle.lf_sim.specs.Outs.{note_to, with_note}
+use Rattle.lf_rules.specs.declared.kind.Kind.{Kind}
+use Rattle.lf_rules.specs.Terms.{Term}
+use Rattle.lf_rules.specs.declared.rule.Event.{Event}
+use Rattle.lf_rules.specs.declared.rule.Event.TheVariants as events
+use Rattle.lf_rules.specs.declared.rule.Assignment.{Assignment}
+use Rattle.lf_rules.specs.declared.rule.Send.{Send}
+use Rattle.lf_rules.specs.declared.rule.Rule.{Rule}
+use Rattle.lf_rules.specs.declared.rule.Chain.{Chain}
+use Rattle.lf_rules.specs.declared.definition.Variable.{Variable}
+use Rattle.lf_rules.specs.declared.definition.NoteForm.{NoteForm}
+use Rattle.lf_rules.specs.declared.definition.Definition.{Definition}
+use Rattle.lf_rules.specs.Kinds.{most_of}
+use Rattle.lf_rule_machine.specs.declared.moment.Moment.{Moment}
+use Rattle.lf_rule_machine.specs.declared.state.State.{State}
+use Rattle.lf_rule_machine.specs.declared.state.Note.{Note}
+use Rattle.lf_rule_machine.specs.declared.sending.Draft.{Draft}
+use Rattle.lf_rule_machine.specs.Sets.{is_true, has}
+use Rattle.lf_rule_machine.specs.States.{same_note}
+use Rattle.lf_rule_machine.specs.Values.{value_of, fixed_value}
+
+-- a value past the greatest of its kind becomes that one, and clamped is remembered
+abbrev pub fitted : Kind → ℕ → ℕ
+fitted kind v = min v (most_of kind)
+
+abbrev pub remembered : Kind → ℕ → State → State
+remembered kind v s = record { values = s.values; clamped = s.clamped || nat_lt (most_of kind) v; replaced = s.replaced }
+
+-- a variable with a new value
+abbrev pub with_value : ℕ → ℕ → State → State
+with_value i v s = record { values = slice_set s.values i v; clamped = s.clamped; replaced = s.replaced }
+
+-- the events are the same
+abbrev pub same_event : Event → Event → Bool
+same_event events.Start events.Start = true
+same_event events.Wake events.Wake = true
+same_event events.Begin events.Begin = true
+same_event (events.Note a) (events.Note b) = a == b
+same_event events.End events.End = true
+same_event one other = false
+
+-- a node goes through a chain at its event, and where it is in its set, which is worked out at each node
+abbrev pub is_passed : ℕ → ℕ → List ℕ → Event → Chain → Bool
+is_passed nodes me given event chain = same_event chain.on event && has (fixed_value nodes given chain.who) me
+
+-- there was another note
+abbrev pub is_another : Option Note → Note → Bool
+is_another None note = false
+is_another (Some old) note = not (same_note old note)
+
+abbrev pub kinds_of : Option NoteForm → List Kind
+kinds_of None = []
+kinds_of (Some form) = form.fields
+
+-- a note for m: where there was another one, that is remembered
+abbrev pub place : Note → Stepped State Note → ℕ → Stepped State Note
+place note turn m = record {
+  state = record {
+    values = turn.state.values;
+    clamped = turn.state.clamped;
+    replaced = turn.state.replaced || is_another (note_to turn.out m) note;
+  };
+  out = with_note turn.out m note;
+}
+
+module _ (at : Moment) where
+  -- for each node of the set but this one the note takes its place
+  abbrev pub is_receiver : ℕ → ℕ → Bool
+  is_receiver set m = has set m && not (m == at.me)
+
+  abbrev pub put : ℕ → Note → Stepped State Note → ℕ → Stepped State Note
+  put set note turn m = if is_receiver set m then place note turn m else turn
+
+  abbrev pub put_all : ℕ → Note → Stepped State Note → Stepped State Note
+  put_all set note turn = fold (put set note) turn (range_with_len 0 at.nodes)
+
+module _ (d : Definition) (at : Moment) where
+  -- a variable gets a value: a number of none does nothing
+  abbrev pub assign_to : State → ℕ → Option Variable → Term → State
+  assign_to s i None e = s
+  assign_to s i (Some x) e = with_value i (fitted x.kind (value_of d at s e)) (remembered x.kind (value_of d at s e) s)
+
+  abbrev pub assign : State → Assignment → State
+  assign s a = assign_to s a.variable (slice_get d.variables a.variable) a.value
+
+  -- a note's field gets a value: one past the form's fields does nothing
+  abbrev pub fill_as : Draft → ℕ → Option Kind → Term → Draft
+  fill_as draft k None e = draft
+  fill_as draft k (Some kind) e = record {
+    state = remembered kind (value_of d at draft.state e) draft.state;
+    fields = slice_set draft.fields k (fitted kind (value_of d at draft.state e));
+  }
+
+  -- the fields from the k-th on, from the left
+  abbrev pub fill : List Kind → Draft → ℕ → List Term → Draft
+  fill kinds draft k [] = draft
+  fill kinds draft k (e ∷ es) = fill kinds (fill_as draft k (slice_get kinds k) e) (k + 1) es
+
+  -- a send works out its fields, then its set of nodes, and then puts the note
+  abbrev pub drafted : State → Send → Draft
+  drafted s x = fill (kinds_of (slice_get d.notes x.form)) (record { state = s; fields = replicate 7 0 }) 0 x.fields
+
+  abbrev pub put_draft : Stepped State Note → Send → Draft → Stepped State Note
+  put_draft turn x draft =
+      put_all at (value_of d at draft.state x.to) (record { form = x.form; fields = draft.fields }) (record { state = draft.state; out = turn.out })
+
+  abbrev pub send : Stepped State Note → Send → Stepped State Note
+  send turn x = put_draft turn x (drafted turn.state x)
+
+  -- a rule that is taken makes its assignments from the left, and then its sends from the left
+  abbrev pub do_rule : Stepped State Note → Rule → Stepped State Note
+  do_rule turn rule = fold send (record { state = fold assign turn.state rule.sets; out = turn.out }) rule.sends
+
+  -- of a chain the first rule is taken whose guard is true
+  abbrev pub first_true : State → List Rule → Option Rule
+  first_true s [] = None
+  first_true s (rule ∷ rules) = if is_true (value_of d at s rule.guard) then Some rule else first_true s rules
+
+  abbrev pub do_found : Stepped State Note → Option Rule → Stepped State Note
+  do_found turn None = turn
+  do_found turn (Some rule) = do_rule turn rule
+
+  abbrev pub take_first : Stepped State Note → List Rule → Stepped State Note
+  take_first turn rules = do_found turn (first_true turn.state rules)
+
+  -- a chain that isn't gone through does nothing
+  abbrev pub pass : Event → Stepped State Note → Chain → Stepped State Note
+  pass event turn chain = if is_passed at.nodes at.me at.given event chain then take_first turn chain.rules else turn
+
+  -- an event goes through the chains in order
+  unfoldable pub act : Event → Stepped State Note → Stepped State Note
+  act event turn = fold (pass event) turn d.chains

@@ -1,0 +1,23 @@
+-- What a machine of rules is made of.
+use Rattle.std.specs.Prelude.{ℕ, List, refl}
+use Rattle.std.specs.Coded.{Coded, code_by, coded×, coded_ℕ, coded_list}
+use Rattle.std.specs.Arc.{arc_value}
+use Rattle.lf_rule_machine.specs.declared.indexed.Indexed.{Indexed}
+use Rattle.lf_rules.specs.declared.definition.Definition.{Definition}
+use Rattle.lf_rules.specs.contracts.definition.Definition.{the_row}
+
+-- a protocol, how many nodes there are, and the values that its constants have at each of 8 nodes
+pub record Instance : Type 0 where
+  pub definition : Definition
+  pub nodes : ℕ
+  pub given : List (List ℕ)
+
+-- how the logic stores one
+abbrev pub instance_code : Coded Instance
+instance_code =
+    code_by (Definition × (ℕ × List (List ℕ))) (coded× the_row.coded (coded× coded_ℕ (coded_list (coded_list coded_ℕ))))
+    (λ m. (m.definition, (m.nodes, m.given))) (λ p. record { definition = p.0; nodes = p.1.0; given = p.1.1 }) (λ _. refl)
+
+-- what one is that stands with its chains by node and event
+abbrev pub instance_of : Indexed → Instance
+instance_of x = record { definition = arc_value x.rules; nodes = x.nodes; given = x.given }

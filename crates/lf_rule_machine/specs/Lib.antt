@@ -1,0 +1,14 @@
+pub mod Sets
+pub mod States
+pub mod Operators
+pub mod Values
+pub mod Events
+pub mod Readings
+pub mod Choices
+pub mod Ranges
+pub mod Instances
+pub mod Constants
+pub mod Indexes
+pub mod Machines
+pub mod Ruleds
+pub mod RuledLemmas

@@ -1,0 +1,111 @@
+//! A protocol of rules with what is worked out of it once, and what a node does by it.
+
+ghost use Rattle.std.specs.Prelude.{◌≡◌, ◌≤◌, map, slice_get};
+ghost use Rattle.std.specs.Arc.{arc_value};
+ghost use Rattle.std.specs.List.{fold};
+ghost use Rattle.lf_rule_machine.specs.Constants.{row_of};
+ghost use Rattle.lf_rule_machine.specs.Indexes.{rows_of};
+ghost use Rattle.lf_rule_machine.specs.Events.{act};
+ghost use Rattle.lf_rule_machine.specs.Machines.{moment, act_alone, hear_of, is_told, shows_of};
+
+use crate::constants::constants_at;
+use crate::{Fact, Moment, Note, State, Told, fact_value, go_through, index, item};
+use lf_rules::{Event, Rules};
+use lf_sim::{Letter, Stepped};
+use std::sync::Arc;
+
+/// A protocol of rules among so many nodes, with the values of its constants, and which chains each node goes through at each event.
+#[derive(Debug, Drop)]
+pub(crate) struct Indexed {
+    pub rules: Arc<Rules>,
+    /// 2..=8.
+    pub nodes: u32,
+    /// The values of the constants, by node and number.
+    pub given: [[u8; 16]; 8],
+    /// The chains that each node goes through at each event.
+    pub rows: Vec<Vec<usize>>,
+    ghost indexed: { map (λ row. row.items) rows.items ≡ rows_of (arc_value rules) nodes given },
+    ghost many: { 2 ≤ nodes },
+    ghost few: { nodes ≤ 8 },
+}
+
+impl Indexed {
+    /// Takes in the letters of an inbox, in order.
+    pub fn take_in_all(
+        &self,
+        node: u32,
+        t: u32,
+        turn: &mut Stepped<State, Note>,
+        inbox: &[Letter<Note>],
+    )
+        ensures { turn.new ≡ fold (hear_of (arc_value self.now.rules) self.now.nodes self.now.given node t) turn.old inbox.now }
+    {
+        for letter in inbox {
+            self.take_in(node, t, turn, letter);
+        }
+    }
+
+    /// Takes in a letter.
+    pub fn take_in(&self, node: u32, t: u32, turn: &mut Stepped<State, Note>, letter: &Letter<Note>)
+        ensures { turn.new ≡ hear_of (arc_value self.now.rules) self.now.nodes self.now.given node t turn.old letter.now }
+    {
+        let at = self.moment(node, t, letter.from, letter.note.fields);
+        self.act(&at, Event::Note(letter.note.form), turn);
+    }
+
+    /// Acts at an event without a letter.
+    pub fn act_alone(&self, node: u32, t: u32, event: Event, turn: &mut Stepped<State, Note>)
+        ensures { turn.new ≡ act_alone (arc_value self.now.rules) self.now.nodes self.now.given node t event turn.old }
+    {
+        let at = self.moment(node, t, 0, [0; 7]);
+        self.act(&at, event, turn);
+    }
+
+    /// Acts at an event.
+    fn act(&self, at: &Moment, event: Event, turn: &mut Stepped<State, Note>)
+        requires nodes { at.now.nodes ≡ self.now.nodes }
+        requires given { at.now.given ≡ row_of (slice_get self.now.given at.now.me) }
+        ensures { turn.new ≡ act (arc_value self.now.rules) at.now event turn.old }
+    {
+        let numbers = index::row_for(self.rows.as_slice(), at.me, event);
+        go_through(self.rules.definition(), at, turn, numbers);
+    }
+
+    /// A moment of a node's step.
+    fn moment(&self, node: u32, t: u32, sender: u32, fields: [u8; 7]) -> Moment
+        ensures { result ≡ moment self.now.nodes self.now.given node t sender fields }
+    {
+        Moment {
+            nodes: self.nodes,
+            me: node,
+            given: constants_at(&self.given, node),
+            step: t,
+            sender,
+            fields,
+        }
+    }
+
+    /// Whether a state shows a fact.
+    pub fn shows(&self, node: u32, state: &State, fact: Fact) -> bool
+        ensures { result ≡ shows_of (arc_value self.now.rules) self.now.nodes self.now.given node state.now fact }
+    {
+        let told = self.is_told(node, state, fact.told);
+        if fact.denied { !told } else { told }
+    }
+
+    /// Whether something is so of a state.
+    fn is_told(&self, node: u32, state: &State, told: Told) -> bool
+        ensures { result ≡ is_told (arc_value self.now.rules) self.now.nodes self.now.given node state.now told }
+    {
+        match told {
+            Told::Named(i) => {
+                let at = self.moment(node, 0, 0, [0; 7]);
+                fact_value(self.rules.definition(), &at, state, i) != 0
+            }
+            Told::Word { variable, word } => item(&state.values, variable) == word,
+            Told::Flag(variable) => item(&state.values, variable) != 0,
+            Told::Clamped => state.clamped,
+            Told::Replaced => state.replaced,
+        }
+    }
+}

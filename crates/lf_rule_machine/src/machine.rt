@@ -1,0 +1,185 @@
+//! Protocols of rules as machines.
+
+ghost use Rattle.std.specs.Prelude.{◌≡◌, ◌↔◌, true, IsSome, IsTrue, IfSome, IfOk, slice_get};
+ghost use Rattle.lf_rules.specs.Forms.{is_well_formed};
+ghost use Rattle.std.specs.Arc.{arc_value};
+ghost use Rattle.lf_rule_machine.specs.Constants.{given_table, row_of};
+ghost use Rattle.lf_rule_machine.specs.Machines.{is_machine, opened, begin_of, hear_of, end_of};
+
+use crate::constants::{are_given, constants_at, given_table};
+use crate::indexed::Indexed;
+use crate::{Fact, Note, State, index};
+use lf_rules::{Definition, Event, Given, Rules};
+use lf_sim::{Letter, Machine, Out, Stepped};
+use std::alloc::{AllocError, Global};
+use std::marker::Model;
+use std::sync::Arc;
+
+/// A protocol of rules among so many nodes, with the values that its constants have at each of them.
+#[derive(Debug, Drop)]
+pub struct Ruled {
+    indexed: Arc<Indexed>,
+}
+
+impl Model for Ruled {
+    ghost use Rattle.std.specs.Arc.{arc_value};
+    ghost use Rattle.lf_rule_machine.specs.Instances.{Instance, instance_code, instance_of};
+
+    ghost Value = { Instance };
+
+    ghost coded = { instance_code };
+
+    ghost view = { λ m. instance_of (arc_value m.indexed) };
+}
+
+impl Ruled {
+    /// The machine of a protocol among so many nodes, with a value for each of its constants. None where there aren't 2 to 8 nodes, where the values don't fit
+    /// the constants, or where a list hasn't an item for each node. The error is that memory has run out.
+    pub fn new(
+        alloc: Global,
+        rules: Arc<Rules>,
+        nodes: u32,
+        given: &[Given],
+    ) -> Result<Option<Ruled>, AllocError>
+        ensures some { IfOk result (λ made. IsSome made ↔ IsTrue (is_machine (arc_value rules) nodes given.now)) }
+        ensures value { IfOk result
+            (λ made. IfSome made (λ m. m ≡ record { definition = arc_value rules; nodes = nodes; given = given_table nodes given.now })) }
+    {
+        if nodes < 2 {
+            return Ok(None);
+        }
+        if 8 < nodes {
+            return Ok(None);
+        }
+        if !are_given(rules.definition(), nodes, given) {
+            return Ok(None);
+        }
+        let given = given_table(nodes, given);
+        let rows = index::rows(alloc, rules.definition(), nodes, &given)?;
+        let indexed = Indexed {
+            rules,
+            nodes,
+            given,
+            rows,
+        };
+        match Arc::new(alloc, indexed) {
+            Ok(indexed) => Ok(Some(Ruled { indexed })),
+            Err(_) => Err(AllocError),
+        }
+    }
+
+    /// Whether two machines are the same: of protocols that say the same, among as many nodes, with the same values.
+    pub fn same(&self, other: &Ruled) -> bool
+        ensures { IsTrue result ↔ (self.now ≡ other.now) }
+    {
+        let one: &Indexed = &self.indexed;
+        let another: &Indexed = &other.indexed;
+        one.nodes == another.nodes
+            && are_same_values(&one.given, &another.given)
+            && one.rules.definition().same(another.rules.definition())
+    }
+
+    /// The protocol's definition.
+    pub fn definition(&self) -> &Definition
+        ensures value { result.now ≡ self.now.definition }
+        ensures well_formed { is_well_formed result.now ≡ true }
+    {
+        self.indexed.rules.definition()
+    }
+
+    /// The values of the constants at a node, by number: 0 where there is no such constant, or no such node.
+    pub fn constants_at(&self, node: u32) -> [u8; 16]
+        ensures { result ≡ row_of (slice_get self.now.given node) }
+    {
+        constants_at(&self.indexed.given, node)
+    }
+
+    /// What a node does at step `t` before its inbox: the state and the notes that it comes to.
+    pub fn begin(&self, node: u32, t: u32, state: State) -> Stepped<State, Note>
+        ensures { result ≡ begin_of self.now.definition self.now.nodes self.now.given node t state }
+    {
+        let mut turn = opened(state);
+        self.indexed.act_alone(node, t, Event::Begin, &mut turn);
+        turn
+    }
+
+    /// Takes in a letter: what it comes to with it.
+    pub fn hear(&self, node: u32, t: u32, turn: &mut Stepped<State, Note>, letter: &Letter<Note>)
+        ensures { turn.new ≡ hear_of self.now.definition self.now.nodes self.now.given node t turn.old letter.now }
+    {
+        self.indexed.take_in(node, t, turn, letter);
+    }
+
+    /// What it comes to after its inbox: what the step gives.
+    pub fn end(&self, node: u32, t: u32, turn: &mut Stepped<State, Note>)
+        ensures { turn.new ≡ end_of self.now.definition self.now.nodes self.now.given node t turn.old }
+    {
+        self.indexed.act_alone(node, t, Event::End, turn);
+    }
+}
+
+impl Machine for Ruled {
+    ghost use Rattle.lf_rule_machine.specs.Ruleds.{rules_of};
+    ghost use Rattle.lf_rule_machine.specs.RuledLemmas.{rules_of-silent};
+
+    type State = State;
+
+    type Note = Note;
+
+    type Fact = Fact;
+
+    ghost rules = { rules_of };
+
+    fn nodes(&self) -> u32 {
+        self.indexed.nodes
+    }
+
+    fn start(&self, node: u32) -> State {
+        let mut turn = opened(State::zeros());
+        self.indexed.act_alone(node, 0, Event::Start, &mut turn);
+        turn.state
+    }
+
+    fn step(
+        &self,
+        node: u32,
+        t: u32,
+        state: State,
+        inbox: &[Letter<Note>],
+    ) -> Stepped<State, Note> {
+        let mut turn = opened(state);
+        self.indexed.act_alone(node, t, Event::Begin, &mut turn);
+        self.indexed.take_in_all(node, t, &mut turn, inbox);
+        self.indexed.act_alone(node, t, Event::End, &mut turn);
+        turn
+    }
+
+    fn wake(&self, node: u32, t: u32, state: State) -> State {
+        let mut turn = opened(state);
+        self.indexed.act_alone(node, t, Event::Wake, &mut turn);
+        turn.state
+    }
+
+    fn shows(&self, node: u32, state: State, fact: Fact) -> bool {
+        self.indexed.shows(node, &state, fact)
+    }
+
+    ghost silent = { λ m n t to state inbox node first last nobody. rules_of-silent m n t to state inbox nobody };
+}
+
+/// Whether constants have the same values at each node.
+fn are_same_values(one: &[[u8; 16]; 8], other: &[[u8; 16]; 8]) -> bool
+    ensures { IsTrue result ↔ (one.now ≡ other.now) }
+{
+    one == other
+}
+
+/// A state, and no note yet.
+fn opened(state: State) -> Stepped<State, Note>
+    ensures { result ≡ opened state }
+{
+    Stepped {
+        state,
+        out: Out::none(),
+    }
+}

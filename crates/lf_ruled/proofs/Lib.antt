@@ -1,2 +1,0 @@
-mod IndexesLemmas
-mod RangesLemmas

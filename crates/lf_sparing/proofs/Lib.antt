@@ -1,4 +1,0 @@
-mod Leaving
-mod Passing
-mod Tightening
-mod Trying

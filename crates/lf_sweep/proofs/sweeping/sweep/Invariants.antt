@@ -1,0 +1,10 @@
+use Rattle.std.proofs.Common.{◌≡◌, false}
+use Rattle.lf_sweep.specs.Sweeps.{WereTold}
+use Rattle.lf_sweep.proofs.sweeping.sweep.Given as goal
+
+-- the lines that were written
+abbrev pub invariant-places : goal.invariant-places
+invariant-places g l =
+    WereTold g.W.Sink.written g.W.Sink.has_failed (g.A.Asker.replies l.asker) (g.A.Asker.refuses l.asker) l.study.scenario.now l.study.plan.now.varied.items
+    l.part 0 l.place l.initial.writer l.writer
+    l.counts × (g.W.Sink.has_failed l.writer ≡ false)

@@ -1,4 +1,0 @@
-pub mod Counts
-pub mod Faults
-pub mod Rows
-pub mod Sweeps

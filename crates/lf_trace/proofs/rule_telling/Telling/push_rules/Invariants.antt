@@ -1,0 +1,11 @@
+use Rattle.std.proofs.Common.{◌≡◌, ◌++◌, string_bytes}
+use Rattle.lf_sim.specs.Runs.{each_below}
+use Rattle.lf_sim.specs.Settings.{set_of, world_of}
+use Rattle.lf_trace.specs.RuleTraces.{rule_line}
+use Rattle.lf_trace.proofs.rule_telling.Telling.push_rules.Given as goal
+
+-- the lines of the nodes so far
+abbrev pub invariant-nodes : goal.invariant-nodes
+invariant-nodes l =
+    string_bytes l.text
+    ≡ string_bytes l.initial.text ++ each_below (rule_line l.self.setting.now.machine (world_of l.self.setting.now) (set_of l.self.run.now) l.past) l.node

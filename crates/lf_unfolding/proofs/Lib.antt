@@ -1,6 +1,0 @@
-pub mod Laws
-mod KeptLemmas
-mod ListLemmas
-mod MemberLemmas
-mod SizeLemmas
-mod UnfoldingLemmas
