@@ -64,14 +64,14 @@ pub(crate) fn measure(
     scenario: Arc<Scenario>,
 ) -> Result<u8, AllocError> {
     let found = match asked.way {
-        Way::Shares => timed(rt, threads, asked.count, scenario)?,
+        Way::Shares => share_times(rt, threads, asked.count, scenario)?,
         _ => found_by(threads, rt.alloc(), scenario, asked.count, &NoGate)?,
     };
     Ok(print(rt, found))
 }
 
 /// What a search by so many workers finds. In how much of their time they worked goes to standard error.
-fn timed(
+fn share_times(
     rt: &HostRuntime,
     threads: &(impl Threads + Wait + Clock + Sync),
     workers: u32,
