@@ -3,7 +3,7 @@
 use leastfault::{read_known, read_protocol};
 use leastfault_sweep::Study;
 use lf_hints::combination_hint;
-use lf_own_hints::own_hint;
+use lf_protocol_hints::own_hint;
 use lf_sweep::text_of;
 use std::alloc::{AllocError, Global};
 

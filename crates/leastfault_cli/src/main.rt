@@ -71,8 +71,7 @@ use lf_hints::{
     level_hint, run_hint, search_hint, see_hint, see_late_hint, seed_note, set_hint, tree_hint,
     verdict_hint,
 };
-use lf_own_hints::{own_hint, run_notes};
-use lf_protocol_hints::{protocol_hint, protocol_notes};
+use lf_protocol_hints::{own_hint, protocol_hint, protocol_notes, run_notes};
 use lf_words::shell_word;
 use line::Line;
 use same_file::is_same_file;

@@ -10,7 +10,7 @@ use crate::expressions::{Read, read_all};
 use crate::fronts::{behind_sign, ends_item, past_sign};
 use crate::level::Level;
 use crate::typed::{between, how_many, leaf, only};
-use crate::{Place, Sign, Token, Typed, Unread};
+use crate::{Place, Sign, Token, Typed, Why, wrong};
 use lf_rules::{Leaf, Sort};
 use std::alloc::Global;
 
@@ -21,10 +21,13 @@ pub(crate) fn read_atom<'t>(alloc: Global, place: &Place<'_>, tokens: &'t [Token
     ensures shorter { IfOk result (λ r. length r.1.now ≤ length tokens.now) }
 {
     let Some((first, after)) = tokens.split_first() else {
-        return Err(Unread::Wrong);
+        return Err(wrong(Why::Value, 0));
     };
     match first {
-        Token::Number(number) => Ok((leaf(Leaf::Number(*number), Sort::Number), after)),
+        Token::Number(number) => {
+            let number = Leaf::Number(*number);
+            Ok((leaf(number, Sort::Number, tokens.len(), after.len()), after))
+        }
         Token::Word(word) => read_word(alloc, place, word.as_str(), after),
         Token::Sign(sign) => read_brackets(alloc, place, *sign, after),
     }
@@ -39,7 +42,7 @@ fn read_brackets<'t>(alloc: Global, place: &Place<'_>, sign: Sign, tokens: &'t [
     match sign {
         Sign::OpenRound => read_round(alloc, place, tokens),
         Sign::OpenCurly => read_set(alloc, place, tokens),
-        _ => Err(Unread::Wrong),
+        _ => Err(wrong(Why::Value, tokens.len().saturating_add(1))),
     }
 }
 
@@ -50,14 +53,15 @@ fn read_word<'t>(alloc: Global, place: &Place<'_>, word: &str, tokens: &'t [Toke
         (Behind (begins_word (context_of place.now) word.now (leaf_of place.now.fields.now place.now.names.now word.now))) tokens.now result }
     ensures shorter { IfOk result (λ r. length r.1.now ≤ length tokens.now) }
 {
+    let from = tokens.len().saturating_add(1);
     match place.leaf(word) {
         Some(found) => match place.definition.leaf_sort(place.scope, found) {
-            Some(sort) => Ok((leaf(found, sort), tokens)),
-            None => Err(Unread::Wrong),
+            Some(sort) => Ok((leaf(found, sort, from, tokens.len()), tokens)),
+            None => Err(wrong(Why::Name, from)),
         },
         None => match called(word) {
             Some(call) => read_call(alloc, place, call, tokens),
-            None => Err(Unread::Wrong),
+            None => Err(wrong(Why::Name, from)),
         },
     }
 }
@@ -68,8 +72,13 @@ fn read_round<'t>(alloc: Global, place: &Place<'_>, tokens: &'t [Token]) -> Read
     ensures read { Reads (context_of place.now) (Behind Round) tokens.now result }
     ensures shorter { IfOk result (λ r. length r.1.now ≤ length tokens.now) }
 {
+    let from = tokens.len().saturating_add(1);
     let (found, rest) = read_all(alloc, place, Level::Or, tokens)?;
-    Ok((found, past_sign(rest, Sign::CloseRound)?))
+    let to = rest.len().saturating_sub(1);
+    Ok((
+        Typed { from, to, ..found },
+        past_sign(rest, Sign::CloseRound, from)?,
+    ))
 }
 
 /// Reads a set behind its `{`: its items with commas between, and the `}`.
@@ -78,11 +87,16 @@ fn read_set<'t>(alloc: Global, place: &Place<'_>, tokens: &'t [Token]) -> Read<'
     ensures read { Reads (context_of place.now) (Behind Curly) tokens.now result }
     ensures shorter { IfOk result (λ r. length r.1.now ≤ length tokens.now) }
 {
+    let from = tokens.len().saturating_add(1);
     match behind_sign(tokens, Sign::CloseCurly) {
-        Some(rest) => Ok((leaf(Leaf::Empty, Sort::Nodes), rest)),
+        Some(rest) => Ok((leaf(Leaf::Empty, Sort::Nodes, from, rest.len()), rest)),
         None => {
             let (found, rest) = read_all(alloc, place, Level::Items, tokens)?;
-            Ok((found, past_sign(rest, Sign::CloseCurly)?))
+            let to = rest.len().saturating_sub(1);
+            Ok((
+                Typed { from, to, ..found },
+                past_sign(rest, Sign::CloseCurly, from)?,
+            ))
         }
     }
 }
@@ -107,7 +121,7 @@ fn read_range<'t>(alloc: Global, place: &Place<'_>, one: Typed, tokens: &'t [Tok
         return Ok((only(alloc, one)?, tokens));
     };
     if ends_item(after) {
-        return Ok((between(alloc, one, how_many())?, after));
+        return Ok((between(alloc, one, how_many(after.len()))?, after));
     }
     let (last, rest) = read_all(alloc, place, Level::Sum, after)?;
     Ok((between(alloc, one, last)?, rest))

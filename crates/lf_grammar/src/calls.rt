@@ -52,7 +52,7 @@ pub(crate) fn read_call<'t>(
     ensures read { Reads (context_of place.now) (Behind (Called call)) tokens.now result }
     ensures shorter { IfOk result (λ r. length r.1.now ≤ length tokens.now) }
 {
-    let inner = past_sign(tokens, Sign::OpenRound)?;
+    let inner = past_sign(tokens, Sign::OpenRound, tokens.len().saturating_add(1))?;
     let (one, rest) = read_all(alloc, place, Level::Sum, inner)?;
     read_second(alloc, place, call, one, rest)
 }
@@ -69,15 +69,16 @@ fn read_second<'t>(
     ensures read { Reads (context_of place.now) (Second call (said one)) tokens.now result }
     ensures shorter { IfOk result (λ r. length r.1.now ≤ length tokens.now) }
 {
+    let opened = one.from.saturating_add(1);
     match behind_sign(tokens, Sign::Comma) {
         Some(after) => {
             let (other, rest) = read_all(alloc, place, Level::Sum, after)?;
-            let end = past_sign(rest, Sign::CloseRound)?;
-            Ok((by_call(alloc, call, one, Some(other))?, end))
+            let end = past_sign(rest, Sign::CloseRound, opened)?;
+            Ok((by_call(alloc, call, one, Some(other), end.len())?, end))
         }
         None => {
-            let end = past_sign(tokens, Sign::CloseRound)?;
-            Ok((by_call(alloc, call, one, None)?, end))
+            let end = past_sign(tokens, Sign::CloseRound, opened)?;
+            Ok((by_call(alloc, call, one, None, end.len())?, end))
         }
     }
 }

@@ -1,6 +1,6 @@
 //! What numbers may be divided by.
 
-ghost use Rattle.std.specs.Prelude.{◌≡◌, ◌&&◌, ◌≤◌, length, IfOk, Some, None, MatchResult, slice_get};
+ghost use Rattle.std.specs.Prelude.{◌≡◌, ◌≢◌, ◌&&◌, ◌≤◌, length, IfOk, Some, None, MatchResult, slice_get};
 ghost use Rattle.std.specs.List.{list_all};
 ghost use Rattle.lf_rules.specs.Sorts.{is_of, leaf_sort};
 ghost use Rattle.lf_rules.specs.declared.expr.Leaf.TheVariants as leaves;
@@ -11,7 +11,7 @@ ghost use Rattle.lf_grammar.specs.Readings.{said, Finds};
 
 use crate::expressions::Read;
 use crate::typed::leaf;
-use crate::{Place, Token, Typed, Unread};
+use crate::{Place, Token, Typed, Unread, Why, wrong};
 use lf_rules::{Given, Leaf, Sort, Value};
 
 /// Reads what a number is divided by.
@@ -20,29 +20,30 @@ pub(crate) fn read_divisor<'t>(place: &Place<'_>, tokens: &'t [Token]) -> Read<'
     ensures shorter { IfOk result (λ r. length r.1.now ≤ length tokens.now) }
 {
     match tokens.split_first() {
-        Some((first, rest)) => match divided_by(place, first) {
+        Some((first, rest)) => match divided_by(place, first, tokens.len()) {
             Ok(found) => Ok((found, rest)),
             Err(e) => Err(e),
         },
-        None => Err(Unread::Wrong),
+        None => Err(wrong(Why::Value, 0)),
     }
 }
 
-/// What a number is divided by: a number that isn't 0, how many nodes there are, or a constant that may be named here and is a number, never 0.
-fn divided_by(place: &Place<'_>, token: &Token) -> Result<Typed, Unread>
+/// What a number is divided by: a number that isn't 0, how many nodes there are, or a constant that may be named here and is a number, never 0. So many
+/// tokens are left there.
+fn divided_by(place: &Place<'_>, token: &Token, left: usize) -> Result<Typed, Unread>
     ensures { MatchResult result (λ x. divisor (context_of place.now) token.now ≡ Some (said x))
-        (λ e. (e ≡ Unread.Wrong) × (divisor (context_of place.now) token.now ≡ None)) }
+        (λ e. (e ≢ Unread.Memory) × (divisor (context_of place.now) token.now ≡ None)) }
 {
     let found = match token {
         Token::Number(number) if *number != 0 => Leaf::Number(*number),
         Token::Word(word) => match place.leaf(word.as_str()) {
             Some(Leaf::Nodes) => Leaf::Nodes,
             Some(Leaf::Given(i)) if is_divisor(place, i) => Leaf::Given(i),
-            _ => return Err(Unread::Wrong),
+            _ => return Err(wrong(Why::Divisor, left)),
         },
-        _ => return Err(Unread::Wrong),
+        _ => return Err(wrong(Why::Divisor, left)),
     };
-    Ok(leaf(found, Sort::Number))
+    Ok(leaf(found, Sort::Number, left, left.saturating_sub(1)))
 }
 
 /// Whether a constant may be named here, and is a number that is 0 at no node.

@@ -1,14 +1,15 @@
 //! Why tokens aren't read.
 
-ghost use Rattle.std.specs.Prelude.{◌≡◌};
+ghost use Rattle.std.specs.Prelude.{◌≡◌, ◌≢◌};
 
+use crate::{Slip, Why};
 use std::alloc::AllocError;
 
 /// Why there is nothing to read in tokens.
 #[derive(Clone, Copy, Debug, PartialEq, Eq)]
 pub enum Unread {
-    /// What stands there can't stand there.
-    Wrong,
+    /// What stands there can't stand there, and why.
+    Wrong(Slip),
     /// Memory has run out.
     Memory,
 }
@@ -21,4 +22,11 @@ impl From<AllocError> for Unread {
     fn from(_: AllocError) -> Unread {
         Unread::Memory
     }
+}
+
+/// The refusal of the first of so many tokens.
+pub fn wrong(why: Why, left: usize) -> Unread
+    ensures { result ≢ Unread.Memory }
+{
+    Unread::Wrong(Slip::first(why, left))
 }

@@ -1,10 +1,10 @@
 //! What comes first among tokens.
 
-ghost use Rattle.std.specs.Prelude.{◌≡◌, ◌<◌, length, IfSome, IfOk, MatchOption, MatchResult, Some, None};
+ghost use Rattle.std.specs.Prelude.{◌≡◌, ◌≢◌, ◌<◌, length, IfSome, IfOk, MatchOption, MatchResult, Some, None};
 ghost use Rattle.lf_grammar.specs.Fronts.{behind_sign, behind_word, behind_comparison, ends_item};
 ghost use Rattle.lf_grammar.specs.Typing.{compares};
 
-use crate::{Sign, Token, Unread};
+use crate::{Sign, Slip, Token, Unread, Why};
 
 /// The tokens behind a word, where it comes first.
 pub fn behind_word<'t>(tokens: &'t [Token], wanted: &str) -> Option<&'t [Token]>
@@ -28,15 +28,18 @@ pub fn behind_sign(tokens: &[Token], wanted: Sign) -> Option<&[Token]>
     }
 }
 
-/// The tokens behind a sign that has to come first.
-pub fn past_sign(tokens: &[Token], wanted: Sign) -> Result<&[Token], Unread>
+/// The tokens behind a sign that has to come first, for something that begins where so many tokens are left.
+pub fn past_sign(tokens: &[Token], wanted: Sign, from: usize) -> Result<&[Token], Unread>
     ensures behind { MatchResult result (λ rest. behind_sign wanted tokens.now ≡ Some rest.now)
-        (λ e. (e ≡ Unread.Wrong) × (behind_sign wanted tokens.now ≡ None)) }
+        (λ e. (e ≢ Unread.Memory) × (behind_sign wanted tokens.now ≡ None)) }
     ensures shorter { IfOk result (λ rest. length rest.now < length tokens.now) }
 {
     match behind_sign(tokens, wanted) {
         Some(rest) => Ok(rest),
-        None => Err(Unread::Wrong),
+        None => Err(Unread::Wrong(Slip {
+            from,
+            ..Slip::first(Why::Sign(wanted), tokens.len())
+        })),
     }
 }
 

@@ -1,13 +1,13 @@
 //! Expressions with what they are.
 
-ghost use Rattle.std.specs.Prelude.{◌≡◌, MatchResult};
+ghost use Rattle.std.specs.Prelude.{◌≡◌, ◌≢◌, MatchResult};
 ghost use Rattle.lf_rules.specs.Terms as terms;
 ghost use Rattle.lf_grammar.specs.Typing.{by_one, by_two, as_set, plus_by, minus_by, compared, joined, by_call, only_by, between, how_many};
 ghost use Rattle.lf_grammar.specs.Readings.{said, said_of, Gives};
 
 use crate::calls::Call;
 use crate::level::Joint;
-use crate::{Sign, Token, Unread};
+use crate::{Sign, Slip, Token, Unread, Why};
 use lf_rules::{Binary, Leaf, Sort, Tree, Unary, binary_sort, unary_sort};
 use std::alloc::Global;
 
@@ -16,19 +16,33 @@ use std::alloc::Global;
 pub struct Typed {
     pub tree: Tree,
     pub sort: Sort,
+    /// How many tokens are left where it begins. No contract speaks of it.
+    pub from: usize,
+    /// How many are left behind it.
+    pub to: usize,
 }
 
 /// What comes of an operator on one value.
 pub(crate) fn unary(alloc: Global, operator: Unary, one: Typed) -> Result<Typed, Unread>
     ensures { Gives said (by_one operator (said one)) result }
 {
-    let Typed { tree, sort } = one;
+    let Typed {
+        tree,
+        sort,
+        from,
+        to,
+    } = one;
     match unary_sort(operator, Some(sort)) {
         Some(sort) => {
             let tree = Tree::Unary(operator, boxed(alloc, tree)?);
-            Ok(Typed { tree, sort })
+            Ok(Typed {
+                tree,
+                sort,
+                from,
+                to,
+            })
         }
-        None => Err(Unread::Wrong),
+        None => Err(unfit(from, from, to)),
     }
 }
 
@@ -41,13 +55,31 @@ pub(crate) fn binary(
 ) -> Result<Typed, Unread>
     ensures { Gives said (by_two operator (said one) (said other)) result }
 {
+    let (from, to) = (one.from.max(other.from), one.to.min(other.to));
     match binary_sort(operator, Some(one.sort), Some(other.sort)) {
         Some(sort) => {
             let tree = Tree::Binary(operator, boxed(alloc, one.tree)?, boxed(alloc, other.tree)?);
-            Ok(Typed { tree, sort })
+            Ok(Typed {
+                tree,
+                sort,
+                from,
+                to,
+            })
         }
-        None => Err(Unread::Wrong),
+        None => Err(unfit(from, one.to.max(other.to), to)),
     }
+}
+
+/// The refusal of a value, or of two, by their sorts.
+fn unfit(from: usize, at: usize, to: usize) -> Unread
+    ensures { result ≢ Unread.Memory }
+{
+    Unread::Wrong(Slip {
+        why: Why::Sort,
+        from,
+        at,
+        to,
+    })
 }
 
 /// A tree in a box.
@@ -90,13 +122,15 @@ pub(crate) fn minus(alloc: Global, one: Typed, other: Typed) -> Result<Typed, Un
     }
 }
 
-/// An expression that only begins.
-pub(crate) fn leaf(leaf: Leaf, sort: Sort) -> Typed
+/// An expression that only begins, from where so many tokens are left to where so many are.
+pub(crate) fn leaf(leaf: Leaf, sort: Sort, from: usize, to: usize) -> Typed
     ensures { said result ≡ record { term = terms.Leaf leaf; sort = sort } }
 {
     Typed {
         tree: Tree::Leaf(leaf),
         sort,
+        from,
+        to,
     }
 }
 
@@ -132,23 +166,27 @@ pub(crate) fn joined(alloc: Global, by: Joint, one: Typed, other: Typed) -> Resu
     }
 }
 
-/// What is said of one value, or of two.
+/// What is said of one value, or of two, by a call behind which so many tokens are left.
 pub(crate) fn by_call(
     alloc: Global,
     call: Call,
     one: Typed,
     other: Option<Typed>,
+    to: usize,
 ) -> Result<Typed, Unread>
     ensures { Gives said (by_call call (said one) (said_of other)) result }
 {
+    let from = one.from.saturating_add(2);
+    let one = Typed { from, to, ..one };
     match (call, other) {
         (Call::Of(operator), None) => unary(alloc, operator, one),
         (Call::OfTwo(operator), Some(other)) => binary(alloc, operator, one, other),
         (Call::Majority, Some(group)) => binary(alloc, Binary::Majority, one, group),
         (Call::Majority, None) => {
-            binary(alloc, Binary::Majority, one, leaf(Leaf::All, Sort::Nodes))
+            let all = leaf(Leaf::All, Sort::Nodes, from, to);
+            binary(alloc, Binary::Majority, one, all)
         }
-        (Call::Of(_), Some(_)) | (Call::OfTwo(_), None) => Err(Unread::Wrong),
+        (Call::Of(_), Some(_)) | (Call::OfTwo(_), None) => Err(unfit(from, from, to)),
     }
 }
 
@@ -158,7 +196,7 @@ pub(crate) fn only(alloc: Global, one: Typed) -> Result<Typed, Unread>
 {
     match one.sort {
         Sort::Number => as_set(alloc, one),
-        _ => Err(Unread::Wrong),
+        _ => Err(unfit(one.from, one.from, one.to)),
     }
 }
 
@@ -169,9 +207,9 @@ pub(crate) fn between(alloc: Global, one: Typed, last: Typed) -> Result<Typed, U
     binary(alloc, Binary::Between, one, last)
 }
 
-/// How many nodes there are, which is one past the last node.
-pub(crate) fn how_many() -> Typed
+/// How many nodes there are, which is one past the last node, where so many tokens are left.
+pub(crate) fn how_many(left: usize) -> Typed
     ensures { said result ≡ how_many }
 {
-    leaf(Leaf::Nodes, Sort::Number)
+    leaf(Leaf::Nodes, Sort::Number, left, left)
 }

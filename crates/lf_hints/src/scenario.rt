@@ -39,7 +39,11 @@ pub(crate) fn made_hint(
 }
 
 /// Where a text is no TOML, and why.
-fn toml_hint(alloc: Global, text: &[u8], fault: &toml::de::Error) -> Result<String, AllocError> {
+pub fn toml_hint(
+    alloc: Global,
+    text: &[u8],
+    fault: &toml::de::Error,
+) -> Result<String, AllocError> {
     match fault.span() {
         Some(span) => told(alloc, Some(said_at(text, span.start, fault.message()))),
         None => Err(AllocError),

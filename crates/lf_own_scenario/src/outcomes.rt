@@ -90,7 +90,7 @@ fn told_promise(
     };
     match read_promise(alloc, &place, tokens) {
         Ok(promise) => Ok(promise),
-        Err(PromiseError::Unfit) => Err(ScenarioError::Outcome),
+        Err(PromiseError::Unfit(_)) => Err(ScenarioError::Outcome),
         Err(PromiseError::Memory) => Err(ScenarioError::Memory),
     }
 }

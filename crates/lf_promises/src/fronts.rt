@@ -5,7 +5,7 @@ ghost use Rattle.lf_promises.specs.Fronts.{behind_time, behind_many, behind_at_m
 ghost use Rattle.lf_promises.specs.Readings.{Begins, Finds};
 
 use crate::Many;
-use lf_grammar::{Token, Unread, behind_word};
+use lf_grammar::{Token, Unread, Why, behind_word, wrong};
 use lf_naming::fact_named;
 use lf_rule_machine::Fact;
 use lf_rules::Definition;
@@ -72,7 +72,7 @@ pub(crate) fn read_node(tokens: &[Token]) -> Result<(u32, &[Token]), Unread>
 {
     match tokens.split_first() {
         Some((Token::Number(number), rest)) if *number < 8 => Ok((u32::from(*number), rest)),
-        _ => Err(Unread::Wrong),
+        _ => Err(wrong(Why::Node, tokens.len())),
     }
 }
 
@@ -107,9 +107,9 @@ fn read_named<'t>(
     match tokens.split_first() {
         Some((Token::Word(word), rest)) => match fact_of(definition, word.as_str()) {
             Some(fact) => Ok((fact, rest)),
-            None => Err(Unread::Wrong),
+            None => Err(wrong(Why::Fact, tokens.len())),
         },
-        _ => Err(Unread::Wrong),
+        _ => Err(wrong(Why::Fact, tokens.len())),
     }
 }
 

@@ -9,7 +9,9 @@ ghost use Rattle.lf_promises.specs.Readings.{Reads};
 use crate::fronts::{Time, behind_time};
 use crate::units::read_unit;
 use crate::{Promise, PromiseError};
-use lf_grammar::{Place, Sign, Token, Unread, behind_sign, behind_word, past_sign};
+use lf_grammar::{
+    Place, Sign, Slip, Token, Unread, Why, behind_sign, behind_word, past_sign, wrong,
+};
 use lf_list::Listed;
 use std::alloc::Global;
 
@@ -36,8 +38,8 @@ pub fn read_promise(
 {
     match read_joined(alloc, place, false, Joint::Or, tokens) {
         Ok((promise, [])) => Ok(promise),
-        Ok((_, _)) => Err(PromiseError::Unfit),
-        Err(Unread::Wrong) => Err(PromiseError::Unfit),
+        Ok((_, rest)) => Err(PromiseError::Unfit(Slip::first(Why::Rest, rest.len()))),
+        Err(Unread::Wrong(slip)) => Err(PromiseError::Unfit(slip)),
         Err(Unread::Memory) => Err(PromiseError::Memory),
     }
 }
@@ -124,8 +126,9 @@ fn read_round<'t>(alloc: Global, place: &Place<'_>, timed: bool, tokens: &'t [To
     ensures read { Reads (context_of place.now) timed Round tokens.now result }
     ensures shorter { IfOk result (λ r. length r.1.now ≤ length tokens.now) }
 {
+    let from = tokens.len().saturating_add(1);
     let (promise, rest) = read_joined(alloc, place, timed, Joint::Or, tokens)?;
-    Ok((promise, past_sign(rest, Sign::CloseRound)?))
+    Ok((promise, past_sign(rest, Sign::CloseRound, from)?))
 }
 
 /// Reads the unit behind `always` or `ever`. Neither stands within another.
@@ -141,7 +144,7 @@ fn read_timed<'t>(
     ensures shorter { IfOk result (λ r. length r.1.now ≤ length tokens.now) }
 {
     if timed {
-        return Err(Unread::Wrong);
+        return Err(wrong(Why::Time, tokens.len().saturating_add(1)));
     }
     let (promise, rest) = read_any_unit(alloc, place, true, tokens)?;
     Ok((at_times(alloc, time, promise)?, rest))

@@ -1,6 +1,6 @@
 //! What promises are made of.
 
-ghost use Rattle.std.specs.Prelude.{◌≤◌, length, IfOk};
+ghost use Rattle.std.specs.Prelude.{◌≢◌, ◌≤◌, length, IfOk};
 ghost use Rattle.lf_grammar.specs.Places.{context_of};
 ghost use Rattle.lf_grammar.specs.Readings.{said};
 ghost use Rattle.lf_promises.specs.Units.{first_unit, first_nodes, first_group, set_of, first_down, first_at};
@@ -9,7 +9,7 @@ ghost use Rattle.lf_promises.specs.Readings.{Finds, Gives};
 use crate::fronts::{behind_many, read_fact, read_node};
 use crate::reading::Read;
 use crate::{Many, Promise};
-use lf_grammar::{Place, Token, Typed, Unread, as_set, behind_word, read_sum};
+use lf_grammar::{Place, Slip, Token, Typed, Unread, Why, as_set, behind_word, read_sum, wrong};
 use lf_rules::{Expr, Sort};
 use std::alloc::Global;
 
@@ -66,10 +66,22 @@ fn set_of(value: Typed) -> Result<Expr, Unread>
     match value.sort {
         Sort::Nodes => match Expr::new(value.tree) {
             Some(set) => Ok(set),
-            None => Err(Unread::Wrong),
+            None => Err(no_set(value.from, value.to)),
         },
-        _ => Err(Unread::Wrong),
+        _ => Err(no_set(value.from, value.to)),
     }
+}
+
+/// The refusal of a value that is no set, by how many tokens are left where it begins, and behind it.
+fn no_set(from: usize, to: usize) -> Unread
+    ensures { result ≢ Unread.Memory }
+{
+    Unread::Wrong(Slip {
+        why: Why::Sort,
+        from,
+        at: from,
+        to,
+    })
 }
 
 /// Reads which node isn't to be up.
@@ -94,6 +106,6 @@ fn read_at<'t>(place: &Place<'_>, tokens: &'t [Token]) -> Read<'t>
             let (node, end) = read_node(after)?;
             Ok((Promise::At { node, fact }, end))
         }
-        None => Err(Unread::Wrong),
+        None => Err(wrong(Why::Nodes, tokens.len())),
     }
 }

@@ -102,7 +102,7 @@ fn promise_in(alloc: Global, place: &Place<'_>, tokens: &[Token]) -> Result<Prom
 {
     match read_promise(alloc, place, tokens) {
         Ok(promise) => Ok(promise),
-        Err(PromiseError::Unfit) => Err(Fault::Unfit),
+        Err(PromiseError::Unfit(_)) => Err(Fault::Unfit),
         Err(PromiseError::Memory) => Err(Fault::Memory),
     }
 }

@@ -1,7 +1,9 @@
 //! Parts of rules that can't stand in their rules.
 
 use lf_grammar::Token;
-use lf_hint_places::{Hint, Place, Spot, Told, in_quotes, is_of_word, rule_at, said, text_at};
+use lf_text_hints::{
+    Hint, Place, Spot, Told, head_of, in_quotes, is_of_word, rule_at, said, text_at,
+};
 use lf_texts::{TextError, same_tokens, text_tokens};
 use std::alloc::{AllocError, Global};
 use toml::{Table, Value};
@@ -106,14 +108,6 @@ fn part_text(part: &str, text: &str) -> Hint {
         Hint::of(format_args!("no `{part}`"))
     } else {
         Hint::of(format_args!("{part} = {}", in_quotes(text).as_str()))
-    }
-}
-
-/// What stands before the first bracket of a text.
-fn head_of(text: &str) -> &str {
-    match text.split_once('(') {
-        Some((head, _inside)) => head.trim(),
-        None => text.trim(),
     }
 }
 

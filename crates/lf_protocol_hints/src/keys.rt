@@ -1,6 +1,6 @@
 //! Keys that protocol files or their rules don't have.
 
-use lf_hint_places::{Hint, Place, instead, is_one_of, rule_at};
+use lf_text_hints::{Hint, Place, instead, is_one_of, rule_at};
 use std::alloc::{AllocError, Global};
 use toml::{Table, Value};
 

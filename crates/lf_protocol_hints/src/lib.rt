@@ -1,4 +1,4 @@
-//! What is wrong with a protocol file that is refused, and what one that is read has and looks like a slip, in words for a person.
+//! What is wrong with a protocol file, or a scenario of one, that is refused, and what in one that is read looks like a slip, in words for a person.
 //!
 //! The engine tells a refusal by a fixed line. A hint says of the same file what stands where, and what may stand there:
 //! ``facts.blocked: `prepare`: no such name here; did you mean `prepared`?``. Under that it shows the line of the file, with the word marked.
@@ -7,11 +7,22 @@
 
 mod chains;
 mod counts;
+mod drafts;
+mod given;
+mod idle;
 mod keys;
+mod known;
 mod limits;
+mod names;
 mod nobody;
+mod nodes;
 mod notes;
+mod outcome;
 mod refusals;
+mod replaced;
+mod run;
+mod scenario;
+mod size;
 mod title;
 mod unfit;
 mod used;
@@ -20,3 +31,5 @@ mod warnings;
 
 pub use notes::protocol_notes;
 pub use refusals::protocol_hint;
+pub use run::run_notes;
+pub use scenario::own_hint;

@@ -1,7 +1,6 @@
 //! What passes a limit.
 
-use lf_hint_places::{Hint, Place, Spot, Told, found_at, said, wanted, with_line};
-use lf_text_hints::limit_told;
+use lf_text_hints::{Hint, Place, Spot, Told, found_at, limit_told, said, wanted, with_line};
 use std::alloc::{AllocError, Global};
 use toml::{Table, Value};
 

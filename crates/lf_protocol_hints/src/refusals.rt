@@ -4,8 +4,9 @@ use crate::keys::unknown_hint;
 use crate::limits::limit_hint;
 use crate::title::{place_under, titled};
 use crate::unfit::unfit_hint;
-use lf_hint_places::{Hint, Place, found_at, kind_of, place_of, said, wanted};
+use lf_hints::toml_hint;
 use lf_protocol_file::{LONGEST, ProtocolError};
+use lf_text_hints::{Hint, Place, found_at, kind_of, place_of, said, wanted};
 use std::alloc::{AllocError, Global};
 use toml::{Table, Value};
 
@@ -82,28 +83,4 @@ fn kinds_of(value: &Value) -> Hint {
         }
     }
     Hint::of(format_args!("a list whose first item is {}", kind_of(first)))
-}
-
-/// Where a text is no TOML, and why.
-fn toml_hint(alloc: Global, text: &[u8], fault: &toml::de::Error) -> Result<String, AllocError> {
-    let Some(span) = fault.span() else {
-        return Err(AllocError);
-    };
-    let (line, column) = line_and_column(text, span.start);
-    format!(in alloc; "line {line}, column {column}: {}", fault.message())
-}
-
-/// The line behind the first `offset` bytes and the character in it, both from 1.
-fn line_and_column(text: &[u8], offset: usize) -> (usize, usize) {
-    let mut line: usize = 1;
-    let mut column: usize = 1;
-    for byte in text.iter().take(offset) {
-        if *byte == b'\n' {
-            line = line.saturating_add(1);
-            column = 1;
-        } else if *byte & 0xC0 != 0x80 {
-            column = column.saturating_add(1);
-        }
-    }
-    (line, column)
 }

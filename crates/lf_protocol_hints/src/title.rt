@@ -1,6 +1,6 @@
 //! Places as they are shown to a person.
 
-use lf_hint_places::{Hint, LONGEST_PART, Place, place_of, rule_at, text_at};
+use lf_text_hints::{Hint, LONGEST_PART, Place, place_of, rule_at, text_at};
 use std::fmt::InlineText;
 use toml::Table;
 

@@ -1,12 +1,11 @@
 //! Texts and names that can't stand where they stand.
 
 use crate::chains::misplaced;
-use lf_expression_hints::{Class, Known, first_named};
-use lf_hint_places::{
-    Found, Hint, NAME, Place, Spot, Told, found_at, rule_at, said, said_of, text_at, text_of,
-    wanted, with_line,
+use crate::drafts::{draft_before, heard_in, reading_at};
+use lf_text_hints::{
+    Class, Found, Hint, Known, NAME, Place, Spot, Told, first_named, found_at, names_of, rule_at,
+    said, said_of, text_at, text_of, text_told, wanted, with_line,
 };
-use lf_text_hints::{names_of, text_told};
 use lf_texts::{is_name, is_reserved};
 use std::alloc::{AllocError, Global};
 use toml::{Table, Value};
@@ -101,19 +100,15 @@ fn told_of<'a>(
         },
         _ => "",
     };
+    let draft = draft_before(alloc, table, place, found.key)?;
+    let heard = heard_in(alloc, &draft, on)?;
+    let reading = reading_at(&draft, Spot::of(place), &heard);
     let Value::Array(items) = found.value else {
-        return text_told(
-            alloc,
-            table,
-            place,
-            names,
-            found.key,
-            on,
-            text_of(found.value),
-        );
+        let text = text_of(found.value);
+        return text_told(alloc, place, names, &reading, on, text);
     };
     for item in items.as_slice() {
-        let told = text_told(alloc, table, place, names, found.key, on, text_of(item))?;
+        let told = text_told(alloc, place, names, &reading, on, text_of(item))?;
         if told.is_some() {
             return Ok(told);
         }

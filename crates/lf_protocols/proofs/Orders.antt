@@ -1,8 +1,5 @@
 -- Orders and tests for equality that tell apart what differs, put together from those of the parts.
-use Rattle.std.proofs.Common.{◌≡◌, Bool, true, false, ◌||◌, List, [], ◌∷◌, refl, sym, ap, ◌∙◌, subst, inl, inr}
-use Rattle.std.specs.Prelude.{Option, None, Some, ◌↔◌}
-use Rattle.std.specs.List.{Contains, list_any}
-use Rattle.std.specs.Option.{option_cmp, option_eq}
+use Rattle.std.proofs.Common.{◌≡◌, Bool, true, false, List, [], ◌∷◌, refl, sym, ap, ◌∙◌, inl, inr}
 use Rattle.std.specs.declared.cmp.Ordering.{Ordering}
 use Rattle.std.specs.declared.cmp.Ordering.TheVariants.{Less, Equal, Greater}
 use Rattle.std.specs.Ordering.{ordering_then, bool_cmp, is_eq}
@@ -12,7 +9,6 @@ use denote.Struct.Field.{Field}
 use denote.Enum.Bare.{Bare}
 use denote.Enum.Declared.{Record}
 use denote.Enum.Compared.{Each, by}
-use Rattle.lf_list.proofs.Laws.{none-in, Contains-first, Contains-more, cases_in}
 
 -- one order and then another: both are level
 pub then_Equal : (a b : Ordering) → ordering_then a b ≡ Equal → (a ≡ Equal) × (b ≡ Equal)
@@ -40,12 +36,6 @@ module _ {A : Type 0} (R : A → A → Ordering) (exact : CmpEqualImpliesEq R) w
       let both = then_Equal (R x y) (slice_cmp R xs ys) h in
       let first = exact x y both.0 in let rest = exact_lists xs ys both.1 in
       λ i. first i ∷ rest i
-
-  pub exact_options : CmpEqualImpliesEq (option_cmp R)
-  exact_options None None h = refl
-  exact_options None (Some y) h = cc
-  exact_options (Some x) None h = cc
-  exact_options (Some x) (Some y) h = ap Some (exact x y h)
 
   -- a test that agrees with the order
   pub same_by_order : (x y : A) (test : Bool) → test ≡ is_eq (R x y) → test ≡ true → x ≡ y
@@ -85,37 +75,3 @@ module _ (N : Record) where
 
   pub exact_bare : Bare N.parts → (x y : N.D) → by Less Greater N.parts (level N.parts) (N.as_values x) (N.as_values y) ≡ Equal → x ≡ y
   exact_bare bare = exact_variants (level N.parts) (exact_level N.parts bare)
-
-module _ {A : Type 0} (same : A → A → Bool) (exact : (x y : A) → same x y ≡ true → x ≡ y) where
-  pub same_options : (x y : Option A) → option_eq same x y ≡ true → x ≡ y
-  same_options None None h = refl
-  same_options None (Some y) h = cc
-  same_options (Some x) None h = cc
-  same_options (Some x) (Some y) h = ap Some (exact x y h)
-
-  pub options_itself : ((x : A) → same x x ≡ true) → (x : Option A) → option_eq same x x ≡ true
-  options_itself itself None = refl
-  options_itself itself (Some x) = itself x
-
-  found_at : (a x : A) (xs : List A) (b rest : Bool) → same x a ≡ b → (rest ≡ true → Contains xs a) → (b || rest) ≡ true → Contains (x ∷ xs) a
-  found_at a x xs true rest e later h = subst (λ y. Contains (x ∷ xs) y) (exact x a e) (Contains-first x xs)
-  found_at a x xs false rest e later h = Contains-more x xs a (later h)
-
-  from_any : (a : A) (xs : List A) → list_any (λ x. same x a) xs ≡ true → Contains xs a
-  from_any a [] h = cc
-  from_any a (x ∷ xs) h = found_at a x xs (same x a) (list_any (λ y. same y a) xs) refl (from_any a xs) h
-
-  or-second : (b c : Bool) → c ≡ true → (b || c) ≡ true
-  or-second true c e = refl
-  or-second false c e = e
-
-  to_any : ((x : A) → same x x ≡ true) → (a : A) (xs : List A) → Contains xs a → list_any (λ x. same x a) xs ≡ true
-  to_any itself a [] h = absurd (none-in a h)
-  to_any itself a (x ∷ xs) h = elim (cases_in x xs a h) [
-    | inl first ↦ ap (λ b. b || list_any (λ y. same y a) xs) (ap (λ z. same z a) first ∙ itself a)
-    | inr later ↦ or-second (same x a) (list_any (λ y. same y a) xs) (to_any itself a xs later)
-  ]
-
-  -- a search by the test finds what is in the list
-  pub any_is : ((x : A) → same x x ≡ true) → (a : A) (xs : List A) → (list_any (λ x. same x a) xs ≡ true) ↔ Contains xs a
-  any_is itself a xs = (from_any a xs, to_any itself a xs)

@@ -1,8 +1,11 @@
 //! What rules are on.
 
+use crate::allowed::{NAME, NOTE_NAME};
+use crate::hint::{Words, in_quotes, is_of_word};
 use crate::known::fields_in;
-use lf_expression_hints::{Class, Near, Reader, Stop, behind, first_named, is_number};
-use lf_hint_places::{NAME, NOTE_NAME, Words, in_quotes, is_of_word};
+use crate::named::{Class, first_named};
+use crate::reader::{Reader, is_number};
+use crate::stop::{Near, Stop, behind};
 use lf_texts::{is_name, is_note_name, is_reserved};
 
 /// What a rule may be on that is no note.

@@ -1,7 +1,11 @@
 //! Kinds of values.
 
-use lf_expression_hints::{Class, Near, Reader, Stop, behind, first_named, is_number};
-use lf_hint_places::{NAME, Spot, Words, is_of_word};
+use crate::allowed::NAME;
+use crate::hint::{Words, is_of_word};
+use crate::named::{Class, first_named};
+use crate::reader::{Reader, is_number};
+use crate::spot::Spot;
+use crate::stop::{Near, Stop, behind};
 use lf_texts::{is_name, is_reserved};
 
 /// The kinds that have a name in the language.

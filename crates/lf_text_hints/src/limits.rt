@@ -1,8 +1,10 @@
 //! Limits that all texts have.
 
-use lf_expression_hints::{is_number, pieces_of};
+use crate::hint::{Words, said, said_of};
+use crate::lines::Told;
+use crate::pieces::read_text;
+use crate::reader::is_number;
 use lf_grammar::{MOST_OPEN, MOST_TOKENS, TokenError, read_tokens};
-use lf_hint_places::{Told, Words, said, said_of};
 use std::alloc::{AllocError, Global};
 
 /// Which limit of all texts the text at a place passes: numbers are 0 to 255, and there are only so many tokens, and brackets open at once. None
@@ -28,7 +30,7 @@ pub fn limit_told(alloc: Global, place: &str, text: &str) -> Result<Option<Told>
 
 /// The first number of a text that is too large.
 fn large_told(alloc: Global, place: &str, text: &str) -> Result<Option<Told>, AllocError> {
-    for piece in pieces_of(alloc, text)?.as_slice() {
+    for piece in read_text(alloc, text)?.pieces.as_slice() {
         if is_large(piece.text) {
             return Ok(Some(Told {
                 hint: said_of(place, piece.text, "numbers are 0 to 255"),

@@ -1,12 +1,14 @@
 //! What rules set and send.
 
+use crate::atoms::is_fixed;
+use crate::expressions::{read_number_or_set, read_truth};
+use crate::hint::{Words, in_quotes, is_of_word};
 use crate::known::{fields_in, inside_of};
-use lf_expression_hints::{
-    Class, Near, Reader, Stop, behind, first_named, fixed, instead_of, read_number_or_set,
-    read_truth,
-};
-use lf_hint_places::{Sort, Words, in_quotes, is_of_word};
-use toml::Table;
+use crate::named::{Class, first_named};
+use crate::reader::Reader;
+use crate::slips::instead_of;
+use crate::stop::{Near, Stop, behind};
+use lf_rules::Sort;
 
 /// Reads what a rule sets: variables with values, and commas between.
 pub(crate) fn read_sets(reader: &Reader<'_>) -> Result<(), Stop> {
@@ -48,7 +50,7 @@ fn read_set(reader: &Reader<'_>, at: usize) -> Result<usize, Stop> {
         return Err(nothing(reader, at, "an assignment has to, such as `x = 1`"));
     }
     let sort = match first_named(reader.names, name) {
-        Some(known) if known.class.is_variable() => known.sort,
+        Some(known) if known.class.is_variable() => reader.sort_of(name),
         Some(known) => {
             let words = known.words();
             let words = Words::of(format_args!("{}, and only variables are set", words.as_str()));
@@ -67,8 +69,10 @@ fn read_set(reader: &Reader<'_>, at: usize) -> Result<usize, Stop> {
     }
     let first = reader.past(behind(at), "=")?;
     let value = read_truth(reader, first)?;
-    let why = Words::of(format_args!("`{name}` is {}", kind_words(reader, sort).as_str()));
-    reader.wants(&value, sort, why.as_str())?;
+    if let Some(sort) = sort {
+        let why = Words::of(format_args!("`{name}` is {}", kind_words(reader, sort).as_str()));
+        reader.wants(&value, sort, why.as_str())?;
+    }
     Ok(value.to)
 }
 
@@ -122,21 +126,20 @@ fn is_set_before(reader: &Reader<'_>, at: usize) -> bool {
 }
 
 /// What a variable or a field takes, in words.
-fn kind_words(reader: &Reader<'_>, sort: Sort<'_>) -> Words {
+fn kind_words(reader: &Reader<'_>, sort: Sort) -> Words {
     match sort {
+        Sort::Number => Words::of("a number"),
         Sort::Truth => Words::of("a flag, and takes true, false or a condition"),
-        Sort::Word(variable) => {
-            Words::of(format_args!("{}", reader.words_in(variable).as_str()))
-        }
-        _ => Words::of(sort.words()),
+        Sort::Nodes => Words::of("a set of nodes"),
+        Sort::Word(number) => reader.words_in(reader.variable(number)),
     }
 }
 
 /// Reads what a rule sends: notes with their values and receivers, and commas between.
-pub(crate) fn read_sends(reader: &Reader<'_>, table: &Table) -> Result<(), Stop> {
+pub(crate) fn read_sends(reader: &Reader<'_>) -> Result<(), Stop> {
     let mut at = 0;
     for _ in 0..=reader.pieces.len() {
-        at = read_send(reader, table, at)?;
+        at = read_send(reader, at)?;
         if reader.is_end(at) {
             return Ok(());
         }
@@ -146,7 +149,7 @@ pub(crate) fn read_sends(reader: &Reader<'_>, table: &Table) -> Result<(), Stop>
 }
 
 /// Reads a note with its receivers, and gives the number of the piece behind.
-fn read_send(reader: &Reader<'_>, table: &Table, at: usize) -> Result<usize, Stop> {
+fn read_send(reader: &Reader<'_>, at: usize) -> Result<usize, Stop> {
     if reader.is_end(at) {
         return Err(nothing(
             reader,
@@ -163,7 +166,7 @@ fn read_send(reader: &Reader<'_>, table: &Table, at: usize) -> Result<usize, Sto
         }
         None => return Err(Stop::at(at, Words::of("no note of this name")).near(Near::Notes)),
     };
-    let to = read_values(reader, table, note.of, at)?;
+    let to = read_values(reader, note.of, at)?;
     let piece = reader.piece(to);
     if piece != "to" && !reader.is_end(to) && piece.starts_with(is_of_word) {
         return Err(no_to(reader, to));
@@ -180,7 +183,7 @@ fn read_send(reader: &Reader<'_>, table: &Table, at: usize) -> Result<usize, Sto
 /// That `to` doesn't stand at a piece.
 fn no_to(reader: &Reader<'_>, at: usize) -> Stop {
     let piece = reader.piece(at);
-    if first_named(reader.names, piece).is_some() || fixed(piece).is_some() {
+    if first_named(reader.names, piece).is_some() || is_fixed(piece) {
         return Stop::at(
             at,
             Words::of("`to` has to stand before it, between a note and its receivers"),
@@ -194,7 +197,7 @@ fn no_to(reader: &Reader<'_>, at: usize) -> Stop {
 }
 
 /// Reads the values for the fields of the note at a piece, whose text is given, and gives the number of the piece behind.
-fn read_values(reader: &Reader<'_>, table: &Table, form: &str, at: usize) -> Result<usize, Stop> {
+fn read_values(reader: &Reader<'_>, form: &str, at: usize) -> Result<usize, Stop> {
     let (name, count) = (reader.piece(at), fields_in(form));
     let opened = behind(at);
     if count == 0 {
@@ -217,7 +220,7 @@ fn read_values(reader: &Reader<'_>, table: &Table, form: &str, at: usize) -> Res
     let mut to = behind(opened);
     let mut given: usize = 0;
     for field in inside_of(form).unwrap_or("").split(',') {
-        to = read_value(reader, table, field, to)?;
+        to = read_value(reader, field, reader.field_sort(name, given), to)?;
         given = given.saturating_add(1);
         if reader.piece(to) != "," || given == count {
             break;
@@ -235,13 +238,19 @@ fn read_values(reader: &Reader<'_>, table: &Table, form: &str, at: usize) -> Res
     reader.closed_list(opened, to, ")")
 }
 
-/// Reads the value for a field, and gives the number of the piece behind.
-fn read_value(reader: &Reader<'_>, table: &Table, field: &str, at: usize) -> Result<usize, Stop> {
+/// Reads the value for a field that takes values of this sort, and gives the number of the piece behind.
+fn read_value(
+    reader: &Reader<'_>,
+    field: &str,
+    sort: Option<Sort>,
+    at: usize,
+) -> Result<usize, Stop> {
     let value = read_truth(reader, at)?;
-    let (name, kind) = field.split_once(':').unwrap_or((field, ""));
-    let sort = Sort::of_kind(table, name.trim(), kind);
-    let kind = kind_words(reader, sort);
-    let why = Words::of(format_args!("the field `{}` is {}", name.trim(), kind.as_str()));
-    reader.wants(&value, sort, why.as_str())?;
+    if let Some(sort) = sort {
+        let (name, _kind) = field.split_once(':').unwrap_or((field, ""));
+        let kind = kind_words(reader, sort);
+        let why = Words::of(format_args!("the field `{}` is {}", name.trim(), kind.as_str()));
+        reader.wants(&value, sort, why.as_str())?;
+    }
     Ok(value.to)
 }

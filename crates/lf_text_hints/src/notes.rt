@@ -1,9 +1,12 @@
 //! Forms of notes.
 
+use crate::allowed::NAME;
 use crate::events::note_name;
+use crate::hint::{Words, is_of_word};
 use crate::kinds::read_kind;
-use lf_expression_hints::{Class, Reader, Stop, behind, first_named, is_number};
-use lf_hint_places::{NAME, Words, is_of_word};
+use crate::named::{Class, first_named};
+use crate::reader::{Reader, is_number};
+use crate::stop::{Stop, behind};
 use lf_texts::is_name;
 
 /// Reads a form of notes, the one with this number among those of the file, from 0.

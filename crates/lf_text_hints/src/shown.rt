@@ -1,7 +1,9 @@
 //! What traces show.
 
-use lf_expression_hints::{Near, Reader, Stop, first_named};
-use lf_hint_places::Words;
+use crate::hint::Words;
+use crate::named::first_named;
+use crate::reader::Reader;
+use crate::stop::{Near, Stop};
 
 /// Why a text is no variable that a trace can show.
 pub(crate) fn shown_stop(reader: &Reader<'_>, text: &str) -> Stop {

@@ -1,18 +1,21 @@
 //! What is told of where reading stops.
 
+use crate::atoms::VALUES;
+use crate::calls::CALLS;
 use crate::events::EVENTS;
+use crate::hint::{LONGEST_PART, Words, said, said_of};
 use crate::kinds::KINDS;
-use lf_expression_hints::{
-    CALLS, Class, Near, OPERATORS, Reader, Stop, first_named, fixed, meant_by, unknown_here,
-};
-use lf_hint_places::{LONGEST_PART, Place, Sort, Spot, Told, Words, near_name, said, said_of};
-use lf_outcome_hints::UNITS;
+use crate::lines::Told;
+use crate::named::{Class, Known, first_named};
+use crate::near::near_name;
+use crate::outcomes::UNITS;
+use crate::place::Place;
+use crate::reader::Reader;
+use crate::slips::meant_by;
+use crate::spot::Spot;
+use crate::stop::{Near, Stop};
+use crate::stops::OPERATORS;
 use std::alloc::{AllocError, Global};
-
-/// Values that have a name in the language.
-const VALUES: [&str; 9] = [
-    "t", "me", "sender", "nodes", "all", "true", "false", "clamped", "replaced",
-];
 
 /// What is told of a stop. The error, also below, is that memory has run out.
 pub(crate) fn tell_stop(
@@ -22,6 +25,9 @@ pub(crate) fn tell_stop(
     text: &str,
     stop: &Stop,
 ) -> Result<Told, AllocError> {
+    if stop.is_full {
+        return Err(AllocError);
+    }
     let source = reader.source(stop.from, stop.to);
     let hint = if source.is_empty() {
         said(place.text, stop.words.as_str())
@@ -64,7 +70,7 @@ fn listed(reader: &Reader<'_>, near: Near) -> Words {
     };
     let mut words = Words::of("");
     for known in reader.names {
-        if is_few && may_be(reader.spot, near, known.class) {
+        if is_few && may_be(reader, near, known) {
             let before = if words.as_str().is_empty() {
                 "; there are "
             } else {
@@ -108,15 +114,14 @@ fn of_kind<'a>(
         return Ok(names);
     }
     let left = reader.before(stop.from.saturating_sub(1));
-    let Some(compared) = first_named(reader.names, left) else {
+    if first_named(reader.names, left).is_none() {
         return Ok(names);
-    };
-    for known in reader.names {
-        if known.sort == compared.sort
-            && compared.sort != Sort::Unknown
-            && known.class.is_value(reader.spot)
-        {
-            names.push(known.name)?;
+    }
+    if let Some(compared) = reader.sort_of(left) {
+        for known in reader.names {
+            if reader.sort_of(known.name) == Some(compared) {
+                names.push(known.name)?;
+            }
         }
     }
     Ok(names)
@@ -130,14 +135,14 @@ fn candidates<'a>(
 ) -> Result<Vec<&'a str>, AllocError> {
     let mut names = Vec::new(alloc);
     for known in reader.names {
-        if may_be(reader.spot, near, known.class) {
+        if may_be(reader, near, known) {
             names.push(known.name)?;
         }
     }
     match near {
         Near::Values => {
             for value in VALUES {
-                if fixed(value).is_some() && unknown_here(reader, value).is_none() {
+                if reader.sort_of(value).is_some() {
                     names.push(value)?;
                 }
             }
@@ -163,13 +168,16 @@ fn put<'a>(names: &mut Vec<&'a str>, words: &[&'static str]) -> Result<(), Alloc
     Ok(())
 }
 
-/// Whether a name of a class may be meant.
-fn may_be(spot: Spot, near: Near, class: Class) -> bool {
+/// Whether a name may be meant.
+fn may_be(reader: &Reader<'_>, near: Near, known: &Known<'_>) -> bool {
     match near {
-        Near::Values => class.is_value(spot),
-        Near::Facts => class.is_fact(),
-        Near::Notes | Near::Events => class == Class::Note,
-        Near::Variables | Near::Kinds => class.is_variable(),
+        Near::Values => {
+            let is_word = known.class == Class::Word;
+            reader.sort_of(known.name).is_some() && (!is_word || reader.spot.knows_state())
+        }
+        Near::Facts => known.class.is_fact(),
+        Near::Notes | Near::Events => known.class == Class::Note,
+        Near::Variables | Near::Kinds => known.class.is_variable(),
         _ => false,
     }
 }

@@ -1,47 +1,55 @@
 //! What is wrong with a text.
 
 use crate::events::read_event;
+use crate::expressions::{read_number_or_set, read_truth};
+use crate::hint::Words;
 use crate::kinds::read_state;
 use crate::known::{head_of, inside_of, put_fields};
+use crate::lines::Told;
 use crate::lists::{read_sends, read_sets};
+use crate::named::{Class, Known, first_named};
 use crate::notes::read_form;
+use crate::outcomes::read_outcome;
+use crate::pieces::read_text;
+use crate::place::Place;
+use crate::reader::Reader;
 use crate::shown::shown_stop;
+use crate::spot::Spot;
+use crate::stop::{Near, Stop};
 use crate::telling::tell_stop;
-use lf_expression_hints::{
-    Class, Known, Near, Reader, Stop, first_named, pieces_of, read_number_or_set, read_truth,
-};
-use lf_hint_places::{Place, Sort, Spot, Told, Words};
-use lf_outcome_hints::read_outcome;
+use lf_grammar::Place as Reading;
+use lf_rules::Sort;
 use std::alloc::{AllocError, Global};
-use toml::Table;
 
-/// What is wrong with a text at a place, where that can be told: `key` is the name of the entry that it is of, and `on` what the rule is on that it
-/// is of. The error, also below, is that memory has run out.
+/// What is wrong with a text at a place, where that can be told: `reading` is where it stands among the rules, as far as they are read, and `on` what the
+/// rule is on that it is of. The error, also below, is that memory has run out.
 pub fn text_told<'a>(
     alloc: Global,
-    table: &'a Table,
     place: &Place<'_>,
     names: &[Known<'a>],
-    key: &str,
+    reading: &Reading<'_>,
     on: &'a str,
     text: &'a str,
 ) -> Result<Option<Told>, AllocError> {
     let spot = Spot::of(place);
     let mut known = copy_of(alloc, names)?;
     if spot.is_in_rule() {
-        put_fields(&mut known, table, on)?;
+        put_fields(&mut known, on)?;
     }
-    let pieces = pieces_of(alloc, text)?;
+    let read = read_text(alloc, text)?;
     let reader = Reader {
-        pieces: pieces.as_slice(),
+        alloc,
+        pieces: read.pieces.as_slice(),
+        tokens: read.tokens.as_slice(),
         names: known.as_slice(),
         spot,
+        place: reading,
     };
     let stopped = match spot {
         Spot::On => read_event(&reader),
         Spot::Note => read_form(&reader, number_of(place)),
-        Spot::State => read_state(&reader, key),
-        Spot::Send => read_sends(&reader, table),
+        Spot::State => read_state(&reader, place.entry.unwrap_or("")),
+        Spot::Send => read_sends(&reader),
         Spot::Shown => Err(shown_stop(&reader, text)),
         _ => read_expression(&reader),
     };
@@ -75,34 +83,40 @@ fn without_field(reader: &Reader<'_>, on: &str, stop: Stop) -> Stop {
     stop
 }
 
-/// What is wrong with the text of an outcome, where that can be told, of a protocol with these names.
+/// What is wrong with the text of an outcome at a key of a scenario, where that can be told, of a protocol with these names.
 pub fn outcome_told<'a>(
     alloc: Global,
-    place: &str,
+    key: &str,
     names: &'a [Known<'a>],
+    reading: &'a Reading<'a>,
     text: &'a str,
 ) -> Result<Option<Told>, AllocError> {
     let place = Place {
-        text: place,
+        text: key,
         section: "outcomes",
-        entry: Some(place),
+        entry: Some(key),
         part: None,
     };
-    expression_told(alloc, &place, names, text)
+    expression_told(alloc, &place, names, reading, text)
 }
 
-/// What is wrong with an expression or an outcome at a place, where that can be told and nothing has a name but these.
+/// What is wrong with an expression or an outcome at a place, where that can be told and nothing has a name but these; `reading` is where it stands
+/// among the rules.
 pub fn expression_told<'a>(
     alloc: Global,
     place: &Place<'_>,
     names: &'a [Known<'a>],
+    reading: &'a Reading<'a>,
     text: &'a str,
 ) -> Result<Option<Told>, AllocError> {
-    let pieces = pieces_of(alloc, text)?;
+    let read = read_text(alloc, text)?;
     let reader = Reader {
-        pieces: pieces.as_slice(),
+        alloc,
+        pieces: read.pieces.as_slice(),
+        tokens: read.tokens.as_slice(),
         names,
         spot: Spot::of(place),
+        place: reading,
     };
     match read_expression(&reader) {
         Ok(()) => Ok(None),
@@ -165,36 +179,4 @@ fn read_guard(reader: &Reader<'_>, at: usize) -> Result<usize, Stop> {
         reader.wants(&guard, Sort::Truth, why)?;
     }
     Ok(guard.to)
-}
-
-/// What the text of a let is as a value, as far as it can be read.
-pub(crate) fn sort_of_text<'a>(
-    alloc: Global,
-    names: &[Known<'a>],
-    text: &str,
-) -> Result<Sort<'a>, AllocError> {
-    let pieces = pieces_of(alloc, text)?;
-    let reader = Reader {
-        pieces: pieces.as_slice(),
-        names,
-        spot: Spot::Let,
-    };
-    Ok(match read_truth(&reader, 0) {
-        Ok(part) => named_sort(names, part.sort),
-        Err(_) => Sort::Unknown,
-    })
-}
-
-/// The same sort, with the name of its variable as the names have it.
-fn named_sort<'a>(names: &[Known<'a>], sort: Sort<'_>) -> Sort<'a> {
-    match sort {
-        Sort::Number => Sort::Number,
-        Sort::Truth => Sort::Truth,
-        Sort::Nodes => Sort::Nodes,
-        Sort::Word(variable) => match first_named(names, variable) {
-            Some(known) => known.sort,
-            None => Sort::Unknown,
-        },
-        Sort::Unknown => Sort::Unknown,
-    }
 }

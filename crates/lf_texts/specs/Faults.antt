@@ -16,5 +16,5 @@ of_tokens tokens.Memory = faults.Memory
 
 -- tokens are no expression
 abbrev pub of_reading : Unread → TextError
-of_reading readings.Wrong = faults.Unfit
+of_reading (readings.Wrong slip) = faults.Unfit
 of_reading readings.Memory = faults.Memory

@@ -49,7 +49,7 @@ impl From<Unread> for TextError {
 
     fn from(e: Unread) -> TextError {
         match e {
-            Unread::Wrong => TextError::Unfit,
+            Unread::Wrong(_) => TextError::Unfit,
             Unread::Memory => TextError::Memory,
         }
     }

@@ -44,7 +44,7 @@ pub fn read_value(
 {
     let (found, rest) = first_value(alloc, place, tokens)?;
     ended(rest)?;
-    let Typed { tree, sort } = found;
+    let Typed { tree, sort, .. } = found;
     Ok((expression(tree)?, sort))
 }
 
@@ -102,7 +102,7 @@ fn first_value<'t>(
 {
     match read_truth(alloc, place, tokens) {
         Ok(found) => Ok(found),
-        Err(Unread::Wrong) => Err(TextError::Unfit),
+        Err(Unread::Wrong(_)) => Err(TextError::Unfit),
         Err(Unread::Memory) => Err(TextError::Memory),
     }
 }
@@ -145,7 +145,7 @@ fn first_sum<'t>(
 {
     match read_sum(alloc, place, tokens) {
         Ok(found) => Ok(found),
-        Err(Unread::Wrong) => Err(TextError::Unfit),
+        Err(Unread::Wrong(_)) => Err(TextError::Unfit),
         Err(Unread::Memory) => Err(TextError::Memory),
     }
 }
@@ -156,7 +156,7 @@ fn set(alloc: Global, value: Typed) -> Result<Typed, TextError>
 {
     match as_set(alloc, value) {
         Ok(set) => Ok(set),
-        Err(Unread::Wrong) => Err(TextError::Unfit),
+        Err(Unread::Wrong(_)) => Err(TextError::Unfit),
         Err(Unread::Memory) => Err(TextError::Memory),
     }
 }

@@ -1,6 +1,6 @@
 //! Promises, read and told in a short form as the formulas that they are.
 
-use lf_grammar::{Place, read_tokens};
+use lf_grammar::{Place, Slip, Why, read_tokens};
 use lf_list::Listed;
 use lf_outcome::Formula;
 use lf_own_scenario::{Scene, UnfoldError, unfold};
@@ -104,7 +104,7 @@ fn promise(alloc: Global, source: &str) -> Result<Promise, PromiseError> {
     };
     match read_tokens(alloc, source.as_bytes()) {
         Ok(tokens) => read_promise(alloc, &place, tokens.as_slice()),
-        Err(_) => Err(PromiseError::Unfit),
+        Err(_) => Err(PromiseError::Unfit(Slip::first(Why::Value, 0))),
     }
 }
 

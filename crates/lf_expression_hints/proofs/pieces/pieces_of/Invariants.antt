@@ -1,9 +1,0 @@
-use denote.Text.{Utf8}
-use denote.Shadow.{shadow}
-use Rattle.lf_expression_hints.proofs.pieces.pieces_of.Given as goal
-
-abbrev pub invariant-loop : goal.invariant-loop
-invariant-loop l =
-    (goal.iterator-loop).can_next l.iterator' ×
-    (goal.iterator-loop).is_finite l.iterator' ×
-    shadow (Utf8 l.rest)

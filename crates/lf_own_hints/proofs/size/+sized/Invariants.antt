@@ -1,4 +1,0 @@
-use Rattle.lf_own_hints.proofs.size.+sized.Given as goal
-
-abbrev pub decreases-sized : goal.decreases-sized
-decreases-sized l = l.room

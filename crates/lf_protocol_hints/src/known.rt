@@ -1,0 +1,36 @@
+//! The names of a protocol file that is read, and what each stands for.
+
+use lf_protocol_file::ProtocolFile;
+use lf_rules::Kind;
+use lf_text_hints::{Class, Known};
+use std::alloc::{AllocError, Global};
+
+/// The names of a file that outcomes may use. The error is that memory has run out.
+pub(crate) fn known_in(alloc: Global, file: &ProtocolFile) -> Result<Vec<Known<'_>>, AllocError> {
+    let definition = file.definition();
+    let mut names = Vec::new(alloc);
+    for constant in definition.given.as_slice() {
+        names.push(Known::new(constant.name.as_str(), Class::Constant, ""))?;
+    }
+    for variable in definition.variables.as_slice() {
+        let class = match variable.kind {
+            Kind::Flag => Class::Flag,
+            _ => Class::Variable,
+        };
+        let name = variable.name.as_str();
+        names.push(Known::new(name, class, ""))?;
+        for word in variable.words.as_slice() {
+            names.push(Known::new(word.as_str(), Class::Word, name))?;
+        }
+    }
+    for form in definition.notes.as_slice() {
+        names.push(Known::new(form.name.as_str(), Class::Note, ""))?;
+    }
+    for named in definition.lets.as_slice() {
+        names.push(Known::new(named.name.as_str(), Class::Let, ""))?;
+    }
+    for fact in definition.facts.as_slice() {
+        names.push(Known::new(fact.name.as_str(), Class::Fact, ""))?;
+    }
+    Ok(names)
+}

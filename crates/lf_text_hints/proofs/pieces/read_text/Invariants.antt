@@ -1,0 +1,9 @@
+use denote.Text.{Utf8}
+use denote.Shadow.{shadow}
+use Rattle.lf_text_hints.proofs.pieces.read_text.Given as goal
+
+abbrev pub invariant-loop : goal.invariant-loop
+invariant-loop l =
+    (goal.iterator-loop).can_next l.iterator' ×
+    (goal.iterator-loop).is_finite l.iterator' ×
+    shadow (Utf8 l.rest)

@@ -1,0 +1,91 @@
+//! Names in expressions.
+
+use crate::hint::Words;
+use crate::named::{Class, first_named};
+use crate::reader::Reader;
+use crate::slips::instead_of;
+use crate::stop::{Near, Stop, behind};
+
+/// Values that have a name in the language.
+pub(crate) const VALUES: [&str; 9] = [
+    "t", "me", "sender", "nodes", "all", "true", "false", "clamped", "replaced",
+];
+
+/// Words of the language that are no values.
+const JOINTS: [&str; 7] = ["and", "or", "not", "in", "mod", "to", "else"];
+
+/// Why a word is no value.
+pub(crate) fn no_name(reader: &Reader<'_>, at: usize) -> Stop {
+    let word = reader.piece(at);
+    if let Some(words) = unknown_here(reader, word) {
+        return Stop::at(at, Words::of(words));
+    }
+    match first_named(reader.names, word) {
+        Some(known) => {
+            let words = Words::of(format_args!(
+                "{}, and {}",
+                known.words().as_str(),
+                where_named(known.class)
+            ));
+            Stop::at(at, words)
+        }
+        None if JOINTS.contains(&word) => reader.no_value(at),
+        None => unknown(reader, at),
+    }
+}
+
+/// That a word is no name.
+fn unknown(reader: &Reader<'_>, at: usize) -> Stop {
+    if let Some(words) = instead_of(reader.piece(at)) {
+        return Stop::at(at, Words::of(words));
+    }
+    let stop = Stop::at(at, Words::of("no such name here"));
+    if reader.piece(behind(at)) == "(" {
+        stop.near(Near::Calls)
+    } else {
+        stop.near(Near::Values)
+    }
+}
+
+/// Whether a word of the language is a value.
+pub(crate) fn is_fixed(word: &str) -> bool {
+    VALUES.contains(&word)
+}
+
+/// Why a word of the language that is a value can't stand here. None where it can.
+pub(crate) fn unknown_here(reader: &Reader<'_>, word: &str) -> Option<&'static str> {
+    let spot = reader.spot;
+    match word {
+        "sender" if first_named(reader.names, "sender").is_none() => {
+            Some("who sent the note, which is known in rules on a note alone")
+        }
+        "sender" | "t" if !spot.is_in_rule() => {
+            Some("the number of the step, which is known in `when`, `set` and `send` alone")
+        }
+        "me" | "clamped" | "replaced" if !spot.knows_state() => {
+            Some("known where a node's state is, which is not here")
+        }
+        _ => None,
+    }
+}
+
+/// Where what has a name of such a class may be named.
+fn where_named(class: Class) -> &'static str {
+    match class {
+        Class::Constant => "a text of `given` names no constants",
+        Class::Variable | Class::Flag | Class::Word => {
+            "no node's state is known here: only constants and numbers of nodes are"
+        }
+        Class::Let => "lets are named in rules and facts alone",
+        Class::Fact => "facts are named in rules and outcomes alone, and not in each other",
+        Class::Note => "notes are named in `on` and `send` alone",
+        Class::Field => "fields are named in `when`, `set` and `send` alone",
+    }
+}
+
+/// That no number may be divided by a piece.
+pub(crate) fn no_divisor(at: usize) -> Stop {
+    let words =
+        "behind `mod` stands a number, `nodes`, or a constant that is a number, and none is 0";
+    Stop::at(at, Words::of(words))
+}
