@@ -19,12 +19,11 @@ ROOMS = {
     "lf_scenario": (1, 4.1, "a scenario"),
     "lf_tree": (1, 5.4, "a certificate"),
     "lf_outcome": (2, 3.45, "the type Scenario"),
-    "lf_book, lf_pool": (3, 1, "answer, certificate"),
-    "lf_merged": (3, 2, "answer by states"),
-    "lf_windows, lf_symmetry": (3, 3, "answer over every delay"),
-    "lf_why": (3, 4, "reasons of an answer"),
-    "lf_trace, lf_rendering": (3, 5, "lines, JSON, a picture"),
-    "lf_check": (3, 6, "yes, or no and why"),
+    "lf_book, lf_pool": (3, 1.25, "answer, certificate"),
+    "lf_windows, lf_symmetry": (3, 2.4, "answer by states"),
+    "lf_why": (3, 3.55, "reasons of an answer"),
+    "lf_trace, lf_rendering": (3, 4.7, "lines, JSON, a picture"),
+    "lf_check": (3, 5.85, "yes, or no and why"),
     "leastfault": (4, 3.5, "a reply and a status"),
 }
 

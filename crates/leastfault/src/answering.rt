@@ -21,7 +21,7 @@ use crate::reply::{Reply, Searched, without_tree};
 use crate::{all_report, refusal, report};
 use lf_book::{Book, Ended, solve_watched};
 use lf_faults::{FaultSet, admits};
-use lf_merged::answer_watched;
+use lf_symmetry::answer_watched;
 use lf_outcome::{Scenario, holds};
 use lf_protocol_file::ProtocolFile;
 use lf_scenario::ScenarioError;

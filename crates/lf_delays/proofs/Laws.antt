@@ -9,7 +9,7 @@ use Rattle.std.specs.Prelude.{Option}
 use Rattle.lf_latency.specs.declared.arrivals.Arrivals.{Arrivals}
 use Rattle.lf_latency.specs.declared.links.Links.{Links}
 use Rattle.lf_latency.specs.declared.network.Timing.{Timing}
-use Rattle.lf_latency.specs.Arrivals.{IsArrivals, IsAssignment, IsInWindow, arrival_in, earliest}
+use Rattle.lf_latency.specs.Arrivals.{IsArrivals, IsAssignment, IsInWindow, IsSlot, arrival_in, earliest}
 use Rattle.lf_latency.specs.Links.{IsPair}
 use Rattle.lf_latency.specs.Table.{arrivals_by, table_by}
 use Rattle.lf_list.proofs.Laws.{each-from, each-in}
@@ -21,6 +21,7 @@ use Rattle.lf_delays.specs.Delays.{AreDelays, IsDelay, delayed, named_or}
 use Rattle.lf_delays.specs.Tight.{AreNeeded, IsTight, reaches_by}
 use Rattle.lf_delays.specs.Told.{told}
 use Rattle.lf_delays.proofs.Answering as answering
+use Rattle.lf_delays.proofs.ArrivalLemmas as arrivals
 use Rattle.lf_delays.proofs.Replaying as replaying
 use Rattle.lf_delays.proofs.Sparing as sparing
 use Rattle.lf_delays.proofs.Tables as tables
@@ -30,6 +31,11 @@ pub from_tables : {State Note Fact : Type 0} (timing : Timing) (b : Bounds) (w :
     → (answer : Option (List Parts × Arrivals)) → IsFirstOver b (IsArrivals timing) (misses_by w formula) answer
     → IsFirstUnder timing b w formula answer
 from_tables = answering.from_tables
+
+-- Assignments that are the same at each slot make the same answer to whether a set reaches
+pub slots_reach : {State Note Fact : Type 0} (timing : Timing) (w : World State Note Fact) → IsOn timing w → (a d : ℕ → ℕ → ℕ → ℕ)
+    → ((n m t : ℕ) → IsSlot timing n m t → a n m t ≡ d n m t) → (fs : List Parts) (f : Formula Fact) → reaches (under w a) fs f ≡ reaches (under w d) fs f
+slots_reach = arrivals.slots_reach
 
 -- The told delays are delays of the network, and make the same run again
 pub told_are : {State Note Fact : Type 0} (timing : Timing) (w : World State Note Fact) (faults : List Parts) → IsOn timing w → IsAssignment timing w.arrival

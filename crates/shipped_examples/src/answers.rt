@@ -2,7 +2,7 @@
 
 use lf_book::{Ended, solve};
 use lf_faults::FaultSet;
-use lf_merged::merged_answer;
+use lf_symmetry::merged_answer;
 use lf_outcome::Scenario;
 use lf_plain::first_missing;
 use std::alloc::Global;
