@@ -6,12 +6,12 @@ use crate::disk::Disk;
 use crate::line::Line;
 use crate::report::{Report, Unwritten};
 use crate::stop::Stop;
-use leastfault::{BytesFault, read_protocol};
+use leastfault::{BytesFault, read, read_protocol};
 use leastfault_sweep::{
     Counts, Ended, Study, SweepAsked, SweepExecuted, SweepTexts, SweepUnasked, execute, names_of,
     sweep_asked,
 };
-use lf_hints::search_hint;
+use lf_hints::scenario_hint;
 use lf_protocol_hints::protocol_hint;
 use std::alloc::AllocError;
 use std::thread::Threads;
@@ -83,7 +83,7 @@ fn said(
         }
         Ended::Refused(line) => {
             print(rt, line.as_str())?;
-            hinted(rt, refused(rt, line.as_str(), &done.texts));
+            hinted(rt, refused(rt, &done.texts));
             Ok(())
         }
         Ended::Undated => {
@@ -124,16 +124,18 @@ fn protocol_of(texts: &SweepTexts) -> Option<&[u8]> {
     }
 }
 
-/// What is wrong with a protocol file or a scenario that is refused as a whole, by the line that says so.
-fn refused(rt: &HostRuntime, line: &str, texts: &SweepTexts) -> Result<String, AllocError> {
+/// What is wrong with a protocol file, or else with a scenario, that is refused as a whole.
+fn refused(rt: &HostRuntime, texts: &SweepTexts) -> Result<String, AllocError> {
     let alloc = rt.alloc();
-    if !line.starts_with("refused protocol") {
-        return search_hint(alloc, texts.scenario.as_slice(), line.as_bytes());
+    if let Some(protocol) = protocol_of(texts) {
+        if let Err(error) = read_protocol(alloc, protocol) {
+            return protocol_hint(alloc, protocol, &error);
+        }
     }
-    let protocol = protocol_of(texts).unwrap_or(&[]);
-    match read_protocol(alloc, protocol) {
+    let text = texts.scenario.as_slice();
+    match read(alloc, text) {
         Ok(_) => Ok(String::new(alloc)),
-        Err(error) => protocol_hint(alloc, protocol, &error),
+        Err(error) => scenario_hint(alloc, text, error),
     }
 }
 

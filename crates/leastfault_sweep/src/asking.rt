@@ -70,14 +70,20 @@ fn reply_by(
 {
     match by {
         By::Answer => {
-            let Reply { text, value } = answer_reply(alloc, known, text, &NoWatch)?;
+            let Reply { text, value, .. } = answer_reply(alloc, known, text, &NoWatch)?;
             Ok(Replied {
                 text,
                 status: value,
             })
         }
         By::Search => {
-            let Reply { text, value } = search_reply(alloc, known, Wanted::Answer, text, &NoWatch)?;
+            let Reply { text, value, .. } = search_reply(
+                alloc,
+                known,
+                Wanted::Answer,
+                text,
+                &NoWatch,
+            )?;
             Ok(Replied {
                 text,
                 status: value.status,
