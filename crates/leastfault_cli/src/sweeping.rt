@@ -6,6 +6,7 @@ use crate::disk::Disk;
 use crate::line::Line;
 use crate::report::{Report, Unwritten};
 use crate::stop::Stop;
+use crate::tally::tally_words;
 use leastfault::{BytesFault, read, read_protocol};
 use leastfault_sweep::{
     Counts, Ended, Study, SweepAsked, SweepExecuted, SweepTexts, SweepUnasked, execute, names_of,
@@ -59,7 +60,7 @@ fn done(rt: &HostRuntime, threads: &(impl Threads + Sync), asked: &SweepAsked) -
     let mut report = Report::new(alloc, rt.stdout(), names.as_slice(), asked.json);
     match execute(threads, alloc, asked, &mut disk, &mut report) {
         Ok(done) => {
-            said(rt, asked, names.as_slice(), &done, &report)?;
+            said(rt, asked, names.as_slice(), &done)?;
             Ok(done.ended.status())
         }
         Err(fault) => Err(stopped(rt, fault, disk, &report)),
@@ -72,12 +73,11 @@ fn said(
     asked: &SweepAsked,
     names: &[String],
     done: &SweepExecuted,
-    report: &Report<'_>,
 ) -> Result<(), Stop> {
     match &done.ended {
         Ended::Swept(counts) => {
             if !asked.quiet {
-                counted(rt, asked, names, counts, report, &done.texts);
+                counted(rt, asked, names, counts, done);
             }
             Ok(())
         }
@@ -99,20 +99,20 @@ fn counted(
     asked: &SweepAsked,
     names: &[String],
     counts: &Counts,
-    report: &Report<'_>,
-    texts: &SweepTexts,
+    done: &SweepExecuted,
 ) {
-    hinted(rt, report.tally().words(rt.alloc(), counts, names));
-    let Some(line) = report.tally().first_refused() else {
+    let (alloc, plan) = (rt.alloc(), &asked.plan);
+    hinted(rt, tally_words(alloc, plan, names, counts, &done.marks));
+    let Some(number) = done.marks.refused else {
         return;
     };
     let study = Study {
-        scenario: texts.scenario.as_slice(),
-        plan: &asked.plan,
+        scenario: done.texts.scenario.as_slice(),
+        plan,
     };
     hinted(
         rt,
-        refused_words(rt.alloc(), protocol_of(texts), &study, names, line),
+        refused_words(alloc, protocol_of(&done.texts), &study, names, number),
     );
 }
 
