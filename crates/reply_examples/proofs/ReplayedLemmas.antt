@@ -21,6 +21,7 @@ use Rattle.leastfault.specs.Known.{IsTextOf}
 use Rattle.leastfault.specs.Replays.{EndsInMisses, IsReplayed, set_words}
 use Rattle.leastfault.specs.Reports.{report}
 use Rattle.leastfault.specs.Shown.{RepliesRun}
+use Rattle.reply_examples.specs.Played.{IsNamedBy}
 use Rattle.reply_examples.proofs.LineLemmas.{shown_once}
 
 -- the reply to a scenario is one to each that is the same
@@ -56,7 +57,7 @@ module _ (t s : Scenario) (same : AreSame t s) where
 pub misses_again : (s : Scenario) (text reply faults delays again : List ℕ) (m n : ℕ)
     → ((known : Option Declared) (text reply : List ℕ) → IsTextOf known s text → RepliesEveryDelay s reply 1 → IsReplayed known faults text s reply)
     → IsText s text → IsEveryDelayReply None text reply m → m ≡ 1
-    → ((set : List Parts) × (ds : List Delay) × (reply ≡ report 0 (Some set) ++ arrive_lines ds) × (faults ≡ set_words set) × (delays ≡ list_text ds))
+    → IsNamedBy reply faults delays
     → IsDelayedReply None delays (RepliesRun false faults) text again n → EndsInMisses again n
 misses_again s text reply faults delays again m n law reads (inl refused) one told_so run = absurd (omega (arith, refused.3, one))
 misses_again s text reply faults delays again m n law reads (inr found) one told_so run =
@@ -69,7 +70,7 @@ misses_again s text reply faults delays again m n law reads (inr found) one told
     (subst (λ words. IsDelayedReply None words (RepliesRun false faults) text again n) (told_so.4 ∙ once.1) run)
 
 -- what one text tells another tells that is the same
-pub told_as : (told reply faults delays : List ℕ) → told ≡ reply
-    → ((set : List Parts) × (ds : List Delay) × (told ≡ report 0 (Some set) ++ arrive_lines ds) × (faults ≡ set_words set) × (delays ≡ list_text ds))
-    → ((set : List Parts) × (ds : List Delay) × (reply ≡ report 0 (Some set) ++ arrive_lines ds) × (faults ≡ set_words set) × (delays ≡ list_text ds))
-told_as told reply faults delays same is = (is.0, is.1, sym same ∙ is.2, is.3, is.4)
+pub told_as : (wanted reply faults delays : List ℕ) → wanted ≡ reply
+    → IsNamedBy wanted faults delays
+    → IsNamedBy reply faults delays
+told_as wanted reply faults delays same is = (is.0, is.1, sym same ∙ is.2, is.3, is.4)

@@ -45,7 +45,7 @@ module _ {W : Type 0} (written : W → Option (List ℕ)) (has_failed : W → Bo
       let lines = so.2 in (
         lines.0,
         subst (λ given. IsSweep given asked.by text asked.plan.varied.items asked.part lines.0 counts) none
-        (subst (λ t. IsSweep (given_of x.texts) asked.by t asked.plan.varied.items asked.part lines.0 counts) same lines.1),
+            (subst (λ t. IsSweep (given_of x.texts) asked.by t asked.plan.varied.items asked.part lines.0 counts) same lines.1),
         lines.2,
       )
 

@@ -1,5 +1,5 @@
 -- Sweeps without floats.
-use Rattle.std.specs.Prelude.{◌≡◌, ⊤, ℕ, true, List, [], ◌∷◌, codes}
+use Rattle.std.specs.Prelude.{◌≡◌, ⊤, ℕ, true, List, [], ◌∷◌, ◌++◌, codes}
 use Rattle.toml.specs.Parse.{parse_value}
 use Rattle.lf_sweep.specs.declared.varied.Varied.{Varied}
 use Rattle.lf_sweep.specs.Exact.{has_no_floats}
@@ -26,4 +26,5 @@ AreExact (v ∷ vs) = IsExact v × AreExact vs
 -- a scenario in which none stands
 abbrev pub scenario_text : List ℕ
 scenario_text =
-    codes "nodes = 3\nhorizon = 5\nlast_omission = 0\ncrashes = 1\nbudget = 1\nprotocol = \"two_phase\"\npatience = 3\nvotes = [true, true]\noutcome = \"unblocked\"\n"
+    codes "nodes = 3\nhorizon = 5\nlast_omission = 0\ncrashes = 1\nbudget = 1\n"
+    ++ codes "protocol = \"two_phase\"\npatience = 3\nvotes = [true, true]\noutcome = \"unblocked\"\n"

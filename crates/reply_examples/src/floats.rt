@@ -46,7 +46,10 @@ fn is_plain(alloc: Global, word: &str) -> bool
     ensures { IsTrue result → IsPlain word.now }
 {
     match Value::from_str(alloc, word) {
-        Ok(value) => matches!(value, Value::String(_) | Value::Integer(_) | Value::Boolean(_)),
+        Ok(value) => matches!(
+            value,
+            Value::String(_) | Value::Integer(_) | Value::Boolean(_)
+        ),
         Err(error) => !error.is_memory(),
     }
 }

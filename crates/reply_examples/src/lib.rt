@@ -22,19 +22,11 @@ mod files;
 #[cfg(test)]
 mod floats;
 #[cfg(test)]
-mod floats;
-#[cfg(test)]
-mod floats;
-#[cfg(test)]
 mod hints;
 #[cfg(test)]
 mod plain;
 #[cfg(test)]
 mod reading;
-#[cfg(test)]
-mod reply_laws;
-#[cfg(test)]
-mod reply_laws;
 #[cfg(test)]
 mod reply_laws;
 #[cfg(test)]

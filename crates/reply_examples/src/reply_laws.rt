@@ -1,16 +1,13 @@
 //! The laws of replies, at what is asked of a text on standard input: each call cites a law, and no premise of it is left.
 
-ghost use Rattle.std.specs.Prelude.{◌≡◌, ◌≢◌, ◌++◌, List, None, Some, false, codes, option_map, IfOk, IfSome, IsTrue, string_bytes};
-ghost use Rattle.lf_delays.specs.declared.delay.Delay.{Delay};
-ghost use Rattle.lf_delays.specs.Delays.{arrive_lines, list_text};
-ghost use Rattle.lf_faults.specs.declared.fault.Parts.{Parts};
+ghost use Rattle.std.specs.Prelude.{◌≡◌, ◌≢◌, None, Some, false, codes, IfOk, IfSome, IsTrue, string_bytes};
 ghost use Rattle.lf_words.specs.declared.types.Shown.{Shown};
 ghost use Rattle.lf_words.specs.Words.{file_of, protocol_file};
 ghost use Rattle.leastfault.specs.Commands.{IsDoneFor, tree_file};
 ghost use Rattle.leastfault.specs.Delayed.{IsEveryDelayReply};
-ghost use Rattle.leastfault.specs.Replays.{AgreeButForDelays, EndsInMisses, set_words};
-ghost use Rattle.leastfault.specs.Reports.{report};
+ghost use Rattle.leastfault.specs.Replays.{AgreeButForDelays, EndsInMisses};
 ghost use Rattle.leastfault.specs.Shown.{IsShownReply};
+ghost use Rattle.reply_examples.specs.Played.{IsNamedBy};
 
 use crate::texts::{agrees, columns};
 use leastfault::{
@@ -173,8 +170,7 @@ fn played_again(
     faults: &str,
     delays: &str,
 ) -> Result<Option<Reply<Certified>>, BytesFault>
-    requires { (set : List Parts) × (ds : List Delay) × (told.now ≡ report 0 (Some set) ++ arrive_lines ds)
-        × (faults.now ≡ set_words set) × (delays.now ≡ list_text ds) }
+    requires { IsNamedBy told.now faults.now delays.now }
     ensures { IfOk result (λ again. IfSome again (λ reply. EndsInMisses (string_bytes reply.text) reply.value.status)) }
 {
     let Ok(scenario) = leastfault::read(alloc, text) else {
@@ -269,17 +265,21 @@ fn runs_agree_however_they_are_told(rt: HostRuntime) {
     }
 }
 
-#[test]
-fn answers_over_every_delay_are_played_again(rt: HostRuntime) {
-    let again = played_again(
-        &rt,
-        rt.alloc(),
-        LATE.as_bytes(),
+/// That scenario's answer over every delay as it is told, and the words that name its faults and its late notes.
+fn late_words() -> (&'static str, &'static str, &'static str)
+    ensures { IsNamedBy result.0.now result.1.now result.2.now }
+{
+    (
         "least 1\nomit 0>1 @1\narrive 0>2 @1 3\narrive 2>1 @3 7\n",
         "omit 0>1 @1",
         "0>2 @1 3,2>1 @3 7",
-    );
-    let misses = match again {
+    )
+}
+
+#[test]
+fn answers_over_every_delay_are_played_again(rt: HostRuntime) {
+    let (told, faults, delays) = late_words();
+    let misses = match played_again(&rt, rt.alloc(), LATE.as_bytes(), told, faults, delays) {
         Ok(Some(reply)) => reply.value.status == 1,
         _ => false,
     };

@@ -22,7 +22,7 @@ returns-clause-lines g c =
     (λ n m x y. (
       x.0,
       x.2,
-      subst (λ l. Appends (g.W.Sink.written c.args.other.now) (g.W.Sink.written c.swept-second.new.writer) l)
-      (sym (c.sweeps_are_one.ensures None a.by text vs a.part x.0 y.0 n m (none_stands text vs c.requires.text c.requires.exact) x.1 y.1).0) y.2,
+      subst (λ l. Appends (g.W.Sink.written c.args.other.now) (g.W.Sink.written c.swept-2.new.writer) l)
+          (sym (c.sweeps_are_one.ensures None a.by text vs a.part x.0 y.0 n m (none_stands text vs c.requires.text c.requires.exact) x.1 y.1).0) y.2,
     ))
     c.in_ok-first.ensures c.in_ok-second.ensures c.both.ensures
