@@ -18,6 +18,7 @@ ghost use Rattle.leastfault.specs.Reports.{full_line, no_set_line, refusal, run_
 use crate::known::read_known;
 use crate::replies::full_line;
 use crate::reply::{Reply, Searched, without_tree};
+use crate::said::Said;
 use crate::{all_report, refusal, report};
 use lf_book::{Book, Ended, solve_watched};
 use lf_faults::{FaultSet, admits};
@@ -54,7 +55,7 @@ pub fn search_reply<V: Watch>(
         Ok(scenario) => searched(alloc, wanted, Arc::new(alloc, scenario)?, watch),
         Err(error) => {
             let refusal = refused(alloc, error)?;
-            Ok(without_tree(refusal.text, refusal.value))
+            Ok(without_tree(refusal.text, refusal.value, refusal.said))
         }
     }
 }
@@ -68,11 +69,12 @@ pub(crate) fn searched<V: Watch>(
 ) -> Result<Reply<Searched>, AllocError>
     ensures { IfOk result (IsFoundFor wanted (arc_value scenario)) }
 {
+    let most = scenario.max_sets();
     match solve_watched(alloc, scenario, watch)? {
         Ended::Finished(book) => finished(alloc, wanted, book),
         Ended::Full { level, count } => {
-            let told = full(alloc, level, count)?;
-            Ok(without_tree(told.text, told.value))
+            let told = full(alloc, level, count, most)?;
+            Ok(without_tree(told.text, told.value, told.said))
         }
     }
 }
@@ -83,7 +85,7 @@ fn finished(alloc: Global, wanted: Wanted, book: Book) -> Result<Reply<Searched>
     requires never_full { IsNeverFull (scenario_of book) }
     ensures { IfOk result (IsFoundFor wanted (scenario_of book)) }
 {
-    let Reply { text, value } = reported(alloc, wanted, &book)?;
+    let Reply { text, value, said } = reported(alloc, wanted, &book)?;
     let made = book.into_tree();
     let Ok(tree) = made else { unreachable!() };
     Ok(Reply {
@@ -92,6 +94,7 @@ fn finished(alloc: Global, wanted: Wanted, book: Book) -> Result<Reply<Searched>
             status: value,
             tree: Some(tree),
         },
+        said,
     })
 }
 
@@ -118,6 +121,7 @@ fn answer_reported(alloc: Global, book: &Book) -> Result<Reply<u8>, AllocError>
     Ok(Reply {
         text: report(alloc, budget, &answer)?,
         value: search_status(&answer),
+        said: Said::Answer(answer),
     })
 }
 
@@ -134,6 +138,7 @@ fn all_reported(alloc: Global, book: &Book) -> Result<Reply<u8>, AllocError>
     Ok(Reply {
         text,
         value: status,
+        said: Said::AllLeast(sets),
     })
 }
 
@@ -181,16 +186,23 @@ fn answered<V: Watch>(
     Ok(Reply {
         text: report(alloc, scenario.setting().spec.budget(), &answer)?,
         value: search_status(&answer),
+        said: Said::Answer(answer),
     })
 }
 
-/// The reply where a level is too full.
-pub(crate) fn full(alloc: Global, level: u32, count: u64) -> Result<Reply<u8>, AllocError>
+/// The reply where a level is too full for a search that keeps at most `most` sets.
+pub(crate) fn full(
+    alloc: Global,
+    level: u32,
+    count: u64,
+    most: u32,
+) -> Result<Reply<u8>, AllocError>
     ensures { IfOk result (λ reply. (string_bytes reply.text ≡ full_line level count) × (reply.value ≡ 2)) }
 {
     Ok(Reply {
         text: full_line(alloc, level, count)?,
         value: 2,
+        said: Said::Full { level, count, most },
     })
 }
 
@@ -241,6 +253,7 @@ pub(crate) fn traced(
     Ok(Reply {
         text: trace(alloc, setting, formula, &played)?,
         value: run_status(holds(setting, formula, &played)),
+        said: Said::Run,
     })
 }
 
@@ -250,7 +263,11 @@ pub(crate) fn no_set(alloc: Global) -> Result<Reply<u8>, AllocError>
 {
     let mut text = String::new(alloc);
     text.push_str("refused faults\n")?;
-    Ok(Reply { text, value: 2 })
+    Ok(Reply {
+        text,
+        value: 2,
+        said: Said::NoFaults,
+    })
 }
 
 /// The reply to a text that is refused. The error is that memory has run out, here or in the reading.
@@ -264,6 +281,7 @@ pub(crate) fn refused(alloc: Global, error: ScenarioError) -> Result<Reply<u8>, 
     Ok(Reply {
         text: refusal(alloc, error)?,
         value: 2,
+        said: Said::NoScenario(error),
     })
 }
 

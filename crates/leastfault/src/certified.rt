@@ -10,6 +10,7 @@ use crate::answering::{Wanted, search_reply};
 use crate::checking::tree_refused;
 use crate::fault::BytesFault;
 use crate::reply::{Certified, Reply, Searched, without_certificate};
+use crate::said::Said;
 use crate::workers::shared_reply;
 use lf_protocol_file::ProtocolFile;
 use lf_tree::{Tree, to_text, types_are_kept};
@@ -67,11 +68,11 @@ fn certified(
 ) -> Result<Reply<Certified>, BytesFault>
     ensures { Remakes GetsCertified made result }
 {
-    let Reply { text, value } = made?;
+    let Reply { text, value, said } = made?;
     let Searched { status, tree } = value;
     match tree {
-        Some(tree) => Ok(written(alloc, text, status, &tree)?),
-        None => Ok(without_certificate(text, status)),
+        Some(tree) => Ok(written(alloc, text, status, said, &tree)?),
+        None => Ok(without_certificate(text, status, said)),
     }
 }
 
@@ -80,6 +81,7 @@ fn written(
     alloc: Global,
     text: String,
     status: u8,
+    said: Said,
     tree: &Tree,
 ) -> Result<Reply<Certified>, AllocError>
     ensures { IfOk result (IsWritten (string_bytes text) status tree.now) }
@@ -92,10 +94,11 @@ fn written(
                 status,
                 certificate: Some(certificate),
             },
+            said,
         }),
         Err(fault) => {
             let refusal = tree_refused(alloc, fault)?;
-            Ok(without_certificate(refusal.text, refusal.value))
+            Ok(without_certificate(refusal.text, refusal.value, refusal.said))
         }
     }
 }

@@ -15,6 +15,7 @@ use crate::fault::BytesFault;
 use crate::known::read_known;
 use crate::replies::{judgement, tree_refusal};
 use crate::reply::Reply;
+use crate::said::Said;
 use lf_check::{Verdict, check, check_rows_watched};
 use lf_outcome::Scenario;
 use lf_protocol_file::ProtocolFile;
@@ -76,7 +77,7 @@ pub(crate) fn judged_alone(
         Given::Refused(reply) => Ok(reply),
         Given::Both { scenario, tree } => {
             let verdict = check(alloc, &scenario, &tree)?;
-            Ok(judged(alloc, &verdict)?)
+            Ok(judged(alloc, verdict, scenario, tree)?)
         }
     }
 }
@@ -105,7 +106,7 @@ fn replied_in_rows<T: Threads + Sync, V: Watch>(
         Given::Refused(reply) => Ok(reply),
         Given::Both { scenario, tree } => {
             let verdict = check_rows_watched(rt, alloc, &scenario, &tree, watch)?;
-            Ok(judged(alloc, &verdict)?)
+            Ok(judged(alloc, verdict, scenario, tree)?)
         }
     }
 }
@@ -125,14 +126,24 @@ pub(crate) fn check_reply<T: Threads + Sync, V: Watch>(
     replied_in_rows(rt, alloc, given, watch)
 }
 
-/// The reply that tells a verdict.
-fn judged(alloc: Global, verdict: &Verdict) -> Result<Reply<u8>, AllocError>
+/// The reply that tells a verdict on a tree for a scenario.
+fn judged(
+    alloc: Global,
+    verdict: Verdict,
+    scenario: Scenario,
+    tree: Tree,
+) -> Result<Reply<u8>, AllocError>
     ensures { IfOk result (λ reply.
-        (string_bytes reply.text ≡ judgement verdict.now) × (reply.value ≡ check_status verdict.now)) }
+        (string_bytes reply.text ≡ judgement verdict) × (reply.value ≡ check_status verdict)) }
 {
     Ok(Reply {
-        text: judgement(alloc, verdict)?,
-        value: check_status(verdict),
+        text: judgement(alloc, &verdict)?,
+        value: check_status(&verdict),
+        said: Said::Judged {
+            verdict,
+            scenario,
+            tree,
+        },
     })
 }
 
@@ -147,6 +158,7 @@ pub(crate) fn tree_refused(alloc: Global, fault: TreeFault) -> Result<Reply<u8>,
     Ok(Reply {
         text: tree_refusal(alloc, fault)?,
         value: 2,
+        said: Said::NoTree(fault),
     })
 }
 

@@ -31,7 +31,7 @@ use std::thread::Threads;
 const _: () = prove!(lf_words::MOST_WORKERS == lf_pool::MOST_WORKERS);
 
 /// What a command came to, once it is written, and the texts that it read.
-#[derive(Debug, Drop)]
+#[derive(Drop)]
 pub struct Executed {
     /// The reply and its status, and the certificate where one was to be written and there is an answer.
     pub reply: Reply<Certified>,
@@ -85,7 +85,7 @@ fn reply_to<T: Threads + Wait + Clock + Sync, V: Watch>(
         None => reply_knowing(rt, alloc, None, asked, texts, watch),
         Some(protocol) => match read_protocol(alloc, protocol.as_slice()) {
             Ok(file) => reply_knowing(rt, alloc, Some(&file), asked, texts, watch),
-            Err(error) => Ok(alone(protocol_refused(alloc, &error)?)),
+            Err(error) => Ok(alone(protocol_refused(alloc, error)?)),
         },
     }
 }
@@ -171,13 +171,13 @@ fn wanted_of(all: bool) -> Wanted
 fn alone(reply: Reply<u8>) -> Reply<Certified>
     ensures { IsAlone (λ status. status) reply result }
 {
-    without_certificate(reply.text, reply.value)
+    without_certificate(reply.text, reply.value, reply.said)
 }
 
 /// What a search made, without its tree.
 fn uncertified(made: Result<Reply<Searched>, BytesFault>) -> Result<Reply<Certified>, BytesFault>
     ensures { Remakes (IsAlone (λ searched. searched.status)) made result }
 {
-    let Reply { text, value } = made?;
-    Ok(without_certificate(text, value.status))
+    let Reply { text, value, said } = made?;
+    Ok(without_certificate(text, value.status, said))
 }

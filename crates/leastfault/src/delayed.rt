@@ -11,6 +11,7 @@ use crate::answering::{answer_reply, refused};
 use crate::known::read_known;
 use crate::reply::Reply;
 use crate::report;
+use crate::said::Said;
 use lf_delays::{push_delays, read_delays, tight_arrivals, told_delays};
 use lf_faults::FaultSet;
 use lf_latency::Arrivals;
@@ -57,7 +58,11 @@ fn no_delays(alloc: Global) -> Result<Reply<u8>, AllocError>
 {
     let mut text = String::new(alloc);
     text.push_str("refused delays\n")?;
-    Ok(Reply { text, value: 2 })
+    Ok(Reply {
+        text,
+        value: 2,
+        said: Said::NoDelays,
+    })
 }
 
 /// The reply that tells the answer to a scenario's text, by its seed or over every delay.
@@ -108,6 +113,7 @@ fn over_every_delay<V: Watch>(
         None => Ok(Reply {
             text: report(alloc, scenario.setting().spec.budget(), &None)?,
             value: 0,
+            said: Said::Answer(None),
         }),
     }
 }
@@ -143,5 +149,9 @@ fn late_reply(
     let delays = told_delays(alloc, setting, &played)?;
     let mut text = report(alloc, setting.spec.budget(), &Some(*set))?;
     push_delays(&mut text, delays.as_slice())?;
-    Ok(Reply { text, value: 1 })
+    Ok(Reply {
+        text,
+        value: 1,
+        said: Said::Late { set: *set, delays },
+    })
 }

@@ -5,6 +5,7 @@ ghost use Rattle.lf_trace.specs.Lines.{line};
 ghost use Rattle.leastfault.specs.Protocols.{IsProtocolReply, place_words, protocol_refusal};
 
 use crate::reply::Reply;
+use crate::said::Said;
 use lf_protocol_file::{Path, ProtocolError, read_protocol};
 use std::alloc::{AllocError, Global};
 
@@ -13,28 +14,27 @@ pub(crate) fn protocol_reply(alloc: Global, text: &[u8]) -> Result<Reply<u8>, Al
     ensures { IfOk result (λ reply. IsProtocolReply text.now (string_bytes reply.text) reply.value) }
 {
     match read_protocol(alloc, text) {
-        Ok(_) => Ok(Reply {
+        Ok(file) => Ok(Reply {
             text: String::from_str(alloc, "ok\n")?,
             value: 0,
+            said: Said::File(file),
         }),
-        Err(error) => protocol_refused(alloc, &error),
+        Err(error) => protocol_refused(alloc, error),
     }
 }
 
 /// The reply to a text that is refused. The error is that memory has run out, here or in the reading.
-pub(crate) fn protocol_refused(
-    alloc: Global,
-    error: &ProtocolError,
-) -> Result<Reply<u8>, AllocError>
-    ensures { IfOk result (λ reply. (error.now ≢ ProtocolError.Memory)
-        × (string_bytes reply.text ≡ protocol_refusal error.now) × (reply.value ≡ 2)) }
+pub(crate) fn protocol_refused(alloc: Global, error: ProtocolError) -> Result<Reply<u8>, AllocError>
+    ensures { IfOk result (λ reply. (error ≢ ProtocolError.Memory)
+        × (string_bytes reply.text ≡ protocol_refusal error) × (reply.value ≡ 2)) }
 {
     if matches!(error, ProtocolError::Memory) {
         return Err(AllocError);
     }
     Ok(Reply {
-        text: protocol_refusal(alloc, error)?,
+        text: protocol_refusal(alloc, &error)?,
         value: 2,
+        said: Said::NoFile(error),
     })
 }
 

@@ -2,15 +2,18 @@
 
 ghost use Rattle.std.specs.Prelude.{◌≡◌, None};
 
+use crate::said::Said;
 use lf_tree::Tree;
 
 /// A reply, before it is written, and what its engine answers with it.
-#[derive(Debug, Drop)]
+#[derive(Drop)]
 pub struct Reply<X> {
     /// The whole reply: lines, each with its line feed.
     pub text: String,
     /// What the engine answers.
     pub value: X,
+    /// What the lines were made of.
+    pub said: Said,
 }
 
 /// What a search came to, once its reply is written.
@@ -33,7 +36,7 @@ pub struct Certified {
 }
 
 /// A reply that hands out no tree.
-pub(crate) fn without_tree(text: String, status: u8) -> Reply<Searched>
+pub(crate) fn without_tree(text: String, status: u8, said: Said) -> Reply<Searched>
     ensures text { result.text ≡ text }
     ensures status { result.value.status ≡ status }
     ensures tree { result.value.tree ≡ None }
@@ -41,11 +44,12 @@ pub(crate) fn without_tree(text: String, status: u8) -> Reply<Searched>
     Reply {
         text,
         value: Searched { status, tree: None },
+        said,
     }
 }
 
 /// A reply with no certificate.
-pub(crate) fn without_certificate(text: String, status: u8) -> Reply<Certified>
+pub(crate) fn without_certificate(text: String, status: u8, said: Said) -> Reply<Certified>
     ensures text { result.text ≡ text }
     ensures status { result.value.status ≡ status }
     ensures certificate { result.value.certificate ≡ None }
@@ -56,5 +60,6 @@ pub(crate) fn without_certificate(text: String, status: u8) -> Reply<Certified>
             status,
             certificate: None,
         },
+        said,
     }
 }

@@ -10,6 +10,7 @@ ghost use Rattle.leastfault.specs.Shown.{RepliesRun};
 
 use crate::answering::{allowed_set, no_set, refused, run_status, traced as traced_alone};
 use crate::reply::Reply;
+use crate::said::Said;
 use lf_faults::FaultSet;
 use lf_outcome::{Scenario, holds};
 use lf_own_scenario::read_with;
@@ -80,5 +81,6 @@ fn traced(alloc: Global, scenario: &Scenario, set: &FaultSet) -> Result<Reply<u8
     Ok(Reply {
         text: trace_with_rules(alloc, setting, formula, &played)?,
         value: run_status(holds(setting, formula, &played)),
+        said: Said::Run,
     })
 }

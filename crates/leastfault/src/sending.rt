@@ -15,7 +15,7 @@ pub(crate) fn send<X: Drop, W: Sink>(
     requires { W.has_failed writer.old ≡ false }
     ensures { WasSent W.written W.has_failed made writer.old writer.new result }
 {
-    let Reply { text, value } = made?;
+    let Reply { text, value, .. } = made?;
     match write_all(writer, text.as_bytes()) {
         Ok(()) => Ok(value),
         Err(_) => Err(BytesFault::Write),

@@ -18,6 +18,7 @@ use crate::delayed::read_given;
 use crate::known::read_known;
 use crate::reply::Reply;
 use crate::ruled::{rules_reply, run_of};
+use crate::said::Said;
 use lf_faults::FaultSet;
 use lf_outcome::{Scenario, holds};
 use lf_protocol_file::ProtocolFile;
@@ -239,6 +240,7 @@ fn changed(alloc: Global, scenario: &Scenario, set: &FaultSet) -> Result<Reply<u
     Ok(Reply {
         text: changes(alloc, setting, formula, &played)?,
         value: run_status(holds(setting, formula, &played)),
+        said: Said::Run,
     })
 }
 
@@ -252,6 +254,7 @@ fn written(alloc: Global, scenario: &Scenario, set: &FaultSet) -> Result<Reply<u
     Ok(Reply {
         text: json_trace(alloc, setting, formula, &played)?,
         value: run_status(holds(setting, formula, &played)),
+        said: Said::Run,
     })
 }
 
@@ -265,6 +268,7 @@ fn drawn(alloc: Global, scenario: &Scenario, set: &FaultSet) -> Result<Reply<u8>
     Ok(Reply {
         text: picture(alloc, setting, formula, &played)?,
         value: run_status(holds(setting, formula, &played)),
+        said: Said::Run,
     })
 }
 
@@ -333,5 +337,6 @@ fn beside_of(
     Ok(Reply {
         text: beside(alloc, setting, formula, &played, &besides)?,
         value: run_status(holds(setting, formula, &played)),
+        said: Said::Run,
     })
 }

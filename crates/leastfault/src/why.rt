@@ -8,6 +8,7 @@ ghost use Rattle.leastfault.specs.Why.{HasReasons, IsWhyReply, RepliesWhy};
 use crate::answering::{Wanted, refused, searched};
 use crate::known::read_known;
 use crate::reply::{Reply, Searched};
+use crate::said::Said;
 use lf_outcome::Scenario;
 use lf_protocol_file::ProtocolFile;
 use lf_tree::Tree;
@@ -41,13 +42,14 @@ fn explained<V: Watch>(
 {
     let scenario = Arc::new(alloc, scenario)?;
     let shared = Arc::try_clone(&scenario)?;
-    let Reply { text, value } = searched(alloc, Wanted::Answer, shared, watch)?;
+    let Reply { text, value, said } = searched(alloc, Wanted::Answer, shared, watch)?;
     let Searched { status, tree } = value;
     match tree {
-        Some(tree) => with_reasons(alloc, &scenario, text, status, &tree),
+        Some(tree) => with_reasons(alloc, &scenario, text, status, said, &tree),
         None => Ok(Reply {
             text,
             value: status,
+            said,
         }),
     }
 }
@@ -58,6 +60,7 @@ fn with_reasons(
     scenario: &Scenario,
     text: String,
     status: u8,
+    said: Said,
     tree: &Tree,
 ) -> Result<Reply<u8>, AllocError>
     requires { IsTreeFor scenario.now tree.now }
@@ -69,5 +72,6 @@ fn with_reasons(
     Ok(Reply {
         text,
         value: status,
+        said,
     })
 }

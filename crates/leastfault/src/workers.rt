@@ -12,6 +12,7 @@ use crate::fault::BytesFault;
 use crate::known::read_known;
 use crate::laws::limits_are_kept;
 use crate::reply::{Reply, Searched, without_tree};
+use crate::said::Said;
 use crate::telling::Told;
 use crate::{all_report, report};
 use lf_book::Book;
@@ -42,7 +43,7 @@ pub(crate) fn shared_reply<R: Threads + Wait + Clock + Sync, V: Watch>(
         Ok(scenario) => searched(rt, alloc, wanted, workers, scenario, watch),
         Err(error) => {
             let refusal = refused(alloc, error)?;
-            Ok(without_tree(refusal.text, refusal.value))
+            Ok(without_tree(refusal.text, refusal.value, refusal.said))
         }
     }
 }
@@ -103,7 +104,7 @@ fn listed<R: Threads + Wait + Clock + Sync, V: Watch>(
                 tree,
                 runs: _,
             },
-        ) => Ok(all_found(alloc, scenario, sets.as_slice(), tree)?),
+        ) => Ok(all_found(alloc, scenario, sets, tree)?),
         Ok(SolvedAll::Full(book)) => Ok(full_found(alloc, scenario, &book)?),
         Err(error) => Err(fault_of(&error)),
     }
@@ -126,6 +127,7 @@ fn answer_found(
             status: search_status(set),
             tree: Some(tree),
         },
+        said: Said::Answer(*set),
     })
 }
 
@@ -133,19 +135,20 @@ fn answer_found(
 fn all_found(
     alloc: Global,
     scenario: &Scenario,
-    sets: &[FaultSet],
+    sets: Vec<FaultSet>,
     tree: Tree,
 ) -> Result<Reply<Searched>, AllocError>
-    requires { (runs : ℕ) × AreFoundIn scenario.now sets.now tree runs }
+    requires { (runs : ℕ) × AreFoundIn scenario.now sets.items tree runs }
     ensures { IfOk result (IsFoundFor wanted.AllLeast scenario.now) }
 {
-    let text = all_report(alloc, scenario.setting().spec.budget(), sets)?;
+    let text = all_report(alloc, scenario.setting().spec.budget(), sets.as_slice())?;
     Ok(Reply {
         text,
         value: Searched {
             status: search_status(&tree.answer),
             tree: Some(tree),
         },
+        said: Said::AllLeast(sets),
     })
 }
 
@@ -160,8 +163,13 @@ fn full_found(
     ensures all { IfOk result (IsFoundFor wanted.AllLeast scenario.now) }
 {
     limits_are_kept(&scenario.setting().spec);
-    let told = full(alloc, book.level() + 1, book.counts().waiting)?;
-    Ok(without_tree(told.text, told.value))
+    let told = full(
+        alloc,
+        book.level() + 1,
+        book.counts().waiting,
+        scenario.max_sets(),
+    )?;
+    Ok(without_tree(told.text, told.value, told.said))
 }
 
 /// Why a search by several workers gives no reply: want of memory, or a cause with its number.

@@ -1,26 +1,45 @@
-//! What to say of a combination of a sweep that is refused.
+//! What to say of a combination of a sweep.
 
 use leastfault::{read_known, read_protocol};
-use leastfault_sweep::Study;
+use leastfault_sweep::{Plan, Study};
 use lf_hints::combination_hint;
 use lf_protocol_hints::own_hint;
 use lf_sweep::text_of;
 use std::alloc::{AllocError, Global};
 
-/// What is wrong with a combination that is refused, by its line of the sweep and what varies by name. Empty where nothing can be said.
+/// The values of the combination with this number, from 0. None where there is no such combination.
+fn values_of(alloc: Global, plan: &Plan, number: u64) -> Result<Vec<String>, AllocError> {
+    if number < plan.count() {
+        plan.words(alloc, number)
+    } else {
+        Ok(Vec::new(alloc))
+    }
+}
+
+/// The values of a combination behind the names of what varies, each behind a blank.
+pub(crate) fn place_words(
+    alloc: Global,
+    plan: &Plan,
+    names: &[String],
+    number: u64,
+) -> Result<String, AllocError> {
+    let values = values_of(alloc, plan, number)?;
+    let mut place = String::new(alloc);
+    for (name, value) in names.iter().zip(values.iter()) {
+        write!(place, " {name}={value}")?;
+    }
+    Ok(place)
+}
+
+/// What is wrong with the combination with a number, which is refused, with what varies by name. Empty where nothing can be said.
 pub(crate) fn refused_words(
     alloc: Global,
     protocol: Option<&[u8]>,
     study: &Study<'_>,
     names: &[String],
-    line: &str,
+    number: u64,
 ) -> Result<String, AllocError> {
-    let mut place = String::new(alloc);
-    let mut values = Vec::new(alloc);
-    for (name, value) in names.iter().zip(line.split('\t')) {
-        write!(place, " {name}={value}")?;
-        values.push(String::from_str(alloc, value)?)?;
-    }
+    let values = values_of(alloc, study.plan, number)?;
     let Ok(text) = text_of(
         alloc,
         study.scenario,
@@ -33,6 +52,7 @@ pub(crate) fn refused_words(
     if words.is_empty() {
         return Ok(words);
     }
+    let place = place_words(alloc, study.plan, names, number)?;
     format!(in alloc; "refused, first at{place}: {words}")
 }
 

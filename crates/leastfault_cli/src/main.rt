@@ -52,6 +52,7 @@
 mod combination;
 mod devices;
 mod disk;
+mod hint;
 mod json_line;
 mod line;
 mod report;
@@ -62,20 +63,10 @@ mod tally;
 
 use devices::print;
 use disk::Disk;
-use leastfault::{
-    Asked, BytesFault, Certified, Executed, ProtocolFile, Reply, Scenario, Shown, TreeFault,
-    Unasked, asked, certificate_file, execute, read_known, read_protocol,
-};
-use lf_hints::{
-    Wanted, all_hint, certificate_hint, check_hint, delays_hint, judged_hint, late_hint,
-    level_hint, run_hint, search_hint, see_hint, see_late_hint, seed_note, set_hint, tree_hint,
-    verdict_hint,
-};
-use lf_protocol_hints::{own_hint, protocol_hint, protocol_notes, run_notes};
-use lf_words::shell_word;
+use hint::words_of;
+use leastfault::{Asked, BytesFault, Executed, Unasked, asked, certificate_file, execute};
 use line::Line;
 use same_file::is_same_file;
-use std::alloc::{AllocError, Global};
 use std::env;
 use std::io::{ErrorKind, IsTerminal};
 use std::process::ExitCode;
@@ -155,7 +146,7 @@ fn done(
     line.erase();
     match ended {
         Ok(done) => {
-            hint(rt, asked, &done);
+            hinted(rt, asked, &done);
             Ok(done.reply.value.status)
         }
         Err(fault) => Err(disk.stopped(fault)),
@@ -186,292 +177,11 @@ fn is_quiet(asked: &Asked) -> bool {
     }
 }
 
-/// Says on standard error what is wrong with what was refused, or with a certificate, what a protocol file has, and on a terminal how to see
-/// what a set does that was found: as far as there is memory for it.
-fn hint(rt: &HostRuntime, asked: &Asked, done: &Executed) {
-    let texts = Texts {
-        protocol: bytes_of(&done.texts.protocol),
-        scenario: done.texts.scenario.as_slice(),
-        certificate: bytes_of(&done.texts.tree),
-    };
-    if let Ok(words) = words_of(rt, asked, &done.reply, &texts) {
+/// Says on standard error what a command came to, as far as there is something to say, and memory for it.
+fn hinted(rt: &HostRuntime, asked: &Asked, done: &Executed) {
+    if let Ok(words) = words_of(rt, asked, done) {
         if !words.is_empty() {
             let _told = eprintln!(rt; "{words}").is_ok();
         }
-    }
-}
-
-/// The bytes of a text, and none where there is none.
-fn bytes_of(text: &Option<Vec<u8>>) -> &[u8] {
-    match text {
-        Some(bytes) => bytes.as_slice(),
-        None => &[],
-    }
-}
-
-/// The texts that a command read.
-#[derive(Clone, Copy)]
-struct Texts<'a> {
-    protocol: &'a [u8],
-    scenario: &'a [u8],
-    certificate: &'a [u8],
-}
-
-/// What to say of a reply, in words; nothing where all is well.
-fn words_of(
-    rt: &HostRuntime,
-    asked: &Asked,
-    reply: &Reply<Certified>,
-    texts: &Texts<'_>,
-) -> Result<String, AllocError> {
-    let alloc = rt.alloc();
-    let told = reply.text.as_str();
-    if let Asked::Protocol { .. } = asked {
-        return protocol_words(alloc, texts.scenario);
-    }
-    let words = match reply.value.status {
-        1 if rt.stderr().is_terminal() => found_hint(alloc, asked, told, texts)?,
-        1 => wrong_hint(alloc, asked, told, texts)?,
-        2 => return refused_hint(alloc, asked, told, texts),
-        _ => String::new(alloc),
-    };
-    with_notes(alloc, asked, words, texts)
-}
-
-/// The words, behind what has to be said of the run without faults of a protocol file's scenario.
-fn with_notes(
-    alloc: Global,
-    asked: &Asked,
-    words: String,
-    texts: &Texts<'_>,
-) -> Result<String, AllocError> {
-    let mut notes = notes_of(alloc, asked, texts)?;
-    if !notes.is_empty() && !words.is_empty() {
-        notes.push('\n')?;
-    }
-    notes.push_str(words.as_str())?;
-    Ok(notes)
-}
-
-/// Which rules no node has, and where the run without faults passes a range or replaces a note: of a search, a run or a picture of a
-/// protocol file's scenario, by its seed. Of an answer over every delay, that a seed plays no part.
-fn notes_of(alloc: Global, asked: &Asked, texts: &Texts<'_>) -> Result<String, AllocError> {
-    if let Asked::Answer {
-        every_delay: true,
-        ..
-    } = asked
-    {
-        return seed_note(alloc, texts.scenario);
-    }
-    if asked.protocol_file().is_none()
-        || !matches!(
-            asked,
-            Asked::Search { .. }
-                | Asked::Why { .. }
-                | Asked::Run { delays: None, .. }
-                | Asked::Draw { delays: None, .. }
-        )
-    {
-        return Ok(String::new(alloc));
-    }
-    let Ok(file) = read_protocol(alloc, texts.protocol) else {
-        return Ok(String::new(alloc));
-    };
-    match read_known(alloc, texts.scenario, Some(&file)) {
-        Ok(scenario) => run_notes(alloc, &scenario),
-        Err(_) => Ok(String::new(alloc)),
-    }
-}
-
-/// What a protocol file has and what in it looks like a slip, or what is wrong with it.
-fn protocol_words(alloc: Global, text: &[u8]) -> Result<String, AllocError> {
-    match read_protocol(alloc, text) {
-        Ok(file) => protocol_notes(alloc, &file),
-        Err(error) => protocol_hint(alloc, text, &error),
-    }
-}
-
-/// What to say on a terminal where a set was found or a certificate is wrong.
-fn found_hint(
-    alloc: Global,
-    asked: &Asked,
-    reply: &str,
-    texts: &Texts<'_>,
-) -> Result<String, AllocError> {
-    match asked {
-        Asked::Search { file, .. } | Asked::Answer { file, .. } if file.as_str() != "-" => {
-            let file = shell_word(alloc, file.as_str())?;
-            let protocol = match asked.protocol_file() {
-                Some(protocol) => Some(shell_word(alloc, protocol)?),
-                None => None,
-            };
-            let (file, protocol) = (file.as_str(), protocol.as_deref());
-            if matches!(
-                asked,
-                Asked::Answer {
-                    every_delay: true,
-                    ..
-                }
-            ) {
-                see_late_hint(alloc, file, protocol, reply.as_bytes())
-            } else {
-                see_hint(alloc, file, protocol, reply.as_bytes())
-            }
-        }
-        _ => wrong_hint(alloc, asked, reply, texts),
-    }
-}
-
-/// What is wrong with a certificate, in words.
-fn wrong_hint(
-    alloc: Global,
-    asked: &Asked,
-    reply: &str,
-    texts: &Texts<'_>,
-) -> Result<String, AllocError> {
-    match (asked, asked.protocol_file()) {
-        (Asked::Check { .. }, None) => {
-            verdict_hint(alloc, texts.scenario, texts.certificate, reply.as_bytes())
-        }
-        (Asked::Check { .. }, Some(_)) => match read_protocol(alloc, texts.protocol) {
-            Ok(file) => own_verdict_hint(
-                alloc,
-                &file,
-                texts.scenario,
-                texts.certificate,
-                reply.as_bytes(),
-            ),
-            Err(_) => Ok(String::new(alloc)),
-        },
-        _ => Ok(String::new(alloc)),
-    }
-}
-
-/// What is wrong with a text that was refused, in words.
-fn refused_hint(
-    alloc: Global,
-    asked: &Asked,
-    reply: &str,
-    texts: &Texts<'_>,
-) -> Result<String, AllocError> {
-    if asked.protocol_file().is_some() {
-        return match read_protocol(alloc, texts.protocol) {
-            Ok(file) => known_hint(alloc, asked, &file, reply, texts),
-            Err(error) => protocol_hint(alloc, texts.protocol, &error),
-        };
-    }
-    let text = texts.scenario;
-    if let Some(delays) = refused_delays(asked, reply) {
-        return late_hint(alloc, text, delays);
-    }
-    let words = match asked {
-        Asked::Search { .. } if reply.starts_with("refused tree") => {
-            tree_hint(alloc, &[], TreeFault::TooLong)?
-        }
-        Asked::Search { all: true, .. } => all_hint(alloc, text, reply.as_bytes())?,
-        Asked::Search { .. } | Asked::Answer { .. } | Asked::Why { .. } => {
-            search_hint(alloc, text, reply.as_bytes())?
-        }
-        Asked::Run { faults, shown, .. } => shown_hint(alloc, text, faults.as_str(), shown)?,
-        Asked::Draw { faults, .. } => run_hint(alloc, text, faults.as_str())?,
-        Asked::Check { .. } => check_hint(alloc, text, texts.certificate)?,
-        Asked::Protocol { .. } => String::new(alloc),
-    };
-    with_option(alloc, reply, words)
-}
-
-/// The words for late notes, where a reply refuses them.
-fn refused_delays<'a>(asked: &'a Asked, reply: &str) -> Option<&'a str> {
-    match asked {
-        Asked::Run { delays, .. } | Asked::Draw { delays, .. }
-            if reply.starts_with("refused delays") => { delays.as_deref() }
-        _ => None,
-    }
-}
-
-/// What is wrong with the text of a scenario, or with the words for the faults of a run, or else with those of the run beside it.
-fn shown_hint(
-    alloc: Global,
-    text: &[u8],
-    faults: &str,
-    shown: &Shown,
-) -> Result<String, AllocError> {
-    let words = run_hint(alloc, text, faults)?;
-    match shown {
-        Shown::Beside(other) if words.is_empty() => run_hint(alloc, text, other.as_str()),
-        _ => Ok(words),
-    }
-}
-
-/// The same of a scenario's words for faults alone.
-fn sets_hint(
-    alloc: Global,
-    scenario: &Scenario,
-    faults: &str,
-    shown: &Shown,
-) -> Result<String, AllocError> {
-    let words = set_hint(alloc, scenario, faults)?;
-    match shown {
-        Shown::Beside(other) if words.is_empty() => set_hint(alloc, scenario, other.as_str()),
-        _ => Ok(words),
-    }
-}
-
-/// The words, and that `--protocol` may have been forgotten, where the protocol is unknown or constants are given.
-fn with_option(alloc: Global, reply: &str, words: String) -> Result<String, AllocError> {
-    if reply.starts_with("refused 9 ") {
-        format!(in alloc; "{words}; the file of a protocol of your own is named by --protocol FILE")
-    } else if words.as_str().starts_with("\"given\"") {
-        format!(in alloc;
-            "{words}; scenarios of a protocol file have it: name the file by --protocol FILE"
-        )
-    } else {
-        Ok(words)
-    }
-}
-
-/// The same where the protocol of a file is known.
-fn known_hint(
-    alloc: Global,
-    asked: &Asked,
-    file: &ProtocolFile,
-    reply: &str,
-    texts: &Texts<'_>,
-) -> Result<String, AllocError> {
-    let scenario = match read_known(alloc, texts.scenario, Some(file)) {
-        Ok(scenario) => scenario,
-        Err(error) => return own_hint(alloc, texts.scenario, file, error),
-    };
-    if let Some(delays) = refused_delays(asked, reply) {
-        return delays_hint(alloc, &scenario, delays);
-    }
-    match asked {
-        Asked::Search { .. } if reply.starts_with("refused tree") => {
-            tree_hint(alloc, &[], TreeFault::TooLong)
-        }
-        Asked::Search { all: true, .. } => {
-            level_hint(alloc, &scenario, Wanted::AllLeast, reply.as_bytes())
-        }
-        Asked::Search { .. } | Asked::Why { .. } => {
-            level_hint(alloc, &scenario, Wanted::Answer, reply.as_bytes())
-        }
-        Asked::Run { faults, shown, .. } => { sets_hint(alloc, &scenario, faults.as_str(), shown) }
-        Asked::Draw { faults, .. } => set_hint(alloc, &scenario, faults.as_str()),
-        Asked::Check { .. } => certificate_hint(alloc, texts.certificate),
-        Asked::Answer { .. } | Asked::Protocol { .. } => Ok(String::new(alloc)),
-    }
-}
-
-/// What is wrong with a certificate of a scenario of the file's protocol.
-fn own_verdict_hint(
-    alloc: Global,
-    file: &ProtocolFile,
-    text: &[u8],
-    certificate: &[u8],
-    reply: &[u8],
-) -> Result<String, AllocError> {
-    match read_known(alloc, text, Some(file)) {
-        Ok(scenario) => judged_hint(alloc, &scenario, certificate, reply),
-        Err(_) => Ok(String::new(alloc)),
     }
 }

@@ -3,7 +3,6 @@
 ghost use Rattle.std.specs.Prelude.{◌≡◌, ◌<◌, ◌≤◌, false, is_some, length};
 
 use crate::json_line::json_line;
-use crate::tally::Tally;
 use leastfault::{Failed, Sink};
 use std::alloc::{AllocError, Global};
 use std::io;
@@ -22,7 +21,7 @@ impl From<AllocError> for Unwritten {
     }
 }
 
-/// A sink that counts the lines of a sweep, and writes each to standard output as it is, or as a JSON object.
+/// A sink that writes each line of a sweep to standard output as it is, or as a JSON object.
 #[derive(Drop)]
 pub(crate) struct Report<'a> {
     alloc: Global,
@@ -32,7 +31,6 @@ pub(crate) struct Report<'a> {
     json: bool,
     /// The line so far.
     line: Vec<u8>,
-    tally: Tally,
     /// Why a line wasn't written, where one wasn't.
     unwritten: Option<Unwritten>,
 }
@@ -48,14 +46,8 @@ impl<'a> Report<'a> {
             names,
             json,
             line: Vec::new(alloc),
-            tally: Tally::new(alloc),
             unwritten: None,
         }
-    }
-
-    /// What was counted.
-    pub(crate) fn tally(&self) -> &Tally {
-        &self.tally
     }
 
     /// Why a line wasn't written, where one wasn't.
@@ -69,7 +61,6 @@ impl<'a> Report<'a> {
     {
         self.line.extend_from_slice(bytes)?;
         if self.line.as_slice().last() == Some(&b'\n') {
-            self.tally.add(self.line.as_slice(), self.names.len())?;
             let shown = shown(self.alloc, self.line.as_slice(), self.names, self.json)?;
             if let Err(error) = self.output.write_all(shown.as_slice()) {
                 return Err(Unwritten::Output(error));

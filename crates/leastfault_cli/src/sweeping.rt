@@ -6,12 +6,13 @@ use crate::disk::Disk;
 use crate::line::Line;
 use crate::report::{Report, Unwritten};
 use crate::stop::Stop;
-use leastfault::{BytesFault, read_protocol};
+use crate::tally::tally_words;
+use leastfault::{BytesFault, read, read_protocol};
 use leastfault_sweep::{
     Counts, Ended, Study, SweepAsked, SweepExecuted, SweepTexts, SweepUnasked, execute, names_of,
     sweep_asked,
 };
-use lf_hints::search_hint;
+use lf_hints::scenario_hint;
 use lf_protocol_hints::protocol_hint;
 use std::alloc::AllocError;
 use std::thread::Threads;
@@ -59,7 +60,7 @@ fn done(rt: &HostRuntime, threads: &(impl Threads + Sync), asked: &SweepAsked) -
     let mut report = Report::new(alloc, rt.stdout(), names.as_slice(), asked.json);
     match execute(threads, alloc, asked, &mut disk, &mut report) {
         Ok(done) => {
-            said(rt, asked, names.as_slice(), &done, &report)?;
+            said(rt, asked, names.as_slice(), &done)?;
             Ok(done.ended.status())
         }
         Err(fault) => Err(stopped(rt, fault, disk, &report)),
@@ -72,18 +73,17 @@ fn said(
     asked: &SweepAsked,
     names: &[String],
     done: &SweepExecuted,
-    report: &Report<'_>,
 ) -> Result<(), Stop> {
     match &done.ended {
         Ended::Swept(counts) => {
             if !asked.quiet {
-                counted(rt, asked, names, counts, report, &done.texts);
+                counted(rt, asked, names, counts, done);
             }
             Ok(())
         }
         Ended::Refused(line) => {
             print(rt, line.as_str())?;
-            hinted(rt, refused(rt, line.as_str(), &done.texts));
+            hinted(rt, refused(rt, &done.texts));
             Ok(())
         }
         Ended::Undated => {
@@ -99,20 +99,20 @@ fn counted(
     asked: &SweepAsked,
     names: &[String],
     counts: &Counts,
-    report: &Report<'_>,
-    texts: &SweepTexts,
+    done: &SweepExecuted,
 ) {
-    hinted(rt, report.tally().words(rt.alloc(), counts, names));
-    let Some(line) = report.tally().first_refused() else {
+    let (alloc, plan) = (rt.alloc(), &asked.plan);
+    hinted(rt, tally_words(alloc, plan, names, counts, &done.marks));
+    let Some(number) = done.marks.refused else {
         return;
     };
     let study = Study {
-        scenario: texts.scenario.as_slice(),
-        plan: &asked.plan,
+        scenario: done.texts.scenario.as_slice(),
+        plan,
     };
     hinted(
         rt,
-        refused_words(rt.alloc(), protocol_of(texts), &study, names, line),
+        refused_words(alloc, protocol_of(&done.texts), &study, names, number),
     );
 }
 
@@ -124,16 +124,18 @@ fn protocol_of(texts: &SweepTexts) -> Option<&[u8]> {
     }
 }
 
-/// What is wrong with a protocol file or a scenario that is refused as a whole, by the line that says so.
-fn refused(rt: &HostRuntime, line: &str, texts: &SweepTexts) -> Result<String, AllocError> {
+/// What is wrong with a protocol file, or else with a scenario, that is refused as a whole.
+fn refused(rt: &HostRuntime, texts: &SweepTexts) -> Result<String, AllocError> {
     let alloc = rt.alloc();
-    if !line.starts_with("refused protocol") {
-        return search_hint(alloc, texts.scenario.as_slice(), line.as_bytes());
+    if let Some(protocol) = protocol_of(texts) {
+        if let Err(error) = read_protocol(alloc, protocol) {
+            return protocol_hint(alloc, protocol, &error);
+        }
     }
-    let protocol = protocol_of(texts).unwrap_or(&[]);
-    match read_protocol(alloc, protocol) {
+    let text = texts.scenario.as_slice();
+    match read(alloc, text) {
         Ok(_) => Ok(String::new(alloc)),
-        Err(error) => protocol_hint(alloc, protocol, &error),
+        Err(error) => scenario_hint(alloc, text, error),
     }
 }
 

@@ -20,6 +20,7 @@ use Rattle.lf_sweep.specs.Texts.{HasNoText, IsScenario, with_words}
 use Rattle.lf_sweep.specs.declared.counts.Counts.{Counts}
 use Rattle.lf_sweep.specs.declared.fault.SweepFault.{SweepFault}
 use Rattle.lf_sweep.specs.declared.fault.SweepFault.TheVariants as faults
+use Rattle.lf_sweep.specs.declared.marks.Marks.{Marks}
 use Rattle.lf_sweep.specs.Counts.{Told}
 use Rattle.lf_sweep.specs.Faults.{HasCause, HasNoRow, fault_of}
 use Rattle.lf_sweep.specs.Rows.{AreLines}
@@ -280,10 +281,10 @@ module _ {W : Type 0} (written : W → Option (List ℕ)) (has_failed : W → Bo
       subst (λ (text : List ℕ). IsSweptOrNot written has_failed asked (given_of texts) text before after r) is_too
       (subst (λ (protocol : Option (List ℕ)). IsSweptOrNot written has_failed asked protocol shown_too before after r) is s)
 
-  ended_by : (texts : SweepTexts) (after : W) (e : Ended) → Read (Ok texts)
+  ended_by : (texts : SweepTexts) (after : W) (e : Ended) (marks : Marks) → Read (Ok texts)
       → IsSweptOrNot written has_failed asked (given_of texts) texts.scenario.items before after (Ok e)
-      → Executed after (Ok (record { ended = e; texts = texts }))
-  ended_by texts after e read s = record {
+      → Executed after (Ok (record { ended = e; marks = marks; texts = texts }))
+  ended_by texts after e marks read s = record {
     done = (read.one, read.whole, s.done);
     begun = tt;
     front = read.front;
@@ -307,10 +308,11 @@ module _ {W : Type 0} (written : W → Option (List ℕ)) (has_failed : W → Bo
     pool = pool_told e s.pool (Err e) refl;
   }
 
-  pub ended_so : (texts : SweepTexts) (shown : Option (List ℕ)) (shown_too : List ℕ) (after : W) (e : Ended) → Read (Ok texts) → shown ≡ given_of texts
-      → shown_too ≡ texts.scenario.items → IsSweptOrNot written has_failed asked shown shown_too before after (Ok e)
-      → Executed after (Ok (record { ended = e; texts = texts }))
-  ended_so texts shown shown_too after e read is is_too s = ended_by texts after e read (by_texts texts shown shown_too after (Ok e) is is_too s)
+  pub ended_so : (texts : SweepTexts) (shown : Option (List ℕ)) (shown_too : List ℕ) (after : W) (e : Ended) (marks : Marks) → Read (Ok texts)
+      → shown ≡ given_of texts → shown_too ≡ texts.scenario.items → IsSweptOrNot written has_failed asked shown shown_too before after (Ok e)
+      → Executed after (Ok (record { ended = e; marks = marks; texts = texts }))
+  ended_so texts shown shown_too after e marks read is is_too s =
+      ended_by texts after e marks read (by_texts texts shown shown_too after (Ok e) is is_too s)
 
   pub stopped_so : (texts : SweepTexts) (shown : Option (List ℕ)) (shown_too : List ℕ) (after : W) (e : BytesFault) → Read (Ok texts)
       → shown ≡ given_of texts → shown_too ≡ texts.scenario.items → IsSweptOrNot written has_failed asked shown shown_too before after (Err e)

@@ -6,7 +6,7 @@ ghost use Rattle.lf_protocol_file.specs.Files.{IsText};
 ghost use Rattle.leastfault_sweep.specs.Replies.{IsRefusedIn, IsReplyBy, RefusesBy, RepliesBy, text_of};
 
 use leastfault::{
-    ProtocolError, ProtocolFile, Reply, Wanted, answer_reply, read_protocol, search_reply,
+    ProtocolError, ProtocolFile, Reply, Said, Wanted, answer_reply, read_protocol, search_reply,
 };
 use lf_sweep::{Asker, Replied, SweepFault};
 use lf_sweep_words::By;
@@ -70,18 +70,34 @@ fn reply_by(
 {
     match by {
         By::Answer => {
-            let Reply { text, value } = answer_reply(alloc, known, text, &NoWatch)?;
+            let Reply { text, value, said } = answer_reply(alloc, known, text, &NoWatch)?;
             Ok(Replied {
                 text,
                 status: value,
+                faults: faults_of(&said),
             })
         }
         By::Search => {
-            let Reply { text, value } = search_reply(alloc, known, Wanted::Answer, text, &NoWatch)?;
+            let Reply { text, value, said } = search_reply(
+                alloc,
+                known,
+                Wanted::Answer,
+                text,
+                &NoWatch,
+            )?;
             Ok(Replied {
                 text,
                 status: value.status,
+                faults: faults_of(&said),
             })
         }
+    }
+}
+
+/// How many faults the answer has, where a reply tells of one that defeats the outcome.
+fn faults_of(said: &Said) -> Option<u32> {
+    match said {
+        Said::Answer(Some(set)) => u32::try_from(set.len()).ok(),
+        _ => None,
     }
 }

@@ -12,7 +12,7 @@ use leastfault::{
     BytesFault, Files, LONGEST, ProtocolError, ScenarioError, Sink, protocol_refusal,
     read_protocol, refusal,
 };
-use lf_sweep::{Counts, Study, SweepFault};
+use lf_sweep::{Counts, Marks, Study, SweepFault};
 use lf_sweep_words::SweepAsked;
 use std::alloc::{AllocError, Global};
 use std::thread::Threads;
@@ -45,6 +45,8 @@ impl Ended {
 pub struct SweepExecuted {
     /// What it came to.
     pub ended: Ended,
+    /// Which combinations stand out, of those whose lines were written.
+    pub marks: Marks,
     /// The texts that the words name.
     pub texts: SweepTexts,
 }
@@ -70,6 +72,7 @@ pub fn execute<T: Threads + Sync, F: Files, W: Sink>(
 {
     let texts = read_sweep(alloc, asked, files)?;
     let given = given(&texts.protocol);
+    let mut marks = Marks::none();
     let ended = come_to(
         threads,
         alloc,
@@ -77,8 +80,13 @@ pub fn execute<T: Threads + Sync, F: Files, W: Sink>(
         given,
         texts.scenario.as_slice(),
         writer,
+        &mut marks,
     )?;
-    Ok(SweepExecuted { ended, texts })
+    Ok(SweepExecuted {
+        ended,
+        marks,
+        texts,
+    })
 }
 
 /// The bytes of a text, where there is one.
@@ -99,6 +107,7 @@ fn come_to<T: Threads + Sync, W: Sink>(
     protocol: Option<&[u8]>,
     scenario: &[u8],
     writer: &mut W,
+    marks: &mut Marks,
 ) -> Result<Ended, BytesFault>
     requires { W.has_failed writer.old ≡ false }
     ensures { IsSweptOrNot W.written W.has_failed asked.now (text_of protocol.entry) scenario.now writer.old writer.new result }
@@ -113,7 +122,7 @@ fn come_to<T: Threads + Sync, W: Sink>(
         scenario,
         plan: &asked.plan,
     };
-    match swept(threads, alloc, asked, protocol, &study, writer) {
+    match swept(threads, alloc, asked, protocol, &study, writer, marks) {
         Ok(counts) => Ok(Ended::Swept(counts)),
         Err(SweepFault::NoDocument) => {
             Ok(Ended::Refused(refusal(alloc, ScenarioError::NoDocument)?))
@@ -133,6 +142,7 @@ fn swept<T: Threads + Sync, W: Sink>(
     protocol: Option<&[u8]>,
     study: &Study<'_>,
     writer: &mut W,
+    marks: &mut Marks,
 ) -> Result<Counts, SweepFault>
     requires { W.has_failed writer.old ≡ false }
     ensures { WasSwept W.written W.has_failed (RepliesBy (text_of protocol.entry) asked.now.by) (RefusesBy (text_of protocol.entry))
@@ -140,7 +150,7 @@ fn swept<T: Threads + Sync, W: Sink>(
 {
     let (by, part) = (asked.by, asked.part);
     if asked.workers <= 1 {
-        sweep(alloc, protocol, by, study, part, writer)
+        sweep(alloc, protocol, by, study, part, writer, marks)
     } else {
         sweep_shared(
             threads,
@@ -151,6 +161,7 @@ fn swept<T: Threads + Sync, W: Sink>(
             part,
             asked.workers,
             writer,
+            marks,
         )
     }
 }

@@ -13,7 +13,8 @@ mod sweeping;
 pub use executing::{Ended, SweepExecuted, execute};
 pub use laws::sweeps_are_one;
 pub use lf_sweep::{
-    Counts, Part, Place, Plan, PlanError, Study, SweepFault, Varied, VaryError, Words, read_varied,
+    Counts, Defeated, Marks, Part, Place, Plan, PlanError, Study, SweepFault, Varied, VaryError,
+    Words, read_varied,
 };
 pub use lf_sweep_words::{By, SweepAsked, SweepUnasked, names_of, sweep_asked};
 pub use reading::SweepTexts;

@@ -3,20 +3,12 @@
 use crate::faults::bar_of_point;
 use crate::hint::{Hint, Words, in_quotes, said};
 use crate::misspelt::first_number;
+use lf_delays::Delay;
 use lf_faults::{Slot, read_slot, read_step};
 use lf_latency::{Network, is_pair};
 
 /// How delays are joined.
 const JOINED: &str = "delays are joined by single commas, no blanks";
-
-/// When a note arrives.
-#[derive(Clone, Copy)]
-struct Delay {
-    /// Who sends it, to whom, and at which step.
-    slot: Slot,
-    /// The step at which it arrives.
-    at: u32,
-}
 
 /// Why words name no delays of a network's notes: the first word that names none, or one of a slot that a word before it names.
 pub(crate) fn delays_hint(network: &Network, words: &str) -> Option<Hint> {
@@ -112,7 +104,7 @@ fn misspelt_delay(network: &Network, word: &str) -> Words {
 }
 
 /// The text of a delay, in range or not.
-fn spelling(delay: Delay) -> Words {
+pub(crate) fn spelling(delay: Delay) -> Words {
     let Slot { from, to, step } = delay.slot;
     Words::of(format_args!("{from}>{to} @{step} {}", delay.at))
 }

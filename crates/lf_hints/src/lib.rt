@@ -27,7 +27,7 @@ mod verdict;
 pub use full::Wanted;
 pub use scenario::{scenario_hint, toml_hint};
 pub use texts::{
-    all_hint, certificate_hint, check_hint, combination_hint, delays_hint, judged_hint, late_hint,
-    level_hint, run_hint, search_hint, see_hint, see_late_hint, seed_note, set_hint, verdict_hint,
+    combination_hint, delays_hint, judged_hint, level_hint, see_hint, see_late_hint, seed_note,
+    set_hint,
 };
 pub use tree::tree_hint;

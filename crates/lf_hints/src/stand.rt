@@ -16,9 +16,9 @@ pub(crate) struct Stand<'a> {
     pub node: &'a Node,
 }
 
-/// What stands at a path, which is written as a reply to a check writes it. None where the tree ends before.
-pub(crate) fn at_path<'a>(tree: &'a Tree, path: &str) -> Option<Stand<'a>> {
-    if path == "-" {
+/// What stands at a path, as the places of kids from the root on. None where the tree ends before.
+pub(crate) fn at_path<'a>(tree: &'a Tree, path: &[usize]) -> Option<Stand<'a>> {
+    if path.is_empty() {
         return Some(Stand {
             place: Words::of("at the root, without faults"),
             depth: 0,
@@ -26,14 +26,25 @@ pub(crate) fn at_path<'a>(tree: &'a Tree, path: &str) -> Option<Stand<'a>> {
         });
     }
     let mut stand = Stand {
-        place: Words::of(format_args!("at {path}: ")),
+        place: Words::of(format_args!("at {}: ", path_text(path).as_str())),
         depth: 0,
         node: &tree.root,
     };
-    for kid in path.split('.') {
-        stand = below(stand, kid.parse::<usize>().unwrap_or(usize::MAX))?;
+    for kid in path {
+        stand = below(stand, *kid)?;
     }
     Some(stand)
+}
+
+/// A path as the reply to a check has it.
+fn path_text(path: &[usize]) -> Words {
+    let mut text = Words::of("");
+    let mut dot = "";
+    for kid in path {
+        text = text.and(format_args!("{dot}{kid}"), LONGEST_STEP);
+        dot = ".";
+    }
+    text
 }
 
 /// What stands at a kid of a branch. None where there is none.

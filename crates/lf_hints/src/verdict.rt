@@ -8,24 +8,13 @@ use lf_faults::FaultSpec;
 use lf_outcome::Reach;
 use lf_tree::{Node, Tree};
 
-/// All reasons.
-const REASONS: [Reason; 11] = [
-    Reason::AnswerNotAllowed,
-    Reason::SaidToReach,
-    Reason::SaidToMiss,
-    Reason::ReachFallsShort,
-    Reason::ReachNotClosed,
-    Reason::EdgeMissing,
-    Reason::EdgesDiffer,
-    Reason::KidsDiffer,
-    Reason::WrongDepth,
-    Reason::AnswerNotFirst,
-    Reason::BranchMisses,
-];
-
-/// What a check's reply says of a tree, within these bounds. Nothing where it says no `no`, or of a place that the tree hasn't.
-pub(crate) fn verdict_hint(spec: &FaultSpec, tree: &Tree, reply: &[u8]) -> Option<Hint> {
-    let (reason, path) = refused_for(reply)?;
+/// Why a tree isn't accepted, within these bounds, by the reason and the path to where it holds. Nothing of a place that the tree hasn't.
+pub(crate) fn verdict_hint(
+    spec: &FaultSpec,
+    tree: &Tree,
+    reason: Reason,
+    path: &[usize],
+) -> Option<Hint> {
     match reason {
         Reason::AnswerNotAllowed => not_allowed(spec, tree),
         Reason::AnswerNotFirst => Some(Hint::of(match tree.answer {
@@ -38,19 +27,6 @@ pub(crate) fn verdict_hint(spec: &FaultSpec, tree: &Tree, reply: &[u8]) -> Optio
             Some(Hint::of(format_args!("{}: {}", stand.place.as_str(), words.as_str())))
         }
     }
-}
-
-/// The reason and the path of a reply that says `no`.
-fn refused_for(reply: &[u8]) -> Option<(Reason, &str)> {
-    let text = std::str::from_utf8(reply).unwrap_or("");
-    let (number, path) = text.strip_prefix("no ")?.trim_end().split_once(' ')?;
-    let number = number.parse::<u32>().unwrap_or(0);
-    for reason in REASONS {
-        if reason.number() == number {
-            return Some((reason, path));
-        }
-    }
-    None
 }
 
 /// Why the answer of a tree isn't allowed.

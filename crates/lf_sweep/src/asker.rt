@@ -13,6 +13,8 @@ pub struct Replied {
     pub text: String,
     /// Its status: 0 where no allowed set of faults defeats the outcome, 1 where one does, and else 2.
     pub status: u8,
+    /// How many faults the least sets have, where it tells that.
+    pub faults: Option<u32>,
 }
 
 /// Who replies to scenarios.

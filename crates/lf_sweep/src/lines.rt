@@ -10,15 +10,17 @@ use crate::Part;
 use crate::asker::Asker;
 use crate::counts::Counts;
 use crate::fault::SweepFault;
+use crate::marks::Marks;
 use crate::row::row;
 use crate::study::Study;
 use std::alloc::Global;
 
-/// Lines of combinations, and how many replies of each kind they have.
+/// Lines of combinations, how many replies of each kind they have, and which stand out.
 #[derive(Drop)]
 pub(crate) struct Lines {
     pub(crate) bytes: Vec<u8>,
     pub(crate) counts: Counts,
+    pub(crate) marks: Marks,
 }
 
 /// The lines of a part's combinations from a place on, of so many.
@@ -37,12 +39,18 @@ pub(crate) fn part_lines<A: Asker>(
 {
     let mut bytes = Vec::new(alloc);
     let mut counts = Counts::empty();
+    let mut marks = Marks::none();
     'places: for i in 0..some {
         let line = row(alloc, asker, study, number_in(study, part, from + i))?;
         bytes.extend_from_slice(line.bytes.as_slice())?;
         counts = counts.plus(line.counts);
+        marks.take(line.marks);
     }
-    Ok(Lines { bytes, counts })
+    Ok(Lines {
+        bytes,
+        counts,
+        marks,
+    })
 }
 
 /// The number of the combination at a place of a part.

@@ -9,6 +9,7 @@ use crate::asker::Asker;
 use crate::counts::{Counts, kind_of};
 use crate::fault::SweepFault;
 use crate::lines::Lines;
+use crate::marks::Marks;
 use crate::study::Study;
 use crate::{line_of, text_of};
 use std::alloc::Global;
@@ -31,7 +32,12 @@ pub(crate) fn row<A: Asker>(
         Err(error) => return Err(SweepFault::from(error)),
     };
     let reply = asker.reply(alloc, text.as_bytes())?;
-    let counts = Counts::of(kind_of(reply.text.as_str(), reply.status));
+    let kind = kind_of(reply.text.as_str(), reply.status);
+    let counts = Counts::of(kind);
     let bytes = line_of(alloc, words.as_slice(), reply.text.as_str())?;
-    Ok(Lines { bytes, counts })
+    Ok(Lines {
+        bytes,
+        counts,
+        marks: Marks::at(number, kind, reply.faults),
+    })
 }

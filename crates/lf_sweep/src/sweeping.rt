@@ -10,6 +10,7 @@ use crate::asker::Asker;
 use crate::counts::Counts;
 use crate::fault::SweepFault;
 use crate::lines::{Lines, part_lines};
+use crate::marks::Marks;
 use crate::study::Study;
 use lf_streams::{Sink, write_all};
 use std::alloc::{AllocError, Global};
@@ -20,7 +21,7 @@ use std::thread::Threads;
 const ROUND: u64 = 8;
 
 /// Asks of all combinations of a part, and writes the line of each as it comes, in order. The answer is how many replies of each kind there
-/// are.
+/// are. The marks take in which combinations stand out.
 ///
 /// The error says why it ended before the last: `NoDocument` and `Date` only where a combination has no text for that reason, `Protocol`
 /// where the asker refuses so, `Write` exactly where the sink failed, and `Memory` where memory ran out.
@@ -32,6 +33,7 @@ pub fn sweep<A: Asker, W: Sink>(
     study: &Study<'_>,
     part: Part,
     writer: &mut W,
+    marks: &mut Marks,
 ) -> Result<Counts, SweepFault>
     requires { W.has_failed writer.old ≡ false }
     ensures { WasSwept W.written W.has_failed (A.replies asker.now) (A.refuses asker.now) study.now.scenario.now study.now.plan.now.varied.items part
@@ -43,6 +45,7 @@ pub fn sweep<A: Asker, W: Sink>(
         let line = part_lines(alloc, asker, study, part, place, 1)?;
         put(writer, line.bytes.as_slice())?;
         counts = counts.plus(line.counts);
+        marks.take(line.marks);
     }
     Ok(counts)
 }
@@ -56,6 +59,7 @@ pub fn sweep_shared<R: Threads + Sync, A: Asker + Sync, W: Sink>(
     part: Part,
     workers: u32,
     writer: &mut W,
+    marks: &mut Marks,
 ) -> Result<Counts, SweepFault>
     requires workers { 1 ≤ workers }
     requires writer { W.has_failed writer.old ≡ false }
@@ -67,7 +71,7 @@ pub fn sweep_shared<R: Threads + Sync, A: Asker + Sync, W: Sink>(
     let mut counts = Counts::empty();
     'rounds: while place < count {
         let round = Round::of(place, count - place, workers);
-        counts = counts.plus(put_round(rt, alloc, asker, study, part, round, writer)?);
+        counts = counts.plus(put_round(rt, alloc, asker, study, part, round, writer, marks)?);
         place += round.lanes * round.size;
     }
     Ok(counts)
@@ -109,6 +113,7 @@ fn put_round<R: Threads + Sync, A: Asker + Sync, W: Sink>(
     part: Part,
     round: Round,
     writer: &mut W,
+    marks: &mut Marks,
 ) -> Result<Counts, SweepFault>
     requires inside { AreInside study.now.plan.now.varied.items part (round.place + round.lanes * round.size) }
     requires writer { W.has_failed writer.old ≡ false }
@@ -125,6 +130,7 @@ fn put_round<R: Threads + Sync, A: Asker + Sync, W: Sink>(
             Ok(lines) => {
                 put(writer, lines.bytes.as_slice())?;
                 counts = counts.plus(lines.counts);
+                marks.take(lines.marks);
             }
             Err(fault) => return Err(*fault),
         }

@@ -53,7 +53,7 @@ fn found(alloc: Global, scenario: &Scenario) -> Option<Option<(FaultSet, Arrival
 }
 
 /// Whether an answer to a scenario is told so.
-fn is_told(
+pub(crate) fn is_told(
     alloc: Global,
     answer: Option<Option<(FaultSet, Arrivals)>>,
     budget: u32,
@@ -72,8 +72,8 @@ fn is_told(
     }
 }
 
-/// The scenario of a row, and what the row says of its answer. None where the scenario is refused.
-fn asked(alloc: Global, row: &str) -> Option<(Scenario, &str)> {
+/// The scenario of a row, and what the row says of it. None where the scenario is refused.
+pub(crate) fn asked(alloc: Global, row: &str) -> Option<(Scenario, &str)> {
     let (lines, wanted) = row.split_once('|').unwrap_or((row, ""));
     Some((scenario(alloc, lines)?, wanted))
 }

@@ -1,6 +1,6 @@
 //! Sweeps: the lines of combinations.
 
-use leastfault_sweep::{By, Part, Plan, Study, read_varied, sweep, sweep_shared};
+use leastfault_sweep::{By, Defeated, Marks, Part, Plan, Study, read_varied, sweep, sweep_shared};
 use lf_streams::ToWrite;
 use std::alloc::{AllocError, Global};
 use std::process::Abort;
@@ -38,6 +38,19 @@ fn lines_of(
     part: Part,
     workers: u32,
 ) -> Vec<u8> {
+    marked_lines(rt, alloc, plan, by, part, workers, &mut Marks::none())
+}
+
+/// The same, with which combinations stand out.
+fn marked_lines(
+    rt: &(impl Threads + Sync),
+    alloc: Global,
+    plan: &Plan,
+    by: By,
+    part: Part,
+    workers: u32,
+    marks: &mut Marks,
+) -> Vec<u8> {
     let mut out = Vec::new(alloc);
     let study = Study {
         scenario: COMMIT.as_bytes(),
@@ -45,9 +58,9 @@ fn lines_of(
     };
     let mut sink = ToWrite::new(&mut out);
     let swept = if workers == 0 {
-        sweep(alloc, None, by, &study, part, &mut sink)
+        sweep(alloc, None, by, &study, part, &mut sink, marks)
     } else {
-        sweep_shared(rt, alloc, None, by, &study, part, workers, &mut sink)
+        sweep_shared(rt, alloc, None, by, &study, part, workers, &mut sink, marks)
     };
     if swept.is_err() {
         return Vec::new(alloc);
@@ -72,6 +85,35 @@ fn each_combination_has_its_line(rt: HostRuntime) {
     agrees(&rt, found.as_slice() == wanted.as_bytes(), "an answer");
     let found = lines_of(&rt, rt.alloc(), &plan, By::Search, Part::whole(), 0);
     agrees(&rt, found.as_slice() == wanted.as_bytes(), "a search");
+}
+
+#[test]
+fn combinations_stand_out_by_their_numbers(rt: HostRuntime) {
+    let Some(plan) = plan_of(rt.alloc(), "budget=9,0,1,7 crashes=0,1 outcome=unblocked") else {
+        return agrees(&rt, false, "a plan");
+    };
+    let wanted = Marks {
+        fewest: Some(Defeated {
+            number: 5,
+            faults: 1,
+        }),
+        refused: Some(0),
+    };
+    for workers in 0..4u32 {
+        for by in [By::Answer, By::Search] {
+            let mut marks = Marks::none();
+            let _lines = marked_lines(
+                &rt,
+                rt.alloc(),
+                &plan,
+                by,
+                Part::whole(),
+                workers,
+                &mut marks,
+            );
+            agrees(&rt, marks == wanted, "marks");
+        }
+    }
 }
 
 #[test]

@@ -13,5 +13,6 @@ returns c =
     let found : Reply Searched = record {
       text = c.in_ok-text.field-0.text;
       value = record { status = c.in_ok-text.field-0.value; tree = Some c.in-Ok.tree };
+      said = c.in_ok-text.field-0.said;
     } in
     found_for c.args.wanted s s c.in-Ok.tree found refl tree refl c.in_ok-text.ensures

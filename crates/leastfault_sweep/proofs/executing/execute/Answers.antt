@@ -19,4 +19,5 @@ pub returns : goal.returns
 returns g c =
     ended_so g.W.Sink.written g.W.Sink.has_failed c.args.asked.now (g.F.Files.desk c.args.files.now)
     (g.F.Files.desk c.read_sweep.new.files) c.args.writer.now c.in_ok-texts.texts _ c.as_slice.result.now c.come_to.new.writer c.in_ok-ended.ended
+    c.come_to.new.marks
     c.in_ok-texts.ensures c.given-given.ensures c.as_slice.ensures.value c.in_ok-ended.ensures
