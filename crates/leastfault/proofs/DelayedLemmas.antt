@@ -1,5 +1,5 @@
 -- Replies where notes arrive as words say, and over every delay.
-use Rattle.std.proofs.Common.{◌≡◌, ℕ, List, ◌++◌, inl, inr, refl, sym, ap, ◌∙◌, subst, true, false, string_bytes}
+use Rattle.std.proofs.Common.{◌≡◌, ℕ, List, inl, inr, refl, ◌∙◌, subst, true, false, string_bytes}
 use Rattle.std.specs.Prelude.{Bool, Option, None, Some, Result, Ok, Err}
 use Rattle.lf_delays.specs.Answers.{IsFirstUnder}
 use Rattle.lf_faults.specs.declared.fault.Parts.{Parts}

@@ -21,12 +21,12 @@ use Rattle.lf_protocol_file.specs.declared.declared.Declared.{Declared}
 use Rattle.leastfault.specs.declared.shown.Told.{Told}
 use Rattle.leastfault.specs.declared.shown.Told.TheVariants as told
 use Rattle.leastfault.specs.Answers.{reaches_in}
-use Rattle.leastfault.specs.Delayed.{HasDelays, IsChoosing, IsDelayedReply, RepliesNoDelays}
+use Rattle.leastfault.specs.Delayed.{HasDelays, IsChoosing, RepliesNoDelays}
 use Rattle.leastfault.specs.Known.{IsTextOf}
 use Rattle.leastfault.specs.Replies.{HasOneStatus, RepliesNoSet, RepliesRefusal, tells_rules}
 use Rattle.leastfault.specs.Reports.{run_status}
-use Rattle.leastfault.specs.Shown.{HasOneShown, IsDrawnReply, IsSeededReply, IsShownReply, NamesOnce, RepliesBeside, RepliesBesides, RepliesNamed}
-use Rattle.leastfault.specs.Shown.{RepliesRun, RepliesShown}
+use Rattle.leastfault.specs.Shown.{HasOneShown, IsDrawnReply, IsShownReply, NamesOnce, RepliesBeside, RepliesBesides, RepliesNamed}
+use Rattle.leastfault.specs.Shown.{RepliesRun}
 use Rattle.leastfault.proofs.KnownLaws.{refused_is_no_text, scenarios_are_one}
 use Rattle.leastfault.proofs.Uniqueness.{refusals_one, told_one}
 

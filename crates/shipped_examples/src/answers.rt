@@ -2,9 +2,9 @@
 
 use lf_book::{Ended, solve};
 use lf_faults::FaultSet;
-use lf_symmetry::merged_answer;
 use lf_outcome::Scenario;
 use lf_plain::first_missing;
+use lf_symmetry::merged_answer;
 use std::alloc::Global;
 use std::sync::Arc;
 

@@ -1,4 +1,4 @@
-use Rattle.std.proofs.Common.{◌≡◌, subst}
+use Rattle.std.proofs.Common.{subst}
 use Rattle.lf_delays.specs.Delays.{IsRead}
 use Rattle.leastfault.proofs.delayed.given.Goals as goal
 

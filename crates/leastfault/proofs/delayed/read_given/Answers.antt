@@ -1,7 +1,4 @@
-use Rattle.std.proofs.Common.{◌≡◌, inl, inr}
-use Rattle.std.specs.Prelude.{Result, Ok, Err}
 use Rattle.std.proofs.lemmas.Result.{IfOk-weaker}
-use Rattle.lf_outcome.specs.declared.scenario.Scenario.{Scenario}
 use Rattle.leastfault.specs.Delayed.{IsGivenOf, IsGivenTo}
 use Rattle.leastfault.specs.Known.{known_of}
 use Rattle.leastfault.proofs.DelayedLemmas.{given_text}

@@ -1,4 +1,4 @@
-use Rattle.std.proofs.Common.{◌≡◌, subst, true, string_bytes}
+use Rattle.std.proofs.Common.{subst, true, string_bytes}
 use Rattle.std.proofs.lemmas.Result.{IfOk-weaker}
 use Rattle.leastfault.specs.Delayed.{IsDelayedReply}
 use Rattle.leastfault.specs.Known.{known_of}
