@@ -194,13 +194,18 @@ const LATE: &str = concat!(
     "protocol = \"redundant\"\nspread = 3\ntries = 1\noutcome = \"delivered\"\n",
 );
 
+/// The status of that scenario's answer over every delay, which is told twice.
+fn late_status(
+    rt: &(impl Threads + Wait + Clock + Sync),
+    alloc: Global,
+) -> Result<u8, BytesFault> {
+    let (one, _) = answered_twice(rt, alloc, LATE.as_bytes())?;
+    Ok(one.value.status)
+}
+
 #[test]
 fn answers_over_every_delay_agree(rt: HostRuntime) {
-    let is_one = match answered_twice(&rt, rt.alloc(), LATE.as_bytes()) {
-        Ok((one, _)) => one.value.status == 1,
-        Err(_) => false,
-    };
-    agrees(&rt, is_one, "an answer");
+    agrees(&rt, late_status(&rt, rt.alloc()) == Ok(1), "an answer");
 }
 
 /// What is to be told of a run.
