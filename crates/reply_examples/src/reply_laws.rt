@@ -195,10 +195,7 @@ const LATE: &str = concat!(
 );
 
 /// The status of that scenario's answer over every delay, which is told twice.
-fn late_status(
-    rt: &(impl Threads + Wait + Clock + Sync),
-    alloc: Global,
-) -> Result<u8, BytesFault> {
+fn late_status(rt: &(impl Threads + Wait + Clock + Sync), alloc: Global) -> Result<u8, BytesFault> {
     let (one, _) = answered_twice(rt, alloc, LATE.as_bytes())?;
     Ok(one.value.status)
 }
