@@ -20,11 +20,15 @@ mod executed;
 #[cfg(test)]
 mod files;
 #[cfg(test)]
+mod floats;
+#[cfg(test)]
 mod hints;
 #[cfg(test)]
 mod plain;
 #[cfg(test)]
 mod reading;
+#[cfg(test)]
+mod reply_laws;
 #[cfg(test)]
 mod streams;
 #[cfg(test)]

@@ -1,0 +1,6 @@
+mod FloatLemmas
+mod InputLemmas
+mod LineLemmas
+mod ReplayedLemmas
+mod SweptLemmas
+mod TwiceLemmas
