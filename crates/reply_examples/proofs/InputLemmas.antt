@@ -1,5 +1,5 @@
 -- What is said of the texts that a command reads, where it reads standard input alone.
-use Rattle.std.proofs.Common.{◌≡◌, ℕ, List, Option, Some, None, codes, refl, sym, ap, subst}
+use Rattle.std.proofs.Common.{◌≡◌, ℕ, List, Option, Some, None, codes, ap, subst}
 use Rattle.std.specs.Option.{option_map}
 use Rattle.lf_words.specs.declared.types.Asked.{Asked}
 use Rattle.lf_words.specs.Words.{file_of, protocol_file}

@@ -1,5 +1,5 @@
 -- The lines of a reply show its faults and its late notes: two that show others are two replies.
-use Rattle.std.proofs.Common.{◌≡◌, ℕ, zero, suc, ◌+◌, ◌/◌, ◌%◌, ◌<◌, Bool, true, false, not, ◌==◌}
+use Rattle.std.proofs.Common.{◌≡◌, ℕ, zero, suc, ◌+◌, ◌/◌, ◌%◌, Bool, true, false, not, ◌==◌}
 use Rattle.std.proofs.Common.{nat_lt, eqb, ne_eqb, List, [], ◌∷◌, ◌++◌, length, codes, drop, map}
 use Rattle.std.proofs.Common.{append_assoc, length-append, get_or, refl, sym, ap, ◌∙◌, arith}
 use Rattle.std.specs.Prelude.{⊤, Some, if◌then◌else◌}

@@ -1,11 +1,10 @@
 -- A reply over every delay, and the run by the words that it shows.
-use Rattle.std.proofs.Common.{◌≡◌, ℕ, List, ◌++◌, Option, Some, None, inl, inr, refl, sym, ap, subst, ◌∙◌, arith, false}
+use Rattle.std.proofs.Common.{◌≡◌, ℕ, List, ◌++◌, Option, Some, None, inl, inr, sym, ap, subst, ◌∙◌, arith, false}
 use Rattle.lf_delays.specs.Answers.{IsFirstUnder}
 use Rattle.lf_delays.specs.Told.{told}
 use Rattle.lf_delays.specs.Tight.{IsTight}
 use Rattle.lf_delays.specs.Windows.{under}
-use Rattle.lf_delays.specs.declared.delay.Delay.{Delay}
-use Rattle.lf_delays.specs.Delays.{arrive_lines, list_text}
+use Rattle.lf_delays.specs.Delays.{arrive_lines}
 use Rattle.lf_faults.specs.declared.fault.Parts.{Parts}
 use Rattle.lf_latency.specs.declared.arrivals.Arrivals.{Arrivals}
 use Rattle.lf_latency.specs.Arrivals.{arrival_in}
@@ -18,7 +17,7 @@ use Rattle.lf_scenario.proofs.Laws.{scenarios_are_one}
 use Rattle.lf_sim.specs.Settings.{world_of}
 use Rattle.leastfault.specs.Delayed.{IsDelayedReply, IsEveryDelayReply, IsTightAnswer, RepliesEveryDelay, every_delay_report}
 use Rattle.leastfault.specs.Known.{IsTextOf}
-use Rattle.leastfault.specs.Replays.{EndsInMisses, IsReplayed, set_words}
+use Rattle.leastfault.specs.Replays.{EndsInMisses, IsReplayed}
 use Rattle.leastfault.specs.Reports.{report}
 use Rattle.leastfault.specs.Shown.{RepliesRun}
 use Rattle.reply_examples.specs.Played.{IsNamedBy}

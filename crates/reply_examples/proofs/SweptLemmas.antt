@@ -1,5 +1,5 @@
 -- The lines of a sweep whose scenario is on standard input.
-use Rattle.std.proofs.Common.{◌≡◌, ℕ, ◌+◌, ◌<◌, ◌≤◌, Bool, List, length, take, codes, refl, sym, ap, subst, ◌∙◌, inl, inr, arith}
+use Rattle.std.proofs.Common.{◌≡◌, ℕ, ◌+◌, ◌≤◌, Bool, List, length, take, codes, refl, ap, subst, ◌∙◌, inl, inr, arith}
 use Rattle.std.specs.Prelude.{IfSome, Option, None, Some, Ok, string_bytes}
 use Rattle.std.specs.Option.{option_map}
 use Rattle.std.specs.Io.KnownBytes.{Appends}
@@ -13,7 +13,7 @@ use Rattle.leastfault.specs.Engines.{IsFront}
 use Rattle.leastfault.specs.Places.{IsFrontAt, place_of}
 use Rattle.leastfault_sweep.specs.declared.executing.Ended.TheVariants as ended
 use Rattle.leastfault_sweep.specs.declared.executing.SweepExecuted.{SweepExecuted}
-use Rattle.leastfault_sweep.specs.Executed.{IsEnd, IsExecuted, given_of, protocol_place, scenario_place}
+use Rattle.leastfault_sweep.specs.Executed.{IsEnd, IsExecuted, given_of}
 use Rattle.leastfault_sweep.specs.Replies.{IsSweep}
 
 none_given : (holds : Option (List ℕ) → Option (List ℕ)) (given : Option (List ℕ)) → IsFrontAt holds None longest given → given ≡ None

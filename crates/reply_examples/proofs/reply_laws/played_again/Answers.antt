@@ -1,4 +1,4 @@
-use Rattle.std.proofs.Common.{◌≡◌, IsTrue, rules, string_bytes, subst, sym, ◌∙◌}
+use Rattle.std.proofs.Common.{◌≡◌, IsTrue, rules, string_bytes, sym, ◌∙◌}
 use Rattle.reply_examples.proofs.ReplayedLemmas.{misses_again, told_as}
 use Rattle.reply_examples.proofs.reply_laws.played_again.Goals as goal
 
