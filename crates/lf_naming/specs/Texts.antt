@@ -10,9 +10,12 @@ use Rattle.lf_rules.specs.declared.definition.Variable.{Variable}
 use Rattle.lf_rules.specs.declared.definition.Definition.{Definition}
 use Rattle.lf_rule_machine.specs.declared.state.State.{State}
 use Rattle.lf_rule_machine.specs.declared.state.Note.{Note}
+use Rattle.lf_rule_machine.specs.declared.state.Packet.{Packet}
 use Rattle.lf_rule_machine.specs.Sets.{has, is_true}
+use Rattle.lf_rule_machine.specs.States.{notes_in}
 use Rattle.lf_rule_machine.specs.Values.{zero_or}
 use Rattle.lf_naming.specs.Names.{not_if, or_nothing, word_name}
+use Rattle.lf_naming.specs.Pieces.{pieces}
 
 -- a truth value
 abbrev pub truth_text : Bool → List ℕ
@@ -84,3 +87,10 @@ formed_text d (Some form) note = form_text d form note
 
 abbrev pub note_text : Definition → Note → List ℕ
 note_text d note = formed_text d (slice_get d.notes note.form) note
+
+-- notes, in order, with a plus (43) between any two: those of a packet
+abbrev pub notes_text : Definition → List (Option Note) → List ℕ
+notes_text d notes = pieces 43 (note_text d) (notes_in notes)
+
+abbrev pub packet_text : Definition → Packet → List ℕ
+packet_text d p = notes_text d p.notes

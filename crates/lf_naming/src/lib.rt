@@ -7,10 +7,12 @@ mod fact;
 mod finding;
 mod names;
 mod note;
+mod packet;
 mod state;
 mod value;
 
 pub use fact::push_fact;
 pub use finding::fact_named;
 pub use note::push_note;
+pub use packet::push_packet;
 pub use state::push_state;

@@ -1,32 +1,39 @@
-//! Which rules send the two notes of which one takes the other's place.
+//! Which rules send the note that is lost at its sender, and the one that takes its place.
 
 use lf_protocols::{Kind, Note as Sent, Protocol, State as Kept};
-use lf_rule_machine::{Moment, Note, Ruled, State, chosen, go_through, value_of};
-use lf_rules::{Definition, Event, Rule};
+use lf_rule_machine::{Moment, Note, Packet, Ruled, State, chosen, go_through, sets, value_of};
+use lf_rules::{Definition, Event, Rule, Send};
 use lf_sim::{Machine, Out, Run, Setting, Stepped};
 use std::alloc::{AllocError, Global};
 
 /// What a node has come to within a step.
-type Turn = Stepped<State, Note>;
+type Turn = Stepped<State, Packet>;
 
-/// A note, by its form, and the number of the rule that sent it.
+/// How a note is lost at its sender.
 #[derive(Clone, Copy, Debug)]
-struct Sending {
-    form: u8,
-    rule: usize,
+enum Loss {
+    /// Two rules sent the node `to` a note of one form: that of the rule `first` was lost.
+    Replaced {
+        to: u32,
+        form: u8,
+        first: usize,
+        second: usize,
+    },
+    /// The rule sent the node `to` a note of a form for which the packet had no room.
+    Left {
+        to: u32,
+        form: u8,
+        rule: usize,
+    },
+    /// The rule with this number sent two notes of one form to one node: the first was lost.
+    Twice(usize),
 }
 
-/// A note that took another one's place.
-#[derive(Clone, Copy, Debug)]
-enum Replacing {
-    /// Two rules sent the node `to` a note.
-    Rules {
-        to: u32,
-        lost: Sending,
-        kept: Sending,
-    },
-    /// The rule with this number sent both notes.
-    Rule(usize),
+/// A rule, with its number, from 1.
+#[derive(Clone, Copy)]
+struct Taken<'a> {
+    number: usize,
+    rule: &'a Rule,
 }
 
 /// What a node has sent, and is sending, at a step that is played anew.
@@ -36,11 +43,11 @@ struct Replay<'a> {
     node: u32,
     step: u32,
     turn: Turn,
-    /// For each node the number of the rule that has sent it a note, and 0 where none has.
-    senders: [usize; 8],
+    /// For each node and each place of the packet for it the number of the rule that has put a note there, and 0 where none has.
+    senders: [[usize; 4]; 8],
 }
 
-/// That a node has sent two notes to one node at a step of this run, at which it does so for the first time: to whom, and by which rules. The
+/// Which note is lost at its sender at a step of this run, at which that happens at this node for the first time: for whom it was, by which rule, and why. The
 /// error, also below, is that memory has run out.
 pub(crate) fn replaced_words(
     alloc: Global,
@@ -52,8 +59,8 @@ pub(crate) fn replaced_words(
     let found = match (setting.machine.kind(), kept(played, node, step)) {
         (Kind::Ruled(ruled), Some(state)) => {
             let replay = Replay::new(ruled, node, step, state);
-            match replay.replaced(alloc, setting, played)? {
-                Some(replacing) => Some(words(alloc, ruled.definition(), replacing)?),
+            match replay.loss(alloc, setting, played)? {
+                Some(loss) => Some(words(alloc, ruled.definition(), loss)?),
                 None => None,
             }
         }
@@ -63,7 +70,7 @@ pub(crate) fn replaced_words(
         Some(text) => Ok(text),
         None => String::from_str(
             alloc,
-            "two notes to one node in one step: the first was lost",
+            "more notes to one node in one step than a packet has room for",
         ),
     }
 }
@@ -79,26 +86,29 @@ fn kept(played: &Run<Protocol>, node: u32, step: u32) -> Option<State> {
     }
 }
 
-/// Which note took which one's place, in words.
-fn words(
-    alloc: Global,
-    definition: &Definition,
-    replacing: Replacing,
-) -> Result<String, AllocError> {
-    match replacing {
-        Replacing::Rules { to, lost, kept } => {
-            let (first, second) = (
-                form_name(definition, lost.form),
-                form_name(definition, kept.form),
-            );
-            let (one, other) = (lost.rule, kept.rule);
+/// Which note was lost, and why, in words.
+fn words(alloc: Global, definition: &Definition, loss: Loss) -> Result<String, AllocError> {
+    match loss {
+        Loss::Replaced {
+            to,
+            form,
+            first,
+            second,
+        } => {
+            let name = form_name(definition, form);
             format!(in alloc;
-                "two notes to node {to} in one step: the {first} of rule {one} was lost, since the {second} of rule {other} took its place"
+                "two notes to node {to} in one step: the {name} of rule {first} was lost, since the {name} of rule {second} took its place"
             )
         }
-        Replacing::Rule(rule) => {
+        Loss::Left { to, form, rule } => {
+            let name = form_name(definition, form);
             format!(in alloc;
-                "two notes to one node in one step, both by rule {rule}: the first was lost"
+                "notes of five names to node {to} in one step: the {name} of rule {rule} was left out, since a packet has room for four"
+            )
+        }
+        Loss::Twice(rule) => {
+            format!(in alloc;
+                "two notes of one name to one node in one step, both by rule {rule}: the first was lost"
             )
         }
     }
@@ -124,17 +134,17 @@ impl Replay<'_> {
             node,
             step,
             turn,
-            senders: [0; 8],
+            senders: [[0; 4]; 8],
         }
     }
 
-    /// The first note that takes another one's place at the step. None where there is none.
-    fn replaced(
+    /// The first note that is lost at the step. None where there is none.
+    fn loss(
         self,
         alloc: Global,
         setting: &Setting<Protocol>,
         played: &Run<Protocol>,
-    ) -> Result<Option<Replacing>, AllocError> {
+    ) -> Result<Option<Loss>, AllocError> {
         let mut replay = self;
         if let Some(found) = replay.act(alloc, Event::Begin, 0, [0; 7])? {
             return Ok(Some(found));
@@ -145,20 +155,37 @@ impl Replay<'_> {
         replay.act(alloc, Event::End, 0, [0; 7])
     }
 
-    /// Hears the notes that reach it, in order, up to the first one at which a note takes another one's place.
+    /// Hears the packets that reach it, in order, up to the first note at which one is lost.
     fn hear(
         &mut self,
         alloc: Global,
         setting: &Setting<Protocol>,
         played: &Run<Protocol>,
-    ) -> Result<Option<Replacing>, AllocError> {
+    ) -> Result<Option<Loss>, AllocError> {
         let network = &setting.network;
         if network.nodes() <= self.node || self.step == 0 || network.horizon() < self.step {
             return Ok(None);
         }
         for slot in setting.arriving(self.node, self.step) {
             let (from, sent) = (u32::from(slot.from), u32::from(slot.sent));
-            if let Some(Sent::Ruled(note)) = note_in(played, from, self.node, sent) {
+            if let Some(Sent::Ruled(packet)) = note_in(played, from, self.node, sent) {
+                if let Some(found) = self.hear_packet(alloc, from, &packet)? {
+                    return Ok(Some(found));
+                }
+            }
+        }
+        Ok(None)
+    }
+
+    /// Hears the notes of a packet, in order, up to the first one at which a note is lost.
+    fn hear_packet(
+        &mut self,
+        alloc: Global,
+        from: u32,
+        packet: &Packet,
+    ) -> Result<Option<Loss>, AllocError> {
+        for place in packet.notes.iter() {
+            if let Some(note) = place {
                 if let Some(found) = self.act(alloc, Event::Note(note.form), from, note.fields)? {
                     return Ok(Some(found));
                 }
@@ -167,14 +194,14 @@ impl Replay<'_> {
         Ok(None)
     }
 
-    /// Goes through the rules for an event, up to the first one by which a note takes another one's place.
+    /// Goes through the rules for an event, up to the first one by which a note is lost.
     fn act(
         &mut self,
         alloc: Global,
         event: Event,
         sender: u32,
         fields: [u8; 7],
-    ) -> Result<Option<Replacing>, AllocError> {
+    ) -> Result<Option<Loss>, AllocError> {
         let definition = self.ruled.definition();
         let at = Moment {
             nodes: self.ruled.nodes(),
@@ -185,42 +212,102 @@ impl Replay<'_> {
             fields,
         };
         for number in chosen(alloc, definition, at.nodes, at.me, &at.given, event)?.as_slice() {
-            let (rule, turn) = (taken(definition, &at, &self.turn.state, *number), self.turn);
+            let before = self.turn;
             go_through(definition, &at, &mut self.turn, &[*number]);
-            if let Some(found) = self.compared(&turn, rule) {
-                return Ok(Some(found));
+            if let Some(taken) = rule_taken(definition, &at, &before.state, *number) {
+                if self.turn.state.replaced && !before.state.replaced {
+                    return Ok(Some(self.found(&at, &before, taken)));
+                }
+                self.keep_senders(&before, taken.number);
             }
         }
         Ok(None)
     }
 
-    /// Notes to whom the rule with a number has sent, which has been taken at this turn. Tells the first note that took another one's place.
-    fn compared(&mut self, turn: &Turn, rule: usize) -> Option<Replacing> {
-        let replaces = self.turn.state.replaced && !turn.state.replaced;
-        for (to, sender) in self.senders.iter_mut().enumerate() {
+    /// Keeps the number of the rule that has been taken at this turn, for the notes that it has put.
+    fn keep_senders(&mut self, before: &Turn, rule: usize) {
+        for (to, senders) in self.senders.iter_mut().enumerate() {
             let to = u32::try_from(to).unwrap_or(8);
-            match (turn.out.to(to), self.turn.out.to(to)) {
-                (None, Some(_)) => *sender = rule,
-                (Some(old), Some(new)) if replaces && !old.same(&new) => {
-                    let lost = Sending {
-                        form: old.form,
-                        rule: *sender,
-                    };
-                    let kept = Sending {
-                        form: new.form,
-                        rule,
-                    };
-                    return Some(Replacing::Rules { to, lost, kept });
+            let (old, new) = (notes_to(before, to), notes_to(&self.turn, to));
+            for (sender, (old, new)) in senders.iter_mut().zip(old.iter().zip(new.iter())) {
+                if old.is_none() && new.is_some() {
+                    *sender = rule;
                 }
-                _ => {}
             }
         }
-        if replaces {
-            Some(Replacing::Rule(rule))
-        } else {
-            None
+    }
+
+    /// How a note was lost as this rule was taken at this turn.
+    fn found(&self, at: &Moment, before: &Turn, taken: Taken<'_>) -> Loss {
+        for to in 0..at.nodes {
+            if let Some(loss) = self.replaced(before, to, taken.number) {
+                return loss;
+            }
+        }
+        for send in taken.rule.sends.as_slice() {
+            if let Some(loss) = self.left(at, send, taken.number) {
+                return loss;
+            }
+        }
+        Loss::Twice(taken.number)
+    }
+
+    /// The note to a node of an earlier rule in whose place the rule with a number has put another one.
+    fn replaced(&self, before: &Turn, to: u32, rule: usize) -> Option<Loss> {
+        let (old, new) = (notes_to(before, to), notes_to(&self.turn, to));
+        let senders = self.senders.get(to as usize)?;
+        for (first, (old, new)) in senders.iter().zip(old.iter().zip(new.iter())) {
+            if let (Some(old), Some(new)) = (old, new) {
+                if !old.same(new) {
+                    return Some(Loss::Replaced {
+                        to,
+                        form: old.form,
+                        first: *first,
+                        second: rule,
+                    });
+                }
+            }
+        }
+        None
+    }
+
+    /// The first receiver whose packet hasn't the note that the rule with a number has sent it.
+    fn left(&self, at: &Moment, send: &Send, rule: usize) -> Option<Loss> {
+        let receivers = value_of(self.ruled.definition(), at, &self.turn.state, &send.to);
+        for to in 0..at.nodes {
+            if sets::has(receivers, u64::from(to))
+                && to != at.me
+                && !has_form(&notes_to(&self.turn, to), send.form)
+            {
+                return Some(Loss::Left {
+                    to,
+                    form: send.form,
+                    rule,
+                });
+            }
+        }
+        None
+    }
+}
+
+/// The notes for a node.
+fn notes_to(turn: &Turn, to: u32) -> [Option<Note>; 4] {
+    match turn.out.to(to) {
+        Some(packet) => packet.notes,
+        None => [None; 4],
+    }
+}
+
+/// Whether one of some notes is of this form.
+fn has_form(notes: &[Option<Note>], form: u8) -> bool {
+    for note in notes {
+        if let Some(note) = note {
+            if note.form == form {
+                return true;
+            }
         }
     }
+    false
 }
 
 /// What a node sent to another at a step of a run.
@@ -232,29 +319,37 @@ fn note_in(played: &Run<Protocol>, from: u32, to: u32, step: u32) -> Option<Sent
     }
 }
 
-/// The number of the rule that is taken of the chain with a number, and 0 where none is.
-fn taken(definition: &Definition, at: &Moment, state: &State, number: usize) -> usize {
+/// The rule that is taken of the chain with a number. None where none is.
+fn rule_taken<'a>(
+    definition: &'a Definition,
+    at: &Moment,
+    state: &State,
+    number: usize,
+) -> Option<Taken<'a>> {
     let mut before: usize = 0;
     for (i, chain) in definition.chains.as_slice().iter().enumerate() {
+        let rules = chain.rules.as_slice();
         if i == number {
-            let place = first_true(definition, at, state, chain.rules.as_slice());
-            return if place == 0 {
-                0
-            } else {
-                before.saturating_add(place)
-            };
+            return first_true(definition, at, state, rules, before);
         }
-        before = before.saturating_add(chain.rules.len());
+        before = before.saturating_add(rules.len());
     }
-    0
+    None
 }
 
-/// The place, from 1, of the first rule whose guard is true, and 0 where there is none.
-fn first_true(definition: &Definition, at: &Moment, state: &State, rules: &[Rule]) -> usize {
+/// The first rule whose guard is true, behind so many others. None where there is none.
+fn first_true<'a>(
+    definition: &Definition,
+    at: &Moment,
+    state: &State,
+    rules: &'a [Rule],
+    before: usize,
+) -> Option<Taken<'a>> {
     for (i, rule) in rules.iter().enumerate() {
         if value_of(definition, at, state, &rule.guard) != 0 {
-            return i.saturating_add(1);
+            let number = before.saturating_add(i).saturating_add(1);
+            return Some(Taken { number, rule });
         }
     }
-    0
+    None
 }

@@ -10,9 +10,9 @@ use lf_protocols::{Fact, Protocol};
 use lf_sim::{Run, Setting, run};
 use std::alloc::{AllocError, Global};
 
-/// Which rules no node of the scenario has, and where, in the run without faults, a value first went past its range, and where a note first
-/// took another one's place, and which rules sent the two, each on a line of its own, without the last line feed. Nothing where there is
-/// none of this, or where the protocol is none of rules. The error, also below, is that memory has run out.
+/// Which rules no node of the scenario has, and where, in the run without faults, a value first went past its range, and where a note was first lost at its
+/// sender, since another one of its name took its place or the packet had no room for it, and by which rules, each on a line of its own, without the last
+/// line feed. Nothing where there is none of this, or where the protocol is none of rules. The error, also below, is that memory has run out.
 pub fn run_notes(alloc: Global, scenario: &Scenario) -> Result<String, AllocError> {
     let setting = scenario.setting();
     let played = run(alloc, setting, &FaultSet::empty())?;

@@ -21,7 +21,7 @@ use Rattle.lf_protocols.specs.TwoPhaseTable.{two_phase_end, two_phase_step}
 use Rattle.lf_protocols.specs.ThreePhaseTable.{three_phase_hear, three_phase_end, three_phase_join, three_phase_wait, three_phase_step}
 use Rattle.lf_protocols.specs.PrimaryBackupTable.{primary_hear, primary_end, backup_hear, backup_end, client_open, client_hear, primary_backup_step}
 use Rattle.lf_rule_machine.specs.declared.state.State.{State as Values}
-use Rattle.lf_rule_machine.specs.declared.state.Note.{Note as Message}
+use Rattle.lf_rule_machine.specs.declared.state.Packet.{Packet as Message}
 use Rattle.lf_rule_machine.specs.Instances.{Instance}
 use Rattle.lf_rule_machine.specs.Machines as rules
 use Rattle.lf_rule_machine.specs.Ruleds.{rules_of}

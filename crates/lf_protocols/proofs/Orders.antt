@@ -1,5 +1,7 @@
 -- Orders and tests for equality that tell apart what differs, put together from those of the parts.
 use Rattle.std.proofs.Common.{◌≡◌, Bool, true, false, List, [], ◌∷◌, refl, sym, ap, ◌∙◌, inl, inr}
+use Rattle.std.specs.Prelude.{None, Some}
+use Rattle.std.specs.Option.{option_cmp}
 use Rattle.std.specs.declared.cmp.Ordering.{Ordering}
 use Rattle.std.specs.declared.cmp.Ordering.TheVariants.{Less, Equal, Greater}
 use Rattle.std.specs.Ordering.{ordering_then, bool_cmp, is_eq}
@@ -36,6 +38,12 @@ module _ {A : Type 0} (R : A → A → Ordering) (exact : CmpEqualImpliesEq R) w
       let both = then_Equal (R x y) (slice_cmp R xs ys) h in
       let first = exact x y both.0 in let rest = exact_lists xs ys both.1 in
       λ i. first i ∷ rest i
+
+  pub exact_options : CmpEqualImpliesEq (option_cmp R)
+  exact_options None None h = refl
+  exact_options None (Some y) h = cc
+  exact_options (Some x) None h = cc
+  exact_options (Some x) (Some y) h = ap Some (exact x y h)
 
   -- a test that agrees with the order
   pub same_by_order : (x y : A) (test : Bool) → test ≡ is_eq (R x y) → test ≡ true → x ≡ y

@@ -32,7 +32,7 @@ use Rattle.lf_protocols.specs.ThreePhaseTable.{three_phase_hear, three_phase_end
 use Rattle.lf_protocols.specs.PrimaryBackupTable.{primary_hear, is_repl, backup_hear, claim, client_open, client_hear}
 use Rattle.lf_protocols.specs.PrimaryBackupTable.{primary_step, backup_step, client_step, primary_backup_step}
 use Rattle.lf_rule_machine.specs.declared.state.State.{State as Values}
-use Rattle.lf_rule_machine.specs.declared.state.Note.{Note as Message}
+use Rattle.lf_rule_machine.specs.declared.state.Packet.{Packet as Message}
 use Rattle.lf_rule_machine.specs.Instances.{Instance}
 use Rattle.lf_rule_machine.specs.RuledLemmas.{fold-keeps, IsCalm, begun-calm, heard-calm, ended-calm}
 use Rattle.lf_protocols.specs.RuledTurns.{as_any, any_out, begin_by_rules, hear_note, hear_by_rules, step_by_rules}

@@ -5,7 +5,7 @@ use Rattle.lf_sim.specs.declared.letter.Letter.{Letter}
 use Rattle.lf_sim.specs.declared.out.Out.{Out}
 use Rattle.lf_sim.specs.declared.out.Stepped.{Stepped}
 use Rattle.lf_rule_machine.specs.declared.state.State.{State as Values}
-use Rattle.lf_rule_machine.specs.declared.state.Note.{Note as Message}
+use Rattle.lf_rule_machine.specs.declared.state.Packet.{Packet as Message}
 use Rattle.lf_rule_machine.specs.Instances.{Instance}
 use Rattle.lf_rule_machine.specs.Machines as rules
 use Rattle.lf_protocols.specs.declared.note.Note.{Note}

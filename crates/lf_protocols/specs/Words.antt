@@ -104,7 +104,7 @@ facts_of (kinds.Ruled m) = map facts.Ruled (named.facts_of m.definition)
 
 -- the text of a note, and of a state, in a trace of the protocol
 abbrev pub note_text : Kind → Note → List ℕ
-note_text (kinds.Ruled m) (notes.Ruled note) = texts.note_text m.definition note
+note_text (kinds.Ruled m) (notes.Ruled packet) = texts.packet_text m.definition packet
 note_text k note = note_word note
 
 abbrev pub standing_text : Kind → State → List ℕ

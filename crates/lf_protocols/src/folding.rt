@@ -7,7 +7,7 @@ ghost use Rattle.lf_protocols.specs.declared.protocol.Kind.{Kind};
 ghost use Rattle.lf_protocols.specs.declared.state.State.{State};
 ghost use Rattle.lf_protocols.specs.Folds.{begin_of, hear_of, end_of, folded_step};
 ghost use Rattle.lf_rule_machine.specs.declared.state.State.{State as Values};
-ghost use Rattle.lf_rule_machine.specs.declared.state.Note.{Note as Message};
+ghost use Rattle.lf_rule_machine.specs.declared.state.Packet.{Packet as Message};
 ghost use Rattle.lf_rule_machine.specs.declared.fact.Fact.{Fact as Told};
 ghost use Rattle.lf_rule_machine.specs.Instances.{Instance};
 ghost use Rattle.lf_rule_machine.specs.Ruleds.{rules_of};

@@ -32,8 +32,8 @@ pub enum Note {
     Beat,
     /// Of a replica: the sender is the primary from now on.
     Claim,
-    /// A note of a protocol of rules.
-    Ruled(lf_rule_machine::Note),
+    /// What a node of a protocol of rules sends another one in one step: one note or more.
+    Ruled(lf_rule_machine::Packet),
 }
 
 impl Note {

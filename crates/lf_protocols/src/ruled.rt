@@ -11,7 +11,7 @@ use lf_rule_machine::Ruled;
 use lf_sim::{Letter, Out, Stepped};
 
 /// What a node has come to within a step.
-pub type Turn = Stepped<rules::State, rules::Note>;
+pub type Turn = Stepped<rules::State, rules::Packet>;
 
 /// What a node does at step `t`.
 pub fn step(
@@ -94,7 +94,7 @@ fn any_turn(turn: &Turn) -> Stepped<State, Note>
 }
 
 /// Notes of rules as notes of all protocols.
-fn any_out(out: &Out<rules::Note>) -> Out<Note>
+fn any_out(out: &Out<rules::Packet>) -> Out<Note>
     ensures { result ≡ any_out out.now }
 {
     Out {
@@ -110,7 +110,7 @@ fn any_out(out: &Out<rules::Note>) -> Out<Note>
 }
 
 /// A note of rules as one of all protocols.
-fn as_any(note: Option<rules::Note>) -> Option<Note>
+fn as_any(note: Option<rules::Packet>) -> Option<Note>
     ensures { result ≡ as_any note }
 {
     match note {
@@ -130,7 +130,7 @@ fn ruled_turn(state: rules::State, out: &Out<Note>) -> Turn
 }
 
 /// Those of some notes that are notes of rules.
-fn ruled_out(out: &Out<Note>) -> Out<rules::Note>
+fn ruled_out(out: &Out<Note>) -> Out<rules::Packet>
     ensures { result ≡ ruled_out out.now }
 {
     Out {
@@ -146,7 +146,7 @@ fn ruled_out(out: &Out<Note>) -> Out<rules::Note>
 }
 
 /// A note as one of rules, where it is one.
-fn as_ruled(note: Option<Note>) -> Option<rules::Note>
+fn as_ruled(note: Option<Note>) -> Option<rules::Packet>
     ensures { result ≡ as_ruled note }
 {
     match note {

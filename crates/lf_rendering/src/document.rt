@@ -7,6 +7,7 @@ use crate::failed::{Failed, failed_atoms};
 use lf_faults::{FaultSet, fault_text};
 use lf_outcome::{Formula, holds};
 use lf_protocols::{Fact, Note, Protocol};
+use lf_rule_machine::Packet;
 use lf_sim::{Run, Setting};
 use serde::Serialize;
 use std::alloc::{AllocError, Global};
@@ -33,20 +34,28 @@ struct Step {
     step: u32,
     /// The nodes' states after the step, in words; nothing for a node that is down.
     states: Vec<Option<String>>,
-    /// The notes that are sent at the step, by sender and then by receiver.
+    /// What is sent at the step, by sender and then by receiver.
     notes: Vec<Sent>,
 }
 
-/// A note.
+/// What a node sends another one at a step.
 #[derive(Serialize, Drop)]
 struct Sent {
     from: u32,
     to: u32,
-    note: String,
+    note: Said,
     /// `heard`, `omitted`, or `lost` where it arrives after the last step or at a node that is down.
     fate: &'static str,
     /// The step at which it arrives, or would.
     arrival: u32,
+}
+
+/// The text of a note, or of more notes in one packet the list of their texts, in order.
+#[derive(Serialize, Drop)]
+#[serde(untagged)]
+enum Said {
+    One(String),
+    More(Vec<String>),
 }
 
 /// What is told.
@@ -195,8 +204,7 @@ impl Telling<'_> {
         requires first { 1 ≤ step }
         requires last { step ≤ (world_of self.now.setting.now).horizon }
     {
-        let mut text = String::new(self.alloc);
-        self.setting.machine.push_note(note, &mut text)?;
+        let note = self.said(note)?;
         let arrival = self.setting.network.arrival(from, to, step);
         let fate = if self.run.set().omits(from, to, step) {
             "omitted"
@@ -208,9 +216,40 @@ impl Telling<'_> {
         Ok(Sent {
             from,
             to,
-            note: text,
+            note,
             fate,
             arrival,
         })
+    }
+
+    /// The text of a note, or those of the notes of a packet.
+    fn said(&self, note: &Note) -> Result<Said, AllocError> {
+        if let Note::Ruled(packet) = note {
+            let texts = self.note_texts(packet)?;
+            if texts.len() > 1 {
+                return Ok(Said::More(texts));
+            }
+        }
+        Ok(Said::One(self.note_text(note)?))
+    }
+
+    /// The texts of the notes of a packet, in order.
+    fn note_texts(&self, packet: &Packet) -> Result<Vec<String>, AllocError> {
+        let mut texts = Vec::new(self.alloc);
+        for place in packet.notes.iter() {
+            if place.is_some() {
+                let mut alone = Packet::empty();
+                alone.notes[0] = *place;
+                texts.push(self.note_text(&Note::Ruled(alone))?)?;
+            }
+        }
+        Ok(texts)
+    }
+
+    /// The text of a note.
+    fn note_text(&self, note: &Note) -> Result<String, AllocError> {
+        let mut text = String::new(self.alloc);
+        self.setting.machine.push_note(note, &mut text)?;
+        Ok(text)
     }
 }

@@ -1,9 +1,11 @@
 -- The derived orders and equalities of states and notes tell apart what differs.
 use Rattle.std.proofs.Common.{◌≡◌, true, refl}
+use Rattle.std.specs.Option.{option_cmp}
 use Rattle.std.specs.Ordering.{nat_cmp, bool_cmp}
 use Rattle.std.specs.Cmp.Lexicographic.{slice_cmp}
 use Rattle.std.proofs.lemmas.Map.Lookups.{CmpEqualImpliesEq, exact_bytes, exact_unsigned}
 use Rattle.lf_rule_machine.specs.contracts.state.NoteOrd.TheImpl as message_ord
+use Rattle.lf_rule_machine.specs.contracts.state.PacketOrd.TheImpl as packet_ord
 use Rattle.lf_rule_machine.specs.contracts.state.StateOrd.TheImpl as values_ord
 use Rattle.lf_protocols.specs.declared.note.Note.{Note}
 use Rattle.lf_protocols.specs.declared.state.State.{State}
@@ -24,12 +26,16 @@ use Rattle.lf_protocols.specs.contracts.state.State as state
 use Rattle.lf_protocols.specs.contracts.state.StateOrd.TheImpl as state_ord
 use Rattle.lf_protocols.specs.contracts.state.StateOrd.TheImpl.Laws as state_laws
 use Rattle.lf_protocols.specs.contracts.state.StatePartialEq.TheImpl as state_eq
-use Rattle.lf_residual.proofs.Comparing.{then_Equal, exact_flags, exact_lists, exact_variants, exact_bare, bare, same_by_order}
+use Rattle.lf_residual.proofs.Comparing.{then_Equal, exact_flags, exact_lists, exact_options, exact_variants, exact_bare, bare, same_by_order}
 
 exact_messages : CmpEqualImpliesEq (message_ord.cmp-value).it
 exact_messages x y h =
     let both = then_Equal (nat_cmp x.form y.form) (slice_cmp nat_cmp x.fields y.fields) h in
     λ i. record { form = exact_unsigned x.form y.form both.0 i; fields = exact_bytes x.fields y.fields both.1 i }
+
+exact_packets : CmpEqualImpliesEq (packet_ord.cmp-value).it
+exact_packets x y h =
+    λ i. record { notes = exact_lists (option_cmp (message_ord.cmp-value).it) (exact_options (message_ord.cmp-value).it exact_messages) x.notes y.notes h i }
 
 exact_values : CmpEqualImpliesEq (values_ord.cmp-value).it
 exact_values x y h =
@@ -44,7 +50,7 @@ exact_values x y h =
 pub exact_notes : CmpEqualImpliesEq (note_ord.cmp-value).it
 exact_notes =
     exact_variants note.enum _
-    (bare (bare (bare (bare (bare (bare (bare (bare (bare (bare (bare (bare (bare (λ x y h i. (exact_messages x.0 y.0 h i, tt), tt))))))))))))))
+    (bare (bare (bare (bare (bare (bare (bare (bare (bare (bare (bare (bare (bare (λ x y h i. (exact_packets x.0 y.0 h i, tt), tt))))))))))))))
 
 exact_holdings : CmpEqualImpliesEq (holding_ord.cmp-value).it
 exact_holdings = exact_bare holding.enum tt

@@ -1,18 +1,20 @@
 -- No step takes a variable's value past the greatest of its kind.
 use Rattle.std.proofs.Common.{◌≡◌, ℕ, zero, suc, ◌≤◌, List, [], ◌∷◌, replicate, refl, sym, subst, arith}
-use Rattle.std.specs.Prelude.{slice_get}
+use Rattle.std.specs.Prelude.{Option, None, Some, slice_get}
 use Rattle.std.specs.List.{fold}
 use Rattle.lf_sim.specs.declared.letter.Letter.{Letter}
+use Rattle.lf_sim.specs.declared.out.Stepped.{Stepped}
 use Rattle.lf_rules.specs.declared.rule.Event.TheVariants as events
 use Rattle.lf_rules.specs.declared.definition.Definition.{Definition}
 use Rattle.lf_rules.specs.Kinds.{most_of}
 use Rattle.lf_rule_machine.specs.declared.state.State.{State}
 use Rattle.lf_rule_machine.specs.declared.state.Note.{Note}
+use Rattle.lf_rule_machine.specs.declared.state.Packet.{Packet}
 use Rattle.lf_rule_machine.specs.States.{zeros}
 use Rattle.lf_rule_machine.specs.Values.{zero_or}
 use Rattle.lf_rule_machine.specs.Ranges.{IsInRange}
 use Rattle.lf_rule_machine.proofs.Laws.{act-ranged}
-use Rattle.lf_rule_machine.specs.Machines.{no_fields, opened, moment, begin_of, hear_of, step_of, start_of, wake_of}
+use Rattle.lf_rule_machine.specs.Machines.{no_fields, opened, moment, begin_of, hear_note, hear_of, step_of, start_of, wake_of}
 
 zero-there : (k i : ℕ) → zero_or (slice_get (replicate k 0) i) ≡ 0
 zero-there zero i = refl
@@ -33,10 +35,16 @@ module _ (d : Definition) (nodes : ℕ) (given : List (List ℕ)) where
   pub wake-ranged : (n t : ℕ) (s : State) → IsInRange d s → IsInRange d (wake_of d nodes given n t s)
   wake-ranged n t s ranged = act-ranged d (moment nodes given n t 0 no_fields) events.Wake (opened s) ranged
 
-  pub step-ranged : (n t : ℕ) (s : State) (inbox : List (Letter Note)) → IsInRange d s → IsInRange d (step_of d nodes given n t s inbox).state
+  noted-ranged : (n t from : ℕ) (turn : Stepped State Packet) (note : Option Note) → IsInRange d turn.state
+      → IsInRange d (hear_note d nodes given n t from turn note).state
+  noted-ranged n t from turn None ranged = ranged
+  noted-ranged n t from turn (Some note) ranged = act-ranged d (moment nodes given n t from note.fields) (events.Note note.form) turn ranged
+
+  pub step-ranged : (n t : ℕ) (s : State) (inbox : List (Letter Packet)) → IsInRange d s → IsInRange d (step_of d nodes given n t s inbox).state
   step-ranged n t s inbox ranged =
       act-ranged d (moment nodes given n t 0 no_fields) events.End _
       (fold-keeps (λ turn. IsInRange d turn.state) (hear_of d nodes given n t)
-      (λ turn letter heard. act-ranged d (moment nodes given n t letter.from letter.note.fields) (events.Note letter.note.form) turn heard)
+      (λ turn letter heard. fold-keeps (λ turn. IsInRange d turn.state) (hear_note d nodes given n t letter.from) (noted-ranged n t letter.from) turn
+      letter.note.notes heard)
       (begin_of d nodes given n t s) inbox
       (act-ranged d (moment nodes given n t 0 no_fields) events.Begin (opened s) ranged))

@@ -11,7 +11,7 @@ use Rattle.lf_rules.specs.declared.rule.Rule.{Rule}
 use Rattle.lf_rules.specs.declared.definition.Definition.{Definition}
 use Rattle.lf_rule_machine.specs.declared.moment.Moment.{Moment}
 use Rattle.lf_rule_machine.specs.declared.state.State.{State}
-use Rattle.lf_rule_machine.specs.declared.state.Note.{Note}
+use Rattle.lf_rule_machine.specs.declared.state.Packet.{Packet}
 use Rattle.lf_rule_machine.specs.declared.sending.Draft.{Draft}
 use Rattle.lf_rule_machine.specs.Sets.{is_true}
 use Rattle.lf_rule_machine.specs.Values.{value_of}
@@ -50,18 +50,18 @@ module _ (d : Definition) (at : Moment) where
   fill-end kinds draft k es h = ap (fill d at kinds draft k) (rest-none es k h)
 
   -- a chain by what was taken: once a rule was taken, nothing changes
-  flagged-stays : (turn : Stepped State Note) (rules : List Rule)
+  flagged-stays : (turn : Stepped State Packet) (rules : List Rule)
       → fold (flagged d at) (record { turn = turn; taken = true }) rules ≡ record { turn = turn; taken = true }
   flagged-stays turn [] = refl
   flagged-stays turn (rule ∷ rules) = flagged-stays turn rules
 
-  flagged-by : (turn : Stepped State Note) (rule : Rule) (rules : List Rule) (b : Bool)
+  flagged-by : (turn : Stepped State Packet) (rule : Rule) (rules : List Rule) (b : Bool)
       → take_first d at turn rules ≡ (fold (flagged d at) (untaken turn) rules).turn
       → do_found d at turn (cond b (Some rule) (first_true d at turn.state rules))
       ≡ (fold (flagged d at) (cond b (record { turn = do_rule d at turn rule; taken = true }) (untaken turn)) rules).turn
   flagged-by turn rule rules true h = sym (ap (λ c. c.turn) (flagged-stays (do_rule d at turn rule) rules))
   flagged-by turn rule rules false h = h
 
-  pub take-flagged : (turn : Stepped State Note) (rules : List Rule) → take_first d at turn rules ≡ (fold (flagged d at) (untaken turn) rules).turn
+  pub take-flagged : (turn : Stepped State Packet) (rules : List Rule) → take_first d at turn rules ≡ (fold (flagged d at) (untaken turn) rules).turn
   take-flagged turn [] = refl
   take-flagged turn (rule ∷ rules) = flagged-by turn rule rules (is_true (value_of d at turn.state rule.guard)) (take-flagged turn rules)

@@ -75,7 +75,7 @@ module _ (d : Definition) (nodes : ℕ) (given : List (List ℕ)) where
       all-true (x ∷ xs) = all-true xs
 
   -- no chain is on a form of notes from 16 on
-  chains-formed : is_well_formed d ≡ true → list_all (is_chain d) d.chains ≡ true
+  pub chains-formed : is_well_formed d ≡ true → list_all (is_chain d) d.chains ≡ true
   chains-formed formed =
       seventh (is_in_limits d) (are_variables d 0 d.variables) (list_all (is_form d) d.notes) (list_all (is_constant d) d.given)
       (list_all (is_let d) d.lets) (list_all (is_fact d) d.facts) (list_all (is_chain d) d.chains) (list_all (is_shown d) d.trace) formed

@@ -6,3 +6,9 @@ pub mod Laws
 mod RangesLemmas
 mod IndexesLemmas
 mod FactRangesLemmas
+mod PacketsLemmas
+mod PackingLemmas
+mod FormedLemmas
+mod SinglesLemmas
+mod SingleRunsLemmas
+mod OneFormLemmas

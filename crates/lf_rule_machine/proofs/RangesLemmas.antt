@@ -16,6 +16,7 @@ use Rattle.lf_rules.specs.Kinds.{most_of}
 use Rattle.lf_rule_machine.specs.declared.moment.Moment.{Moment}
 use Rattle.lf_rule_machine.specs.declared.state.State.{State}
 use Rattle.lf_rule_machine.specs.declared.state.Note.{Note}
+use Rattle.lf_rule_machine.specs.declared.state.Packet.{Packet}
 use Rattle.lf_rule_machine.specs.Values.{zero_or, value_of}
 use Rattle.lf_rule_machine.specs.declared.sending.Draft.{Draft}
 use Rattle.lf_rule_machine.specs.Events.{fitted, is_passed, is_receiver, place, put, assign_to, assign, fill_as, fill}
@@ -68,13 +69,13 @@ module _ (d : Definition) (at : Moment) where
   fill-ranged kinds draft k (e ∷ es) ranged =
       fill-ranged kinds (fill_as d at draft k (slice_get kinds k) e) (k + 1) es (filled-ranged draft k (slice_get kinds k) e ranged)
 
-  abbrev IsRanged : Stepped State Note → Type 0
+  abbrev IsRanged : Stepped State Packet → Type 0
   IsRanged turn = IsInRange d turn.state
 
-  put-ranged : (set : ℕ) (note : Note) (turn : Stepped State Note) (m : ℕ) → IsRanged turn → IsRanged (put at set note turn m)
+  put-ranged : (set : ℕ) (note : Note) (turn : Stepped State Packet) (m : ℕ) → IsRanged turn → IsRanged (put at set note turn m)
   put-ranged set note turn m ranged = cond-keeps IsRanged (is_receiver at set m) (place note turn m) turn ranged ranged
 
-  send-ranged : (turn : Stepped State Note) (x : Send) → IsRanged turn → IsRanged (send d at turn x)
+  send-ranged : (turn : Stepped State Packet) (x : Send) → IsRanged turn → IsRanged (send d at turn x)
   send-ranged turn x ranged =
       let draft = drafted d at turn.state x in
       let note : Note = record { form = x.form; fields = draft.fields } in
@@ -82,17 +83,17 @@ module _ (d : Definition) (at : Moment) where
       fold-keeps IsRanged (put at set note) (put-ranged set note) (record { state = draft.state; out = turn.out }) (range_with_len 0 at.nodes)
       (fill-ranged (kinds_of (slice_get d.notes x.form)) _ 0 x.fields ranged)
 
-  rule-ranged : (turn : Stepped State Note) (found : Option Rule) → IsRanged turn → IsRanged (do_found d at turn found)
+  rule-ranged : (turn : Stepped State Packet) (found : Option Rule) → IsRanged turn → IsRanged (do_found d at turn found)
   rule-ranged turn None ranged = ranged
   rule-ranged turn (Some rule) ranged =
       fold-keeps IsRanged (send d at) send-ranged (record { state = fold (assign d at) turn.state rule.sets; out = turn.out }) rule.sends
       (fold-keeps (IsInRange d) (assign d at) assign-ranged turn.state rule.sets ranged)
 
-  pass-ranged : (event : Event) (turn : Stepped State Note) (chain : Chain) → IsRanged turn → IsRanged (pass d at event turn chain)
+  pass-ranged : (event : Event) (turn : Stepped State Packet) (chain : Chain) → IsRanged turn → IsRanged (pass d at event turn chain)
   pass-ranged event turn chain ranged =
       cond-keeps IsRanged (is_passed at.nodes at.me at.given event chain) (take_first d at turn chain.rules) turn
       (rule-ranged turn (first_true d at turn.state chain.rules) ranged) ranged
 
-  pub act-ranged : (event : Event) (turn : Stepped State Note) → IsInRange d turn.state → IsInRange d (act d at event turn).state
+  pub act-ranged : (event : Event) (turn : Stepped State Packet) → IsInRange d turn.state → IsInRange d (act d at event turn).state
   unfolding act
   act-ranged event turn ranged = fold-keeps IsRanged (pass d at event) (pass-ranged event) turn d.chains ranged

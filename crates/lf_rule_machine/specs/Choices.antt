@@ -6,7 +6,7 @@ use Rattle.lf_rules.specs.declared.rule.Chain.{Chain}
 use Rattle.lf_rules.specs.declared.definition.Definition.{Definition}
 use Rattle.lf_rule_machine.specs.declared.moment.Moment.{Moment}
 use Rattle.lf_rule_machine.specs.declared.state.State.{State}
-use Rattle.lf_rule_machine.specs.declared.state.Note.{Note}
+use Rattle.lf_rule_machine.specs.declared.state.Packet.{Packet}
 use Rattle.lf_rule_machine.specs.Events.{is_passed, take_first}
 
 -- the numbers, from i on, of the chains of which f is so
@@ -20,9 +20,9 @@ chosen d nodes me given event = numbers_of (is_passed nodes me given event) 0 d.
 
 -- a chain that is gone through, by its number
 module _ (d : Definition) (at : Moment) where
-  abbrev pub take_of : Stepped State Note → Option Chain → Stepped State Note
+  abbrev pub take_of : Stepped State Packet → Option Chain → Stepped State Packet
   take_of turn None = turn
   take_of turn (Some chain) = take_first d at turn chain.rules
 
-  abbrev pub take_at : Stepped State Note → ℕ → Stepped State Note
+  abbrev pub take_at : Stepped State Packet → ℕ → Stepped State Packet
   take_at turn i = take_of turn (slice_get d.chains i)

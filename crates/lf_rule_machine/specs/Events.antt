@@ -19,9 +19,10 @@ use Rattle.lf_rules.specs.Kinds.{most_of}
 use Rattle.lf_rule_machine.specs.declared.moment.Moment.{Moment}
 use Rattle.lf_rule_machine.specs.declared.state.State.{State}
 use Rattle.lf_rule_machine.specs.declared.state.Note.{Note}
+use Rattle.lf_rule_machine.specs.declared.state.Packet.{Packet}
 use Rattle.lf_rule_machine.specs.declared.sending.Draft.{Draft}
 use Rattle.lf_rule_machine.specs.Sets.{is_true, has}
-use Rattle.lf_rule_machine.specs.States.{same_note}
+use Rattle.lf_rule_machine.specs.States.{packed, loses, packet_of}
 use Rattle.lf_rule_machine.specs.Values.{value_of, fixed_value}
 
 -- a value past the greatest of its kind becomes that one, and clamped is remembered
@@ -48,35 +49,33 @@ same_event one other = false
 abbrev pub is_passed : ℕ → ℕ → List ℕ → Event → Chain → Bool
 is_passed nodes me given event chain = same_event chain.on event && has (fixed_value nodes given chain.who) me
 
--- there was another note
-abbrev pub is_another : Option Note → Note → Bool
-is_another None note = false
-is_another (Some old) note = not (same_note old note)
-
 abbrev pub kinds_of : Option NoteForm → List Kind
 kinds_of None = []
 kinds_of (Some form) = form.fields
 
--- a note for m: where there was another one, that is remembered
-abbrev pub place : Note → Stepped State Note → ℕ → Stepped State Note
-place note turn m = record {
+-- a note for m is put into the packet for m: that a note is lost by that is remembered
+abbrev pub place_in : Note → Stepped State Packet → ℕ → Packet → Stepped State Packet
+place_in note turn m packet = record {
   state = record {
     values = turn.state.values;
     clamped = turn.state.clamped;
-    replaced = turn.state.replaced || is_another (note_to turn.out m) note;
+    replaced = turn.state.replaced || loses packet note;
   };
-  out = with_note turn.out m note;
+  out = with_note turn.out m (packed packet note);
 }
 
+abbrev pub place : Note → Stepped State Packet → ℕ → Stepped State Packet
+place note turn m = place_in note turn m (packet_of (note_to turn.out m))
+
 module _ (at : Moment) where
-  -- for each node of the set but this one the note takes its place
+  -- for each node of the set but this one the note is put
   abbrev pub is_receiver : ℕ → ℕ → Bool
   is_receiver set m = has set m && not (m == at.me)
 
-  abbrev pub put : ℕ → Note → Stepped State Note → ℕ → Stepped State Note
+  abbrev pub put : ℕ → Note → Stepped State Packet → ℕ → Stepped State Packet
   put set note turn m = if is_receiver set m then place note turn m else turn
 
-  abbrev pub put_all : ℕ → Note → Stepped State Note → Stepped State Note
+  abbrev pub put_all : ℕ → Note → Stepped State Packet → Stepped State Packet
   put_all set note turn = fold (put set note) turn (range_with_len 0 at.nodes)
 
 module _ (d : Definition) (at : Moment) where
@@ -105,15 +104,15 @@ module _ (d : Definition) (at : Moment) where
   abbrev pub drafted : State → Send → Draft
   drafted s x = fill (kinds_of (slice_get d.notes x.form)) (record { state = s; fields = replicate 7 0 }) 0 x.fields
 
-  abbrev pub put_draft : Stepped State Note → Send → Draft → Stepped State Note
+  abbrev pub put_draft : Stepped State Packet → Send → Draft → Stepped State Packet
   put_draft turn x draft =
       put_all at (value_of d at draft.state x.to) (record { form = x.form; fields = draft.fields }) (record { state = draft.state; out = turn.out })
 
-  abbrev pub send : Stepped State Note → Send → Stepped State Note
+  abbrev pub send : Stepped State Packet → Send → Stepped State Packet
   send turn x = put_draft turn x (drafted turn.state x)
 
   -- a rule that is taken makes its assignments from the left, and then its sends from the left
-  abbrev pub do_rule : Stepped State Note → Rule → Stepped State Note
+  abbrev pub do_rule : Stepped State Packet → Rule → Stepped State Packet
   do_rule turn rule = fold send (record { state = fold assign turn.state rule.sets; out = turn.out }) rule.sends
 
   -- of a chain the first rule is taken whose guard is true
@@ -121,17 +120,17 @@ module _ (d : Definition) (at : Moment) where
   first_true s [] = None
   first_true s (rule ∷ rules) = if is_true (value_of d at s rule.guard) then Some rule else first_true s rules
 
-  abbrev pub do_found : Stepped State Note → Option Rule → Stepped State Note
+  abbrev pub do_found : Stepped State Packet → Option Rule → Stepped State Packet
   do_found turn None = turn
   do_found turn (Some rule) = do_rule turn rule
 
-  abbrev pub take_first : Stepped State Note → List Rule → Stepped State Note
+  abbrev pub take_first : Stepped State Packet → List Rule → Stepped State Packet
   take_first turn rules = do_found turn (first_true turn.state rules)
 
   -- a chain that isn't gone through does nothing
-  abbrev pub pass : Event → Stepped State Note → Chain → Stepped State Note
+  abbrev pub pass : Event → Stepped State Packet → Chain → Stepped State Packet
   pass event turn chain = if is_passed at.nodes at.me at.given event chain then take_first turn chain.rules else turn
 
   -- an event goes through the chains in order
-  unfoldable pub act : Event → Stepped State Note → Stepped State Note
+  unfoldable pub act : Event → Stepped State Packet → Stepped State Packet
   act event turn = fold (pass event) turn d.chains

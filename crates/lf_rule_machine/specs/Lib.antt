@@ -11,4 +11,7 @@ pub mod Constants
 pub mod Indexes
 pub mod Machines
 pub mod Ruleds
+pub mod Singles
+pub mod SingleRuns
 pub mod RuledLemmas
+pub mod Packets

@@ -1,5 +1,5 @@
 -- A protocol of rules as a machine, among so many nodes and with the values that the constants have at each node.
-use Rattle.std.specs.Prelude.{ℕ, Bool, not, ◌&&◌, ◌==◌, List, if◌then◌else◌, slice_get, replicate}
+use Rattle.std.specs.Prelude.{ℕ, Bool, not, ◌&&◌, ◌==◌, List, Option, None, Some, if◌then◌else◌, slice_get, replicate}
 use Rattle.std.specs.List.{fold}
 use Rattle.lf_sim.specs.declared.letter.Letter.{Letter}
 use Rattle.lf_sim.specs.declared.out.Stepped.{Stepped}
@@ -13,6 +13,7 @@ use Rattle.lf_rules.specs.Forms.{is_from}
 use Rattle.lf_rule_machine.specs.declared.moment.Moment.{Moment}
 use Rattle.lf_rule_machine.specs.declared.state.State.{State}
 use Rattle.lf_rule_machine.specs.declared.state.Note.{Note}
+use Rattle.lf_rule_machine.specs.declared.state.Packet.{Packet}
 use Rattle.lf_rule_machine.specs.declared.fact.Told.{Told}
 use Rattle.lf_rule_machine.specs.declared.fact.Told.TheVariants as tolds
 use Rattle.lf_rule_machine.specs.declared.fact.Fact.{Fact}
@@ -30,7 +31,7 @@ abbrev pub no_fields : List ℕ
 no_fields = replicate 7 0
 
 -- a state, and no note yet
-abbrev pub opened : State → Stepped State Note
+abbrev pub opened : State → Stepped State Packet
 opened s = record { state = s; out = nothing }
 
 -- a moment of node n's step t
@@ -40,21 +41,27 @@ moment nodes given n t sender fields =
 
 module _ (d : Definition) (nodes : ℕ) (given : List (List ℕ)) where
   -- an event without a letter
-  abbrev pub act_alone : ℕ → ℕ → Event → Stepped State Note → Stepped State Note
+  abbrev pub act_alone : ℕ → ℕ → Event → Stepped State Packet → Stepped State Packet
   act_alone n t event turn = act d (moment nodes given n t 0 no_fields) event turn
 
   -- a step: before the letters, each letter, and after the letters
-  abbrev pub begin_of : ℕ → ℕ → State → Stepped State Note
+  abbrev pub begin_of : ℕ → ℕ → State → Stepped State Packet
   begin_of n t s = act_alone n t events.Begin (opened s)
 
-  abbrev pub hear_of : ℕ → ℕ → Stepped State Note → Letter Note → Stepped State Note
-  hear_of n t turn letter = act d (moment nodes given n t letter.from letter.note.fields) (events.Note letter.note.form) turn
+  -- a note by a sender is an event, and a place without a note none
+  abbrev pub hear_note : ℕ → ℕ → ℕ → Stepped State Packet → Option Note → Stepped State Packet
+  hear_note n t from turn None = turn
+  hear_note n t from turn (Some note) = act d (moment nodes given n t from note.fields) (events.Note note.form) turn
 
-  abbrev pub end_of : ℕ → ℕ → Stepped State Note → Stepped State Note
+  -- the notes of a packet are heard in their order
+  abbrev pub hear_of : ℕ → ℕ → Stepped State Packet → Letter Packet → Stepped State Packet
+  hear_of n t turn letter = fold (hear_note n t letter.from) turn letter.note.notes
+
+  abbrev pub end_of : ℕ → ℕ → Stepped State Packet → Stepped State Packet
   end_of n t turn = act_alone n t events.End turn
 
   -- the letters are heard in the order of the inbox
-  abbrev pub step_of : ℕ → ℕ → State → List (Letter Note) → Stepped State Note
+  abbrev pub step_of : ℕ → ℕ → State → List (Letter Packet) → Stepped State Packet
   step_of n t s inbox = end_of n t (fold (hear_of n t) (begin_of n t s) inbox)
 
   -- the start is what its event makes of zeros, with step 0; waking is its event at the step of waking
@@ -75,5 +82,5 @@ module _ (d : Definition) (nodes : ℕ) (given : List (List ℕ)) where
   abbrev pub shows_of : ℕ → State → Fact → Bool
   shows_of n s fact = if fact.denied then not (is_told n s fact.told) else is_told n s fact.told
 
-  abbrev pub rules_by : Rules State Note Fact
+  abbrev pub rules_by : Rules State Packet Fact
   rules_by = record { nodes = nodes; start = start_of; step = step_of; wake = wake_of; shows = shows_of }

@@ -17,11 +17,13 @@ use Rattle.lf_rule_machine.specs.declared.moment.Moment.{Moment}
 use Rattle.lf_rule_machine.specs.Instances.{Instance}
 use Rattle.lf_rule_machine.specs.declared.state.State.{State}
 use Rattle.lf_rule_machine.specs.declared.state.Note.{Note}
+use Rattle.lf_rule_machine.specs.declared.state.Packet.{Packet}
 use Rattle.lf_rule_machine.specs.Sets.{has}
+use Rattle.lf_rule_machine.specs.States.{packed, packet_of}
 use Rattle.lf_rule_machine.specs.Values.{value_of}
 use Rattle.lf_rule_machine.specs.Events.{is_passed, place, is_receiver, put, put_all, drafted, send, do_rule}
 use Rattle.lf_rule_machine.specs.Events.{assign, first_true, do_found, take_first, pass, act}
-use Rattle.lf_rule_machine.specs.Machines.{moment, hear_of, begin_of, end_of, step_of, no_fields, opened}
+use Rattle.lf_rule_machine.specs.Machines.{moment, hear_note, hear_of, begin_of, end_of, step_of, no_fields, opened}
 use Rattle.lf_rule_machine.specs.Ruleds.{rules_of}
 
 -- what each step of a fold keeps, the fold keeps
@@ -36,78 +38,82 @@ range-keeps P f a (suc n) keeps b h =
     range-keeps P f (a + 1) n (λ c m low. keeps c m (omega arith)) (f b a) (keeps b a (omega arith) h)
 
 -- no note goes to this node, or past the nodes
-pub record IsQuiet (nodes me : ℕ) (turn : Stepped State Note) : Type 0 where
+pub record IsQuiet (nodes me : ℕ) (turn : Stepped State Packet) : Type 0 where
   pub none : (to : ℕ) → (to ≡ me) ⊎ (nodes ≤ to) → note_to turn.out to ≡ None
 
-cond-keeps : {A : Type 0} (P : A → Type 0) (b : Bool) (x y : A) → (b ≡ true → P x) → P y → P (cond b x y)
+pub cond-keeps : {A : Type 0} (P : A → Type 0) (b : Bool) (x y : A) → (b ≡ true → P x) → P y → P (cond b x y)
 cond-keeps P true x y h k = h refl
 cond-keeps P false x y h k = k
 
 module _ (d : Definition) (at : Moment) where
-  abbrev IsStill : Stepped State Note → Type 0
+  abbrev IsStill : Stepped State Packet → Type 0
   IsStill = IsQuiet at.nodes at.me
 
-  put-still : (set : ℕ) (note : Note) (turn : Stepped State Note) (m : ℕ) → m < at.nodes → IsStill turn → IsStill (put at set note turn m)
+  put-still : (set : ℕ) (note : Note) (turn : Stepped State Packet) (m : ℕ) → m < at.nodes → IsStill turn → IsStill (put at set note turn m)
   put-still set note turn m low quiet =
       cond-keeps IsStill (is_receiver at set m) (place note turn m) turn
       (λ taken. record {
         none = λ to nobody.
             let other : to ≢ m = apart to nobody (and_parts (has set m) (not (nat_eq m at.me)) taken).1 in
-            with_note-others turn.out m note to other ∙ quiet.none to nobody;
+            with_note-others turn.out m (packed (packet_of (note_to turn.out m)) note) to other ∙ quiet.none to nobody;
       }) quiet
     where
       apart : (to : ℕ) → (to ≡ at.me) ⊎ (at.nodes ≤ to) → not (nat_eq m at.me) ≡ true → to ≢ m
       apart to (inl me) away same = both_ways (nat_eq m at.me) (not-true (nat_eq m at.me) away) (eq-eqb m at.me (sym same ∙ me))
       apart to (inr far) away same = omega (arith, same, far)
 
-  put_all-still : (set : ℕ) (note : Note) (turn : Stepped State Note) → IsStill turn → IsStill (put_all at set note turn)
+  put_all-still : (set : ℕ) (note : Note) (turn : Stepped State Packet) → IsStill turn → IsStill (put_all at set note turn)
   put_all-still set note turn quiet = range-keeps IsStill (put at set note) 0 at.nodes (λ b m low h. put-still set note b m (omega arith) h) turn quiet
 
-  send-still : (turn : Stepped State Note) (x : Send) → IsStill turn → IsStill (send d at turn x)
+  send-still : (turn : Stepped State Packet) (x : Send) → IsStill turn → IsStill (send d at turn x)
   send-still turn x quiet =
       let draft = drafted d at turn.state x in
       put_all-still (value_of d at draft.state x.to) (record { form = x.form; fields = draft.fields }) (record { state = draft.state; out = turn.out })
       (record { none = quiet.none })
 
-  rule-still : (turn : Stepped State Note) (rule : Rule) → IsStill turn → IsStill (do_rule d at turn rule)
+  rule-still : (turn : Stepped State Packet) (rule : Rule) → IsStill turn → IsStill (do_rule d at turn rule)
   rule-still turn rule quiet =
       fold-keeps IsStill (send d at) send-still (record { state = fold (assign d at) turn.state rule.sets; out = turn.out }) rule.sends
       (record { none = quiet.none })
 
-  found-still : (turn : Stepped State Note) (found : Option Rule) → IsStill turn → IsStill (do_found d at turn found)
+  found-still : (turn : Stepped State Packet) (found : Option Rule) → IsStill turn → IsStill (do_found d at turn found)
   found-still turn None quiet = quiet
   found-still turn (Some rule) quiet = rule-still turn rule quiet
 
-  pass-still : (event : Event) (turn : Stepped State Note) (chain : Chain) → IsStill turn → IsStill (pass d at event turn chain)
+  pass-still : (event : Event) (turn : Stepped State Packet) (chain : Chain) → IsStill turn → IsStill (pass d at event turn chain)
   pass-still event turn chain quiet =
       cond-keeps IsStill (is_passed at.nodes at.me at.given event chain) (take_first d at turn chain.rules) turn
       (λ _. found-still turn (first_true d at turn.state chain.rules) quiet) quiet
 
-  act-still : (event : Event) (turn : Stepped State Note) → IsStill turn → IsStill (act d at event turn)
+  act-still : (event : Event) (turn : Stepped State Packet) → IsStill turn → IsStill (act d at event turn)
   unfolding act
   act-still event turn quiet = fold-keeps IsStill (pass d at event) (pass-still event) turn d.chains quiet
 
 module _ (d : Definition) (nodes : ℕ) (given : List (List ℕ)) (n t : ℕ) where
-  abbrev pub IsCalm : Stepped State Note → Type 0
+  abbrev pub IsCalm : Stepped State Packet → Type 0
   IsCalm = IsQuiet nodes n
 
   opened-calm : (s : State) → IsCalm (opened s)
-  opened-calm s = record { none = λ to nobody. note_to-nothing {Note = Note} to }
+  opened-calm s = record { none = λ to nobody. note_to-nothing {Note = Packet} to }
 
   pub begun-calm : (s : State) → IsCalm (begin_of d nodes given n t s)
   begun-calm s = act-still d (moment nodes given n t 0 no_fields) events.Begin (opened s) (opened-calm s)
 
-  pub heard-calm : (turn : Stepped State Note) (letter : Letter Note) → IsCalm turn → IsCalm (hear_of d nodes given n t turn letter)
-  heard-calm turn letter calm = act-still d (moment nodes given n t letter.from letter.note.fields) (events.Note letter.note.form) turn calm
+  noted-calm : (from : ℕ) (turn : Stepped State Packet) (note : Option Note) → IsCalm turn → IsCalm (hear_note d nodes given n t from turn note)
+  noted-calm from turn None calm = calm
+  noted-calm from turn (Some note) calm = act-still d (moment nodes given n t from note.fields) (events.Note note.form) turn calm
 
-  pub ended-calm : (turn : Stepped State Note) → IsCalm turn → IsCalm (end_of d nodes given n t turn)
+  pub heard-calm : (turn : Stepped State Packet) (letter : Letter Packet) → IsCalm turn → IsCalm (hear_of d nodes given n t turn letter)
+  heard-calm turn letter calm = fold-keeps IsCalm (hear_note d nodes given n t letter.from) (noted-calm letter.from) turn letter.note.notes calm
+
+  pub ended-calm : (turn : Stepped State Packet) → IsCalm turn → IsCalm (end_of d nodes given n t turn)
   ended-calm turn calm = act-still d (moment nodes given n t 0 no_fields) events.End turn calm
 
-  stepped-calm : (s : State) (inbox : List (Letter Note)) → IsCalm (step_of d nodes given n t s inbox)
+  stepped-calm : (s : State) (inbox : List (Letter Packet)) → IsCalm (step_of d nodes given n t s inbox)
   stepped-calm s inbox =
       ended-calm _
       (fold-keeps IsCalm (hear_of d nodes given n t) heard-calm (begin_of d nodes given n t s) inbox (begun-calm s))
 
-pub rules_of-silent : (m : Instance) (n t to : ℕ) (s : State) (inbox : List (Letter Note)) → (to ≡ n) ⊎ ((rules_of m).nodes ≤ to)
+pub rules_of-silent : (m : Instance) (n t to : ℕ) (s : State) (inbox : List (Letter Packet)) → (to ≡ n) ⊎ ((rules_of m).nodes ≤ to)
     → note_to ((rules_of m).step n t s inbox).out to ≡ None
 rules_of-silent m n t to s inbox nobody = (stepped-calm m.definition m.nodes m.given n t s inbox).none to nobody

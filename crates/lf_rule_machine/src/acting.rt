@@ -10,7 +10,7 @@ ghost use Rattle.lf_rule_machine.specs.Choices.{take_at};
 
 use crate::fitting::{fitted, put_item, remember};
 use crate::sending::send_all;
-use crate::{Moment, Note, State, value_of};
+use crate::{Moment, Packet, State, value_of};
 use lf_rules::{Assignment, Definition, Rule};
 use lf_sim::Stepped;
 
@@ -18,7 +18,7 @@ use lf_sim::Stepped;
 pub fn go_through(
     definition: &Definition,
     at: &Moment,
-    turn: &mut Stepped<State, Note>,
+    turn: &mut Stepped<State, Packet>,
     numbers: &[usize],
 )
     ensures { turn.new ≡ fold (take_at definition.now at.now) turn.old numbers.now }
@@ -29,7 +29,7 @@ pub fn go_through(
 }
 
 /// Takes it through the chain that has a number.
-fn take_at(definition: &Definition, at: &Moment, turn: &mut Stepped<State, Note>, number: usize)
+fn take_at(definition: &Definition, at: &Moment, turn: &mut Stepped<State, Packet>, number: usize)
     ensures { turn.new ≡ take_at definition.now at.now turn.old number }
 {
     match definition.chains.as_slice().get(number) {
@@ -39,7 +39,12 @@ fn take_at(definition: &Definition, at: &Moment, turn: &mut Stepped<State, Note>
 }
 
 /// Takes the first rule whose guard is true.
-fn take_first(definition: &Definition, at: &Moment, turn: &mut Stepped<State, Note>, rules: &[Rule])
+fn take_first(
+    definition: &Definition,
+    at: &Moment,
+    turn: &mut Stepped<State, Packet>,
+    rules: &[Rule],
+)
     ensures { turn.new ≡ take_first definition.now at.now turn.old rules.now }
 {
     match first_true(definition, at, &turn.state, rules) {
@@ -73,7 +78,7 @@ fn is_guarded(definition: &Definition, at: &Moment, state: &State, rule: &Rule) 
 }
 
 /// Does what a rule says: its assignments, and then its sends.
-fn do_rule(definition: &Definition, at: &Moment, turn: &mut Stepped<State, Note>, rule: &Rule)
+fn do_rule(definition: &Definition, at: &Moment, turn: &mut Stepped<State, Packet>, rule: &Rule)
     ensures { turn.new ≡ do_rule definition.now at.now turn.old rule.now }
 {
     assign_all(definition, at, &mut turn.state, rule.sets.as_slice());

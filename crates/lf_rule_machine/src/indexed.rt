@@ -6,10 +6,10 @@ ghost use Rattle.std.specs.List.{fold};
 ghost use Rattle.lf_rule_machine.specs.Constants.{row_of};
 ghost use Rattle.lf_rule_machine.specs.Indexes.{rows_of};
 ghost use Rattle.lf_rule_machine.specs.Events.{act};
-ghost use Rattle.lf_rule_machine.specs.Machines.{moment, act_alone, hear_of, is_told, shows_of};
+ghost use Rattle.lf_rule_machine.specs.Machines.{moment, act_alone, hear_note, hear_of, is_told, shows_of};
 
 use crate::constants::constants_at;
-use crate::{Fact, Moment, Note, State, Told, fact_value, go_through, index, item};
+use crate::{Fact, Moment, Note, Packet, State, Told, fact_value, go_through, index, item};
 use lf_rules::{Event, Rules};
 use lf_sim::{Letter, Stepped};
 use std::sync::Arc;
@@ -35,8 +35,8 @@ impl Indexed {
         &self,
         node: u32,
         t: u32,
-        turn: &mut Stepped<State, Note>,
-        inbox: &[Letter<Note>],
+        turn: &mut Stepped<State, Packet>,
+        inbox: &[Letter<Packet>],
     )
         ensures { turn.new ≡ fold (hear_of (arc_value self.now.rules) self.now.nodes self.now.given node t) turn.old inbox.now }
     {
@@ -45,16 +45,54 @@ impl Indexed {
         }
     }
 
-    /// Takes in a letter.
-    pub fn take_in(&self, node: u32, t: u32, turn: &mut Stepped<State, Note>, letter: &Letter<Note>)
+    /// Takes in a letter: its notes, in order.
+    pub fn take_in(
+        &self,
+        node: u32,
+        t: u32,
+        turn: &mut Stepped<State, Packet>,
+        letter: &Letter<Packet>,
+    )
         ensures { turn.new ≡ hear_of (arc_value self.now.rules) self.now.nodes self.now.given node t turn.old letter.now }
     {
-        let at = self.moment(node, t, letter.from, letter.note.fields);
-        self.act(&at, Event::Note(letter.note.form), turn);
+        self.hear_notes(node, t, letter.from, turn, &letter.note.notes);
+    }
+
+    /// Hears the notes of a packet by a sender, in order.
+    fn hear_notes(
+        &self,
+        node: u32,
+        t: u32,
+        from: u32,
+        turn: &mut Stepped<State, Packet>,
+        notes: &[Option<Note>],
+    )
+        ensures { turn.new ≡ fold (hear_note (arc_value self.now.rules) self.now.nodes self.now.given node t from) turn.old notes.now }
+    {
+        for note in notes {
+            self.hear_note(node, t, from, turn, *note);
+        }
+    }
+
+    /// Hears a note by a sender. A place without a note is passed over.
+    fn hear_note(
+        &self,
+        node: u32,
+        t: u32,
+        from: u32,
+        turn: &mut Stepped<State, Packet>,
+        note: Option<Note>,
+    )
+        ensures { turn.new ≡ hear_note (arc_value self.now.rules) self.now.nodes self.now.given node t from turn.old note }
+    {
+        if let Some(note) = note {
+            let at = self.moment(node, t, from, note.fields);
+            self.act(&at, Event::Note(note.form), turn);
+        }
     }
 
     /// Acts at an event without a letter.
-    pub fn act_alone(&self, node: u32, t: u32, event: Event, turn: &mut Stepped<State, Note>)
+    pub fn act_alone(&self, node: u32, t: u32, event: Event, turn: &mut Stepped<State, Packet>)
         ensures { turn.new ≡ act_alone (arc_value self.now.rules) self.now.nodes self.now.given node t event turn.old }
     {
         let at = self.moment(node, t, 0, [0; 7]);
@@ -62,7 +100,7 @@ impl Indexed {
     }
 
     /// Acts at an event.
-    fn act(&self, at: &Moment, event: Event, turn: &mut Stepped<State, Note>)
+    fn act(&self, at: &Moment, event: Event, turn: &mut Stepped<State, Packet>)
         requires nodes { at.now.nodes ≡ self.now.nodes }
         requires given { at.now.given ≡ row_of (slice_get self.now.given at.now.me) }
         ensures { turn.new ≡ act (arc_value self.now.rules) at.now event turn.old }

@@ -15,9 +15,11 @@ mod machine;
 mod machine_laws;
 mod moment;
 mod operators;
+mod packet_laws;
 mod sending;
 mod set_laws;
 pub mod sets;
+mod single_laws;
 mod state;
 mod values;
 
@@ -30,6 +32,11 @@ pub use machine::Ruled;
 pub use machine_laws::{steps_are_folds, values_are_of_their_kinds};
 pub use moment::Moment;
 pub use operators::truth;
+pub use packet_laws::{packets_are_lists, packets_have_each_form_once};
 pub use set_laws::{sets_have_ends, sets_have_their_members};
-pub use state::{Note, State};
+pub use single_laws::{
+    kept_notes_are_single, one_form_sends_single_notes, runs_with_single_notes,
+    steps_with_single_notes,
+};
+pub use state::{Note, Packet, State};
 pub use values::{fact_value, fixed_value, item, value_of};

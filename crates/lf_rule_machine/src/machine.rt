@@ -8,7 +8,7 @@ ghost use Rattle.lf_rule_machine.specs.Machines.{is_machine, opened, begin_of, h
 
 use crate::constants::{are_given, constants_at, given_table};
 use crate::indexed::Indexed;
-use crate::{Fact, Note, State, index};
+use crate::{Fact, Packet, State, index};
 use lf_rules::{Definition, Event, Given, Rules};
 use lf_sim::{Letter, Machine, Out, Stepped};
 use std::alloc::{AllocError, Global};
@@ -95,7 +95,7 @@ impl Ruled {
     }
 
     /// What a node does at step `t` before its inbox: the state and the notes that it comes to.
-    pub fn begin(&self, node: u32, t: u32, state: State) -> Stepped<State, Note>
+    pub fn begin(&self, node: u32, t: u32, state: State) -> Stepped<State, Packet>
         ensures { result ≡ begin_of self.now.definition self.now.nodes self.now.given node t state }
     {
         let mut turn = opened(state);
@@ -103,15 +103,21 @@ impl Ruled {
         turn
     }
 
-    /// Takes in a letter: what it comes to with it.
-    pub fn hear(&self, node: u32, t: u32, turn: &mut Stepped<State, Note>, letter: &Letter<Note>)
+    /// Takes in a letter, note by note: what it comes to with it.
+    pub fn hear(
+        &self,
+        node: u32,
+        t: u32,
+        turn: &mut Stepped<State, Packet>,
+        letter: &Letter<Packet>,
+    )
         ensures { turn.new ≡ hear_of self.now.definition self.now.nodes self.now.given node t turn.old letter.now }
     {
         self.indexed.take_in(node, t, turn, letter);
     }
 
     /// What it comes to after its inbox: what the step gives.
-    pub fn end(&self, node: u32, t: u32, turn: &mut Stepped<State, Note>)
+    pub fn end(&self, node: u32, t: u32, turn: &mut Stepped<State, Packet>)
         ensures { turn.new ≡ end_of self.now.definition self.now.nodes self.now.given node t turn.old }
     {
         self.indexed.act_alone(node, t, Event::End, turn);
@@ -124,7 +130,7 @@ impl Machine for Ruled {
 
     type State = State;
 
-    type Note = Note;
+    type Note = Packet;
 
     type Fact = Fact;
 
@@ -145,8 +151,8 @@ impl Machine for Ruled {
         node: u32,
         t: u32,
         state: State,
-        inbox: &[Letter<Note>],
-    ) -> Stepped<State, Note> {
+        inbox: &[Letter<Packet>],
+    ) -> Stepped<State, Packet> {
         let mut turn = opened(state);
         self.indexed.act_alone(node, t, Event::Begin, &mut turn);
         self.indexed.take_in_all(node, t, &mut turn, inbox);
@@ -175,7 +181,7 @@ fn are_same_values(one: &[[u8; 16]; 8], other: &[[u8; 16]; 8]) -> bool
 }
 
 /// A state, and no note yet.
-fn opened(state: State) -> Stepped<State, Note>
+fn opened(state: State) -> Stepped<State, Packet>
     ensures { result ≡ opened state }
 {
     Stepped {

@@ -4,7 +4,7 @@ ghost use Rattle.std.specs.Prelude.{◌≡◌, ℕ, List};
 ghost use Rattle.std.specs.List.{fold};
 ghost use Rattle.lf_sim.specs.declared.letter.Letter.{Letter};
 ghost use Rattle.lf_rule_machine.specs.declared.state.State.{State};
-ghost use Rattle.lf_rule_machine.specs.declared.state.Note.{Note};
+ghost use Rattle.lf_rule_machine.specs.declared.state.Packet.{Packet};
 ghost use Rattle.lf_rule_machine.specs.Instances.{Instance};
 ghost use Rattle.lf_rule_machine.specs.Machines.{begin_of, hear_of, end_of};
 ghost use Rattle.lf_rule_machine.specs.Ranges.{IsInRange};
@@ -12,7 +12,7 @@ ghost use Rattle.lf_rule_machine.specs.Ruleds.{rules_of};
 
 /// A step is what a node does before its inbox, with each letter in inbox order, and after its inbox.
 pub fn steps_are_folds()
-    ensures { (m : Instance) (node t : ℕ) (state : State) (inbox : List (Letter Note)) →
+    ensures { (m : Instance) (node t : ℕ) (state : State) (inbox : List (Letter Packet)) →
         (rules_of m).step node t state inbox ≡ end_of m.definition m.nodes m.given node t
         (fold (hear_of m.definition m.nodes m.given node t)
         (begin_of m.definition m.nodes m.given node t state) inbox) }
@@ -21,7 +21,7 @@ pub fn steps_are_folds()
 /// No variable has a value past the greatest of its kind, whatever the letters: none has at the start, and steps and waking keep it so.
 pub fn values_are_of_their_kinds()
     ensures start { (m : Instance) (node : ℕ) → IsInRange m.definition ((rules_of m).start node) }
-    ensures step { (m : Instance) (node t : ℕ) (state : State) (inbox : List (Letter Note)) → IsInRange m.definition state →
+    ensures step { (m : Instance) (node t : ℕ) (state : State) (inbox : List (Letter Packet)) → IsInRange m.definition state →
         IsInRange m.definition ((rules_of m).step node t state inbox).state }
     ensures wake { (m : Instance) (node t : ℕ) (state : State) → IsInRange m.definition state →
         IsInRange m.definition ((rules_of m).wake node t state) }

@@ -1,11 +1,11 @@
 //! How notes are sent.
 
-ghost use Rattle.std.specs.Prelude.{◌≡◌, ◌||◌, Some, slice_get};
+ghost use Rattle.std.specs.Prelude.{◌≡◌, Some, slice_get};
 ghost use Rattle.std.specs.List.{fold};
-ghost use Rattle.lf_rule_machine.specs.Events.{is_another, fill_as, fill, drafted, kinds_of, is_receiver, place, put, put_all, send};
+ghost use Rattle.lf_rule_machine.specs.Events.{fill_as, fill, drafted, kinds_of, is_receiver, place, put, put_all, send};
 
 use crate::fitting::{fitted, put_item, remember};
-use crate::{Moment, Note, State, sets, value_of};
+use crate::{Moment, Note, Packet, State, sets, value_of};
 use lf_rules::{Definition, Expr, Kind, Send};
 use lf_sim::Stepped;
 
@@ -20,7 +20,7 @@ pub(crate) struct Draft {
 pub(crate) fn send_all(
     definition: &Definition,
     at: &Moment,
-    turn: &mut Stepped<State, Note>,
+    turn: &mut Stepped<State, Packet>,
     sends: &[Send],
 )
     ensures { turn.new ≡ fold (send definition.now at.now) turn.old sends.now }
@@ -31,7 +31,7 @@ pub(crate) fn send_all(
 }
 
 /// Sends a note: works out its fields, then its set of nodes, and then puts it.
-fn send(definition: &Definition, at: &Moment, turn: &mut Stepped<State, Note>, message: &Send)
+fn send(definition: &Definition, at: &Moment, turn: &mut Stepped<State, Packet>, message: &Send)
     ensures { turn.new ≡ send definition.now at.now turn.old message.now }
 {
     let draft = drafted(definition, at, turn.state, message);
@@ -121,7 +121,7 @@ fn fill_as(
 /// Puts a note for each node of a set but the sender.
 // Never inlined: a loop over rules would be entered with the place of each note at hand, though few rules send.
 #[inline(never)]
-fn put_all(at: &Moment, set: u64, note: Note, turn: &mut Stepped<State, Note>)
+fn put_all(at: &Moment, set: u64, note: Note, turn: &mut Stepped<State, Packet>)
     ensures { turn.new ≡ put_all at.now set note turn.old }
 {
     for to in 0..at.nodes {
@@ -130,7 +130,7 @@ fn put_all(at: &Moment, set: u64, note: Note, turn: &mut Stepped<State, Note>)
 }
 
 /// Puts a note for one node, if that is another one of the set.
-fn put(at: &Moment, set: u64, note: Note, turn: &mut Stepped<State, Note>, to: u32)
+fn put(at: &Moment, set: u64, note: Note, turn: &mut Stepped<State, Packet>, to: u32)
     ensures { turn.new ≡ put at.now set note turn.old to }
 {
     if is_receiver(at, set, to) {
@@ -145,28 +145,15 @@ fn is_receiver(at: &Moment, set: u64, to: u32) -> bool
     sets::has(set, u64::from(to)) && to != at.me
 }
 
-/// Puts a note for one node in place of the one that was there.
-fn place(note: Note, turn: &mut Stepped<State, Note>, to: u32)
+/// Puts a note into the packet for one node.
+fn place(note: Note, turn: &mut Stepped<State, Packet>, to: u32)
     ensures { turn.new ≡ place note turn.old to }
 {
-    let replaced = is_replaced(turn.state.replaced, turn.out.to(to), &note);
-    turn.state.replaced = replaced;
-    turn.out.put(to, note);
-}
-
-/// Whether a note takes another one's place, now or before.
-fn is_replaced(before: bool, old: Option<Note>, note: &Note) -> bool
-    ensures { result ≡ (before || is_another old note.now) }
-{
-    before || is_another(old, note)
-}
-
-/// Whether there was another note.
-fn is_another(old: Option<Note>, note: &Note) -> bool
-    ensures { result ≡ is_another old note.now }
-{
-    match old {
-        Some(old) => !old.same(note),
-        None => false,
-    }
+    let mut packet = match turn.out.to(to) {
+        Some(packet) => packet,
+        None => Packet::empty(),
+    };
+    let lost = packet.put(note);
+    turn.state.replaced = turn.state.replaced || lost;
+    turn.out.put(to, packet);
 }

@@ -1,7 +1,7 @@
 //! What nodes keep, and what they send.
 
-ghost use Rattle.std.specs.Prelude.{◌≡◌};
-ghost use Rattle.lf_rule_machine.specs.States.{zeros, same_numbers, same_note};
+ghost use Rattle.std.specs.Prelude.{◌≡◌, ◌≤◌, length, slice_get};
+ghost use Rattle.lf_rule_machine.specs.States.{empty, is_lost, loses, packed, place_for, zeros, same_numbers, same_note};
 
 /// What a node keeps from one step to the next.
 #[derive(Clone, Copy, Debug, PartialEq, Eq, PartialOrd, Ord)]
@@ -10,17 +10,24 @@ pub struct State {
     pub values: [u8; 16],
     /// Whether a value once went past the greatest of its kind, and became that one.
     pub clamped: bool,
-    /// Whether a note of this node once took the place of another one for the same node at the same step.
+    /// Whether a note of this node once took the place of another one of its form, for the same node at the same step, or wasn't put, since the packet had
+    /// notes of four other forms.
     pub replaced: bool,
 }
 
-/// What a node sends: the number of the note's form, and the values of its fields, with 0 from the last field on.
-///
-/// A form has six fields at most. With room for a seventh, which stays 0, a note is eight bytes, and these are copied as one.
+/// A note: the number of its form, and the values of its fields, with 0 from the last field on.
 #[derive(Clone, Copy, Debug, PartialEq, Eq, PartialOrd, Ord)]
 pub struct Note {
     pub form: u8,
     pub fields: [u8; 7],
+}
+
+/// What a node sends another one in one step: its notes, of different forms, in the order in which a note of their form was first put.
+///
+/// Where a place has no note, none behind it has one.
+#[derive(Clone, Copy, Debug, PartialEq, Eq, PartialOrd, Ord)]
+pub struct Packet {
+    pub notes: [Option<Note>; 4],
 }
 
 impl State {
@@ -42,6 +49,54 @@ impl Note {
         ensures { result ≡ same_note self.now other.now }
     {
         self.form == other.form && same_numbers(&self.fields, &other.fields)
+    }
+}
+
+impl Packet {
+    /// The packet without a note.
+    pub fn empty() -> Packet
+        ensures { result ≡ empty }
+    {
+        Packet { notes: [None; 4] }
+    }
+
+    /// Puts a note into it: in the place of the one of its form, or else behind the others. Where there are notes of four other forms, it isn't put. Tells
+    /// whether a note is lost by that: another one of its form, or this one.
+    pub fn put(&mut self, note: Note) -> bool
+        ensures packed { self.new ≡ packed self.old note }
+        ensures lost { result ≡ loses self.old note }
+    {
+        let place = place_for(&self.notes, note.form);
+        let lost = is_lost(&self.notes, place, &note);
+        if place < 4 {
+            self.notes[place] = Some(note);
+        }
+        lost
+    }
+}
+
+/// The place of a note of a form among some: where one of this form stands, or else behind all that are there.
+fn place_for(notes: &[Option<Note>], form: u8) -> usize
+    ensures value { result ≡ place_for notes.now form }
+    ensures within { result ≤ length notes.now }
+{
+    match notes {
+        [] => 0,
+        [place, notes @ ..] => match place {
+            Some(note) if note.form != form => place_for(notes, form) + 1,
+            _ => 0,
+        },
+    }
+}
+
+/// Whether a note is lost where another one is put at a place.
+fn is_lost(notes: &[Option<Note>], place: usize, note: &Note) -> bool
+    ensures { result ≡ is_lost (slice_get notes.now place) note.now }
+{
+    match notes.get(place) {
+        None => true,
+        Some(None) => false,
+        Some(Some(old)) => !old.same(note),
     }
 }
 

@@ -10,7 +10,7 @@ use Rattle.lf_sim.specs.OutsLemmas.{note_to-nothing}
 use Rattle.lf_sim.specs.Runs.{World, letter, did}
 use Rattle.lf_sim.proofs.Laws.{did-zero, letter-silent}
 use Rattle.lf_rule_machine.specs.declared.state.State.{State}
-use Rattle.lf_rule_machine.specs.declared.state.Note.{Note as Message}
+use Rattle.lf_rule_machine.specs.declared.state.Packet.{Packet as Message}
 use Rattle.lf_rule_machine.specs.Instances.{Instance}
 use Rattle.lf_protocols.specs.declared.note.Note.{Note}
 use Rattle.lf_protocols.specs.RuledTurns.{hear_by_rules}

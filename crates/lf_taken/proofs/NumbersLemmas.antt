@@ -13,7 +13,7 @@ use Rattle.lf_rules.specs.declared.definition.Definition.{Definition}
 use Rattle.lf_rules.specs.Forms.{rules_in, is_from, is_in_limits, is_well_formed}
 use Rattle.lf_rule_machine.specs.declared.moment.Moment.{Moment}
 use Rattle.lf_rule_machine.specs.declared.state.State.{State}
-use Rattle.lf_rule_machine.specs.declared.state.Note.{Note}
+use Rattle.lf_rule_machine.specs.declared.state.Packet.{Packet}
 use Rattle.lf_rule_machine.specs.Choices.{take_at}
 use Rattle.lf_taken.specs.Numbers.{taken_at, taken_through}
 
@@ -68,14 +68,14 @@ few_rules d formed =
 
 -- a chain more is gone through
 module _ (d : Definition) (at : Moment) where
-  pub turn_more : (turn next : Stepped State Note) (ns : List ℕ) (i : ℕ) → i < length ns → next ≡ take_at d at turn (slice_index_or ns i 0)
+  pub turn_more : (turn next : Stepped State Packet) (ns : List ℕ) (i : ℕ) → i < length ns → next ≡ take_at d at turn (slice_index_or ns i 0)
       → fold (take_at d at) next (drop (i + 1) ns) ≡ fold (take_at d at) turn (drop i ns)
   turn_more turn next ns i low is =
       ap (λ s. fold (take_at d at) s (drop (i + 1) ns)) is
       ∙ ap (λ k. fold (take_at d at) (take_at d at turn (slice_index_or ns i 0)) (drop k ns)) (add-one i)
       ∙ ap (fold (take_at d at) turn) (sym (drop-cons ns i 0 low))
 
-  pub taken_more : (old new : List ℕ) (turn next : Stepped State Note) (ns : List ℕ) (i : ℕ) → i < length ns
+  pub taken_more : (old new : List ℕ) (turn next : Stepped State Packet) (ns : List ℕ) (i : ℕ) → i < length ns
       → new ≡ old ++ taken_at d at turn (slice_index_or ns i 0) → next ≡ take_at d at turn (slice_index_or ns i 0)
       → new ++ taken_through d at next (drop (i + 1) ns) ≡ old ++ taken_through d at turn (drop i ns)
   taken_more old new turn next ns i low told is =

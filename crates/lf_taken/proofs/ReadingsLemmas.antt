@@ -12,7 +12,7 @@ use Rattle.lf_rules.specs.declared.definition.Definition.{Definition}
 use Rattle.lf_rules.specs.Forms.{rules_in}
 use Rattle.lf_rule_machine.specs.declared.moment.Moment.{Moment}
 use Rattle.lf_rule_machine.specs.declared.state.State.{State}
-use Rattle.lf_rule_machine.specs.declared.state.Note.{Note}
+use Rattle.lf_rule_machine.specs.declared.state.Packet.{Packet}
 use Rattle.lf_rule_machine.specs.Sets.{is_true}
 use Rattle.lf_rule_machine.specs.Values.{value_of}
 use Rattle.lf_rule_machine.specs.Events.{first_true, do_found, act}
@@ -46,14 +46,14 @@ rule-at (y ∷ ys) (suc i) x there m r is =
     ap (slice_get (y.rules ++ all_rules ys)) further ∙ in-second y.rules (all_rules ys) (rules_in (take i ys) + m) ∙ rule-at ys i x there m r is
 
 module _ (d : Definition) (at : Moment) where
-  done-next : (r : Rule) (rs : List Rule) (turn : Stepped State Note) (i : ℕ) (b : Bool) → is_true (value_of d at turn.state r.guard) ≡ b
+  done-next : (r : Rule) (rs : List Rule) (turn : Stepped State Packet) (i : ℕ) (b : Bool) → is_true (value_of d at turn.state r.guard) ≡ b
       → slice_get (all_rules d.chains) i ≡ Some r
       → fold (do_number d at) turn (option_to_list (number_true d at turn.state (i + 1 + 1) rs)) ≡ do_found d at turn (first_true d at turn.state rs)
       → fold (do_number d at) turn (option_to_list (number_true d at turn.state (i + 1) (r ∷ rs))) ≡ do_found d at turn (first_true d at turn.state (r ∷ rs))
   done-next r rs turn i true so there next = rw so (ap (do_number d at turn) (add-one i) ∙ ap (do_found d at turn) there)
   done-next r rs turn i false so there next = rw so next
 
-  done-one : (rules : List Rule) (turn : Stepped State Note) (i : ℕ)
+  done-one : (rules : List Rule) (turn : Stepped State Packet) (i : ℕ)
       → ((m : ℕ) (r : Rule) → slice_get rules m ≡ Some r → slice_get (all_rules d.chains) (i + m) ≡ Some r)
       → fold (do_number d at) turn (option_to_list (number_true d at turn.state (i + 1) rules)) ≡ do_found d at turn (first_true d at turn.state rules)
   done-one [] turn i here = refl
@@ -63,18 +63,18 @@ module _ (d : Definition) (at : Moment) where
       (done-one rs turn (i + 1) (λ m x there.
       let one_on : i + 1 + m ≡ i + suc m = omega arith in ap (slice_get (all_rules d.chains)) one_on ∙ here (suc m) x there))
 
-  done-of : (turn : Stepped State Note) (i : ℕ) (found : Option Chain) → slice_get d.chains i ≡ found
+  done-of : (turn : Stepped State Packet) (i : ℕ) (found : Option Chain) → slice_get d.chains i ≡ found
       → fold (do_number d at) turn (taken_of d at turn i found) ≡ take_at d at turn i
   done-of turn i None there = rw there refl
   done-of turn i (Some chain) there = rw there (done-one chain.rules turn (rules_in (take i d.chains)) (rule-at d.chains i chain there))
 
-  done-through : (ns : List ℕ) (turn : Stepped State Note) → fold (do_number d at) turn (taken_through d at turn ns) ≡ fold (take_at d at) turn ns
+  done-through : (ns : List ℕ) (turn : Stepped State Packet) → fold (do_number d at) turn (taken_through d at turn ns) ≡ fold (take_at d at) turn ns
   done-through [] turn = refl
   done-through (i ∷ is) turn =
       fold-append (do_number d at) turn (taken_at d at turn i) (taken_through d at (take_at d at turn i) is)
       ∙ ap (λ s. fold (do_number d at) s (taken_through d at (take_at d at turn i) is)) (done-of turn i (slice_get d.chains i) refl)
       ∙ done-through is (take_at d at turn i)
 
-  pub told-acts : (event : Event) (turn : Stepped State Note) → fold (do_number d at) turn (taken_in d at event turn) ≡ act d at event turn
+  pub told-acts : (event : Event) (turn : Stepped State Packet) → fold (do_number d at) turn (taken_in d at event turn) ≡ act d at event turn
   unfolding taken_in
   told-acts event turn = done-through (chosen d at.nodes at.me at.given event) turn ∙ chosen-acts d at event turn

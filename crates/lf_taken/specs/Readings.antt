@@ -6,7 +6,7 @@ use Rattle.lf_rules.specs.declared.rule.Chain.{Chain}
 use Rattle.lf_rules.specs.declared.definition.Definition.{Definition}
 use Rattle.lf_rule_machine.specs.declared.moment.Moment.{Moment}
 use Rattle.lf_rule_machine.specs.declared.state.State.{State}
-use Rattle.lf_rule_machine.specs.declared.state.Note.{Note}
+use Rattle.lf_rule_machine.specs.declared.state.Packet.{Packet}
 use Rattle.lf_rule_machine.specs.Events.{do_found}
 
 -- the rules of all chains, in order
@@ -15,6 +15,6 @@ all_rules [] = []
 all_rules (x ∷ xs) = x.rules ++ all_rules xs
 
 -- what a node comes to with the rule that has a number, from 1 on
-abbrev pub do_number : Definition → Moment → Stepped State Note → ℕ → Stepped State Note
+abbrev pub do_number : Definition → Moment → Stepped State Packet → ℕ → Stepped State Packet
 do_number d at turn zero = turn
 do_number d at turn (suc k) = do_found d at turn (slice_get (all_rules d.chains) k)

@@ -9,13 +9,13 @@ ghost use Rattle.lf_rule_machine.specs.Events.{act};
 ghost use Rattle.lf_rule_machine.specs.Choices.{take_at};
 ghost use Rattle.lf_taken.specs.Numbers.{number_true, taken_of, taken_at, taken_through, taken_in};
 
-use lf_rule_machine::{Moment, Note, State, chosen, go_through, value_of};
+use lf_rule_machine::{Moment, Packet, State, chosen, go_through, value_of};
 use lf_rules::{Chain, Definition, Event, Rule};
 use lf_sim::Stepped;
 use std::alloc::{AllocError, Global};
 
 /// What a node has come to within a step.
-pub(crate) type Turn = Stepped<State, Note>;
+pub(crate) type Turn = Stepped<State, Packet>;
 
 /// Takes a node through an event, and adds the numbers of the rules that it takes.
 pub(crate) fn act(

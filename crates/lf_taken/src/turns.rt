@@ -4,14 +4,14 @@ ghost use Rattle.std.specs.Prelude.{◌≡◌, ◌++◌, IfOk, slice_get};
 ghost use Rattle.std.specs.List.{fold};
 ghost use Rattle.lf_rule_machine.specs.Events.{act};
 ghost use Rattle.lf_rule_machine.specs.Constants.{row_of};
-ghost use Rattle.lf_rule_machine.specs.Machines.{moment, opened, act_alone, wake_of};
+ghost use Rattle.lf_rule_machine.specs.Machines.{moment, opened, act_alone, hear_note, wake_of};
 ghost use Rattle.lf_protocols.specs.RuledTurns.{hear_by_rules};
 ghost use Rattle.lf_taken.specs.Numbers.{taken_in};
-ghost use Rattle.lf_taken.specs.Turns.{taken_alone, taken_by_note, taken_by_letters, taken_in_step, taken_in_turn};
+ghost use Rattle.lf_taken.specs.Turns.{taken_alone, taken_by_note, taken_by_notes, taken_by_one, taken_by_letters, taken_in_step, taken_in_turn};
 
 use crate::numbers::{self, Turn};
 use lf_protocols::Note;
-use lf_rule_machine::{Moment, Ruled, State};
+use lf_rule_machine::{Moment, Note as Message, Ruled, State};
 use lf_rules::Event;
 use lf_sim::{Letter, Machine, Out, Stepped};
 use std::alloc::{AllocError, Global};
@@ -129,11 +129,54 @@ impl Acting<'_> {
             ++ taken_by_note self.now.ruled.now self.now.node self.now.t turn.old letter.now.from letter.now.note) }
     {
         match letter.note {
-            Note::Ruled(note) => {
-                let at = self.moment(letter.from, note.fields);
+            Note::Ruled(packet) => self.push_notes(alloc, letter.from, &packet.notes, turn, taken),
+            _ => Ok(()),
+        }
+    }
+
+    /// Adds what it takes at the notes of a packet by a sender, in order.
+    fn push_notes(
+        &self,
+        alloc: Global,
+        from: u32,
+        notes: &[Option<Message>],
+        turn: &mut Turn,
+        taken: &mut Vec<usize>,
+    ) -> Result<(), AllocError>
+        ensures turn { IfOk result (λ _. turn.new ≡ fold (hear_note self.now.ruled.now.definition self.now.ruled.now.nodes self.now.ruled.now.given
+            self.now.node self.now.t from) turn.old notes.now) }
+        ensures taken { IfOk result (λ _. taken.new.items ≡ taken.old.items
+            ++ taken_by_notes self.now.ruled.now self.now.node self.now.t turn.old from notes.now) }
+    {
+        match notes {
+            [] => Ok(()),
+            [note, notes @ ..] => {
+                self.push_note(alloc, from, *note, turn, taken)?;
+                self.push_notes(alloc, from, notes, turn, taken)
+            }
+        }
+    }
+
+    /// Adds what it takes at a note by a sender: nothing where there is none.
+    fn push_note(
+        &self,
+        alloc: Global,
+        from: u32,
+        note: Option<Message>,
+        turn: &mut Turn,
+        taken: &mut Vec<usize>,
+    ) -> Result<(), AllocError>
+        ensures turn { IfOk result (λ _. turn.new ≡ hear_note self.now.ruled.now.definition self.now.ruled.now.nodes self.now.ruled.now.given
+            self.now.node self.now.t from turn.old note) }
+        ensures taken { IfOk result (λ _. taken.new.items ≡ taken.old.items
+            ++ taken_by_one self.now.ruled.now self.now.node self.now.t turn.old from note) }
+    {
+        match note {
+            Some(note) => {
+                let at = self.moment(from, note.fields);
                 self.push(alloc, &at, Event::Note(note.form), turn, taken)
             }
-            _ => Ok(()),
+            None => Ok(()),
         }
     }
 

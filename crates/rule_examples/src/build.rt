@@ -1,7 +1,7 @@
 //! Makes definitions of values.
 
 use lf_list::Listed;
-use lf_rule_machine::{Note, Ruled, State};
+use lf_rule_machine::{Note, Packet, Ruled, State};
 use lf_rules::{
     Assignment, Binary, Chain, Constant, Definition, Event, Expr, Given, Guard, Kind, Leaf, Name,
     NoteForm, Rule, Rules, Send, Sort, Tree, Unary, Value, Variable,
@@ -222,21 +222,35 @@ pub(crate) fn machine(
     }
 }
 
-/// A letter whose note has this first field, and 0 in the others.
-pub(crate) fn letter(from: u32, form: u8, field: u8) -> Letter<Note> {
+/// A letter of one note with this first field, and 0 in the others.
+pub(crate) fn letter(from: u32, form: u8, field: u8) -> Letter<Packet> {
+    letter_of(from, &[(form, field)])
+}
+
+/// A letter of notes of these forms with these first fields, and 0 in the others.
+pub(crate) fn letter_of(from: u32, notes: &[(u8, u8)]) -> Letter<Packet> {
     Letter {
         from,
         sent: 1,
-        note: note(form, field),
+        note: packet(notes),
     }
 }
 
-/// A note with this first field, and 0 in the others.
-pub(crate) fn note(form: u8, field: u8) -> Note {
-    Note {
-        form,
-        fields: [field, 0, 0, 0, 0, 0, 0],
+/// The packet of one note with this first field, and 0 in the others.
+pub(crate) fn note(form: u8, field: u8) -> Packet {
+    packet(&[(form, field)])
+}
+
+/// The packet that has notes of these forms in its places, with these first fields, and 0 in the others. What is past the fourth is left out.
+pub(crate) fn packet(notes: &[(u8, u8)]) -> Packet {
+    let mut packet = Packet { notes: [None; 4] };
+    for (place, (form, field)) in packet.notes.iter_mut().zip(notes) {
+        *place = Some(Note {
+            form: *form,
+            fields: [*field, 0, 0, 0, 0, 0, 0],
+        });
     }
+    packet
 }
 
 /// A state with these values of the first four variables.

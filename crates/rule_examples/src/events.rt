@@ -2,9 +2,9 @@
 
 use crate::build::{
     Made, and, binary, chain, definition, equal, expr, form, leaf, letter, machine, more, note,
-    number, one, only, plain, rule, send, send_with, set, state, unary, variable, yes,
+    number, one, only, packet, plain, rule, send, send_with, set, state, unary, variable, yes,
 };
-use lf_rule_machine::{Note, Ruled, State};
+use lf_rule_machine::{Packet, Ruled, State};
 use lf_rules::{
     Assignment, Binary, Chain, Event, Kind, Leaf, NoteForm, Rule, Send, Unary, Variable,
 };
@@ -61,8 +61,8 @@ fn alone(alloc: Global, on: Event, rule: Result<Rule, AllocError>) -> Result<Cha
 fn stepped(
     machine: Option<Ruled>,
     from: State,
-    inbox: &[lf_sim::Letter<Note>],
-) -> Option<Stepped<State, Note>> {
+    inbox: &[lf_sim::Letter<Packet>],
+) -> Option<Stepped<State, Packet>> {
     match machine {
         Some(machine) => Some(machine.step(1, 2, from, inbox)),
         None => None,
@@ -70,7 +70,7 @@ fn stepped(
 }
 
 /// Whether it comes to these values, neither clamped nor replaced.
-fn comes_to(turn: Option<Stepped<State, Note>>, values: [u8; 4]) -> bool {
+fn comes_to(turn: Option<Stepped<State, Packet>>, values: [u8; 4]) -> bool {
     match turn {
         Some(turn) => turn.state == state(values),
         None => false,
@@ -184,25 +184,46 @@ fn clamps(alloc: Global) -> bool {
     }
 }
 
+/// A note with a number, to a set.
+fn asks(alloc: Global, term: u8, to: Made) -> Result<Send, AllocError> {
+    send_with(ASK, one(alloc, expr(number(term))), to)
+}
+
 /// A rule that sends a note to a set at an event.
 fn sends(alloc: Global, on: Event, message: Result<Send, AllocError>) -> Result<Chain, AllocError> {
     let none: Vec<Assignment> = Vec::new(alloc);
     alone(alloc, on, rule(yes(), Ok(none), one(alloc, message)))
 }
 
-/// A note that takes another one's place is remembered; a set that has the node itself sends it nothing.
-fn replaces(alloc: Global) -> bool {
+/// Notes of two forms go together; a set that has the node itself sends it nothing.
+fn joins(alloc: Global) -> bool {
     let first = sends(alloc, Event::Begin, send(alloc, BEAT, leaf(Leaf::All)));
-    let fields = one(alloc, expr(number(4)));
-    let second = sends(alloc, Event::End, send_with(ASK, fields, only(alloc, 2)));
+    let second = sends(alloc, Event::End, asks(alloc, 4, only(alloc, 2)));
     let chains = more(one(alloc, first), second);
+    let turn = stepped(protocol(alloc, chains), State::zeros(), &[]);
+    let sent = match turn {
+        Some(turn) => {
+            turn.out.to(0) == Some(note(BEAT, 0))
+                && turn.out.to(1).is_none()
+                && turn.out.to(2) == Some(packet(&[(BEAT, 0), (ASK, 4)]))
+        }
+        None => false,
+    };
+    sent && comes_to(turn, [0, 0, 0, 0])
+}
+
+/// A note that takes another one's place is remembered. It stands where the other one stood.
+fn replaces(alloc: Global) -> bool {
+    let first = sends(alloc, Event::Begin, asks(alloc, 4, leaf(Leaf::All)));
+    let second = sends(alloc, Event::Begin, send(alloc, BEAT, leaf(Leaf::All)));
+    let third = sends(alloc, Event::End, asks(alloc, 5, only(alloc, 2)));
+    let chains = more(more(one(alloc, first), second), third);
     match stepped(protocol(alloc, chains), State::zeros(), &[]) {
         Some(turn) => {
             turn.state.replaced
                 && !turn.state.clamped
-                && turn.out.to(0) == Some(note(BEAT, 0))
-                && turn.out.to(1).is_none()
-                && turn.out.to(2) == Some(note(ASK, 4))
+                && turn.out.to(0) == Some(packet(&[(ASK, 4), (BEAT, 0)]))
+                && turn.out.to(2) == Some(packet(&[(ASK, 5), (BEAT, 0)]))
         }
         None => false,
     }
@@ -253,6 +274,7 @@ fn rules_are_taken_in_order(rt: HostRuntime) {
 fn ranges_and_notes_are_watched(rt: HostRuntime) {
     let alloc = rt.alloc();
     assert!(rt; clamps(alloc));
+    assert!(rt; joins(alloc));
     assert!(rt; replaces(alloc));
     assert!(rt; repeats(alloc));
 }

@@ -23,9 +23,15 @@ mod limits;
 #[cfg(test)]
 mod machines;
 #[cfg(test)]
+mod packets;
+#[cfg(test)]
 mod replicas;
 #[cfg(test)]
 mod sameness;
+#[cfg(test)]
+mod single_runs;
+#[cfg(test)]
+mod singles;
 #[cfg(test)]
 mod states;
 #[cfg(test)]

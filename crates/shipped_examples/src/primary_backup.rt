@@ -2,15 +2,15 @@
 
 use crate::beside::{agrees, are_alike};
 use crate::build::{
-    List, STEP, alone, and, becomes, binary, constant, definition, equal, forms, given_from,
+    List, STEP, alone, and, becomes, binary, chain, constant, definition, equal, forms, given_from,
     given_number, is, leaf, more, nodes_from, none, number, one, only, plain, rule, rules, send,
-    set, variable, worded, yes,
+    set, unary, variable, worded, yes,
 };
 use crate::commit::waking;
 use crate::made::{Numbers, make};
 use lf_protocols::Protocol;
 use lf_rules::{
-    Assignment, Binary, Chain, Constant, Event, Given, Kind, Leaf, Rules, Send, Sort, Value,
+    Assignment, Binary, Chain, Constant, Event, Given, Kind, Leaf, Rules, Send, Sort, Unary, Value,
     Variable,
 };
 use std::alloc::{AllocError, Global};
@@ -25,6 +25,8 @@ const ROLE: u8 = 2;
 const CLAIM: u8 = 3;
 
 const SINCE: u8 = 4;
+
+const TOLD: u8 = 5;
 
 const HOLDS: u8 = 1;
 
@@ -56,7 +58,8 @@ fn variables(alloc: Global) -> List<Variable> {
     let done = more(copy, plain(alloc, "done", Kind::Flag));
     let role = more(done, worded(alloc, "role", ROLE, "backup primary"));
     let claim = more(role, worded(alloc, "claim", CLAIM, "unclaimed claimed"));
-    more(claim, plain(alloc, "since", STEP))
+    let since = more(claim, plain(alloc, "since", STEP));
+    more(since, plain(alloc, "told", Kind::Flag))
 }
 
 /// How long node 1 waits, and which nodes are clients.
@@ -78,27 +81,30 @@ fn always(
     alone(alloc, only(alloc, node), on, rule(yes(), sets, sends))
 }
 
-/// Node 0 is the primary, and sends a beat at each step; a copy takes the beat's place.
-fn beating(alloc: Global) -> List<Chain> {
+/// Node 0 is the primary. It has what is written copied, and tells node 2 once it is.
+fn copying(alloc: Global) -> List<Chain> {
     let primary = becomes(alloc, ROLE, PRIMARY);
     let start = one(alloc, always(alloc, 0, Event::Start, primary, none(alloc)));
-    let beat = send(alloc, BEAT, only(alloc, 1));
-    more(start, always(alloc, 0, Event::Begin, none(alloc), beat))
-}
-
-/// It has what is written copied, and tells node 2 once it is.
-fn copying(alloc: Global) -> List<Chain> {
     let copied = send(alloc, REPLICATE, only(alloc, 1));
-    let holds = becomes(alloc, COPY, HOLDS);
-    let written = more(
-        beating(alloc),
-        always(alloc, 0, Event::Note(WRITE), holds, copied),
-    );
-    let told = send(alloc, REPORT, only(alloc, 2));
+    let holds = more(becomes(alloc, COPY, HOLDS), set(TOLD, yes()));
+    let written = more(start, always(alloc, 0, Event::Note(WRITE), holds, copied));
+    let reported = send(alloc, REPORT, only(alloc, 2));
     more(
         written,
-        always(alloc, 0, Event::Note(ACKNOWLEDGE), none(alloc), told),
+        always(alloc, 0, Event::Note(ACKNOWLEDGE), none(alloc), reported),
     )
+}
+
+/// At the end of a step at which it has sent node 1 no copy it sends it a beat.
+fn beating(alloc: Global) -> Result<Chain, AllocError> {
+    let beat = send(alloc, BEAT, only(alloc, 1));
+    let silent = rule(unary(alloc, Unary::Not, variable(TOLD)), none(alloc), beat);
+    let later = rule(
+        yes(),
+        one(alloc, set(TOLD, leaf(Leaf::Truth(false)))),
+        none(alloc),
+    );
+    chain(only(alloc, 0), Event::End, more(one(alloc, silent), later))
 }
 
 /// Node 1 keeps the copy, and notes when it heard of node 0.
@@ -115,7 +121,8 @@ fn hearing(alloc: Global) -> List<Chain> {
     let kept = always(alloc, 1, Event::Note(REPLICATE), more(since, word), answer);
     let heard = one(alloc, set(SINCE, leaf(Leaf::Step)));
     let beat = always(alloc, 1, Event::Note(BEAT), heard, none(alloc));
-    more(more(copying(alloc), kept), beat)
+    let told = more(copying(alloc), beating(alloc));
+    more(more(told, kept), beat)
 }
 
 /// It takes node 0's place.

@@ -1,0 +1,144 @@
+//! A run of a machine with two forms of notes in which each packet has one note: what the law of single notes says of it.
+
+ghost use Rattle.std.specs.Prelude.{◌≡◌, ℕ, ◌<◌, ◌≤◌, IsTrue, IfSome};
+ghost use Rattle.lf_sim.specs.Runs.{view};
+ghost use Rattle.lf_sim.specs.Settings.{IsRun, cell_of, horizon_of, nodes_of, set_of, world_of};
+ghost use Rattle.lf_rule_machine.specs.SingleRuns.{AreSingles, IsSingle, world_of_notes};
+
+use crate::build::{
+    chain, definition, form, leaf, machine, more, one, only, plain, rule, send, set, unary, yes,
+};
+use lf_faults::{FaultSet, FaultSpec};
+use lf_latency::{Links, Network};
+use lf_rule_machine::{Packet, Ruled, runs_with_single_notes};
+use lf_rules::{Event, Kind, Leaf, Unary};
+use lf_sim::{Out, Run, Setting, run};
+use std::alloc::Global;
+
+/// Whether a packet, where there is one, has one note.
+fn is_single(packet: &Option<Packet>) -> bool
+    ensures { IsTrue result → IfSome packet.now IsSingle }
+{
+    match packet {
+        None => true,
+        Some(packet) => match packet.notes {
+            [Some(_), None, None, None] => true,
+            _ => false,
+        },
+    }
+}
+
+/// Whether each packet that a node sends in a step has one note.
+fn are_single(out: &Out<Packet>) -> bool
+    ensures { IsTrue result → AreSingles out.now }
+{
+    is_single(&out.to0)
+        && is_single(&out.to1)
+        && is_single(&out.to2)
+        && is_single(&out.to3)
+        && is_single(&out.to4)
+        && is_single(&out.to5)
+        && is_single(&out.to6)
+        && is_single(&out.to7)
+}
+
+/// Whether each packet that a node sends in a run has one note.
+fn sends_single_notes(run: &Run<Ruled>, node: u32) -> bool
+    requires { node < nodes_of run.now }
+    ensures { IsTrue result → (t : ℕ) → t ≤ horizon_of run.now → IfSome (cell_of run.now node t) (λ c. AreSingles c.out) }
+{
+    for step in 0..run.horizon() + 1 {
+        if !are_single(&run.turn(node, step).out) {
+            return false;
+        }
+    }
+    true
+}
+
+/// Whether each packet that is sent in a run has one note.
+fn has_single_notes(run: &Run<Ruled>) -> bool
+    ensures { IsTrue result → (n t : ℕ) → n < nodes_of run.now → t ≤ horizon_of run.now → IfSome (cell_of run.now n t) (λ c. AreSingles c.out) }
+{
+    for node in 0..run.nodes() {
+        if !sends_single_notes(run, node) {
+            return false;
+        }
+    }
+    true
+}
+
+/// Where each packet that is sent in a run has one note, the views are those of the run in which nodes send each other single notes.
+fn views_are_of_single_notes(setting: &Setting<Ruled>, run: &Run<Ruled>)
+    requires run { IsRun (world_of setting.now) run.now }
+    requires singles { (n t : ℕ) → n < nodes_of run.now → t ≤ horizon_of run.now → IfSome (cell_of run.now n t) (λ c. AreSingles c.out) }
+    ensures { (n t : ℕ) → view (world_of setting.now) (set_of run.now) n t
+        ≡ view (world_of_notes setting.now.machine (world_of setting.now)) (set_of run.now) n t }
+{
+    runs_with_single_notes();
+    let _definition = setting.machine.definition();
+}
+
+/// The machine in which node 0 asks the others at each step, and each that is asked answers by another form of notes.
+fn asking(alloc: Global) -> Option<Ruled> {
+    let asks = rule(
+        yes(),
+        Ok(Vec::new(alloc)),
+        one(alloc, send(alloc, 0, leaf(Leaf::All))),
+    );
+    let asker = unary(alloc, Unary::Only, leaf(Leaf::Sender));
+    let answers = rule(
+        yes(),
+        Ok(Vec::new(alloc)),
+        one(alloc, send(alloc, 1, asker)),
+    );
+    let keeps = rule(
+        yes(),
+        one(alloc, set(0, leaf(Leaf::Sender))),
+        Ok(Vec::new(alloc)),
+    );
+    let chains = more(
+        one(alloc, chain(only(alloc, 0), Event::Begin, one(alloc, asks))),
+        chain(leaf(Leaf::All), Event::Note(0), one(alloc, answers)),
+    );
+    let chains = more(
+        chains,
+        chain(leaf(Leaf::All), Event::Note(1), one(alloc, keeps)),
+    );
+    let variables = one(alloc, plain(alloc, Kind::UpTo(7)));
+    let notes = more(
+        one(alloc, form(alloc, Ok(Vec::new(alloc)))),
+        form(alloc, Ok(Vec::new(alloc))),
+    );
+    machine(alloc, definition(alloc, variables, notes, chains), 3, &[])
+}
+
+/// The machine on a network of three nodes, up to step 4.
+fn asked(alloc: Global) -> Option<Setting<Ruled>> {
+    let network = Network::new([0; 32], Links::new(3, 1, 1), 3, 4);
+    Setting::new(asking(alloc)?, network, FaultSpec::new(3, 4, 3, 1, 1)?)
+}
+
+/// Whether the law of single notes holds of a run without faults, since each of its packets has one note, and node 0 came to know a node that answered.
+fn keeps_its_meaning(alloc: Global, setting: &Setting<Ruled>) -> bool {
+    let Ok(run) = run(alloc, setting, &FaultSet::empty()) else {
+        return false;
+    };
+    if !has_single_notes(&run) {
+        return false;
+    }
+    views_are_of_single_notes(setting, &run);
+    knows_an_answer(&run)
+}
+
+fn knows_an_answer(run: &Run<Ruled>) -> bool {
+    run.nodes() == 3 && run.horizon() == 4 && run.state(0, 4).values[0] != 0
+}
+
+#[test]
+fn packets_of_one_note_among_two_forms(rt: HostRuntime) {
+    let holds = match asked(rt.alloc()) {
+        Some(setting) => keeps_its_meaning(rt.alloc(), &setting),
+        None => false,
+    };
+    assert!(rt; holds);
+}
