@@ -33,8 +33,8 @@ impl Protocol {
         }
     }
 
-    /// Appends the text of a note in a trace: of a protocol of rules that of its packet. The error is that memory has run out, and then the text may have a part
-    /// of it.
+    /// Appends the text of a note in a trace: of a protocol of rules that of its packet. The error is that memory has run out, and then the text may have a
+    /// part of it.
     pub fn push_note(&self, note: &Note, text: &mut String) -> Result<(), AllocError>
         ensures { IfOk result (λ _. string_bytes text.new ≡ string_bytes text.old ++ note_text self.now note.now) }
     {

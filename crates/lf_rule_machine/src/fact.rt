@@ -11,7 +11,7 @@ pub enum Told {
     Flag(u8),
     /// A value once went past the greatest of its kind.
     Clamped,
-    /// A note once took the place of another.
+    /// A note was once lost before it was sent: another one of its form took its place, or its packet had no room for it.
     Replaced,
 }
 

@@ -38,7 +38,7 @@ pub enum Leaf {
     Variable(u8),
     /// Whether a value of this node once went past the greatest of its kind.
     Clamped,
-    /// Whether a note of this node once took the place of another.
+    /// Whether a note of this node was once lost before it was sent: another one of its form took its place, or its packet had no room for it.
     Replaced,
     /// A named expression, by its number, as if it stood here.
     Let(u8),
