@@ -100,7 +100,7 @@ def function_at(text, at, path):
     cycle = re.search(r"#\[cycle\((\w+)\)\]", "\n".join(above(lines, first)))
     unit = "::".join([*module, f"+{cycle[1]}"]) if cycle else None
     whole = "::".join(it for it in [*module, owner, name] if it)
-    return Function(whole, unit or whole, path, first + 1, last + 1)
+    return Function(whole, unit or whole, path, first + 1 - len(above(lines, first)), last + 1)
 
 
 def above(lines, first):
@@ -209,16 +209,19 @@ def is_proof_of(function, file):
 def judge(edit, status, lines):
     """Returns whether a check refused an edit, or None where it said nothing of it, and why."""
     for function in edit.functions:
-        own = re.compile(rf"fn {edit.crate}::(?:\S*fn::)?{re.escape(function.path)}(?:::\S+)?: (not proved|could not tell)")
+        # (closures have names of their own; a proof that only rests on a refused one has other words)
+        own = re.compile(rf"fn {edit.crate}::(?:\S*fn::)?{re.escape(function.path)}(?:::\S+)?: (not proved|could not tell|no proof: (?!it calls))")
         verdicts = [found[1] for found in map(own.match, lines) if found]
         told = told_of(function, lines)
         errors = [it for it in told if ": error" in it] or told
-        if "not proved" in verdicts and errors and not all(NAMES.search(it) for it in errors):
+        if verdicts and errors and not all(NAMES.search(it) for it in errors):
             return True, errors[0][:160]
-        if "not proved" in verdicts and errors:
+        if verdicts and errors:
             return False, f"only a name is gone, which says nothing of the contract: change a value and keep the names: {errors[0][:160]}"
         if verdicts and any(LIMIT.search(it) for it in lines):
             return True, "only by a limit of the prover, which says less of the contract: choose a change that it refuses sooner"
+        if verdicts:
+            return None, f"{verdicts[0]}, and nothing is said of it"
     if any(re.search(r"\berror\[[\w-]+\]", it) for it in lines) or status not in (0, 1):
         return None, next((it for it in lines if "error" in it), f"status {status}")[:200]
     return False, "its functions are proved with it"
