@@ -242,9 +242,8 @@ def tried(kit, batch):
     functions = sorted({function.path for edit in batch for function in edit.functions})
     status, lines = kit.check(crate, batch, functions)
     found = [(edit, *judge(edit, status, lines)) for edit in batch]
-    if len(batch) > 1 and any(passed is None for _, passed, _ in found):
-        return [it for edit in batch for it in tried(kit, [edit])]
-    return found
+    # (what isn't refused beside others may be by itself: the prover may leave a proof that rests on a refused one)
+    return [it if it[1] or len(batch) == 1 else tried(kit, [it[0]])[0] for it in found]
 
 
 def asked():
