@@ -262,6 +262,9 @@ def main():
     if words.gate:
         named = set((ROOT / "more-edits" / "gate.txt").read_text().split())
         files = [it for it in files if f"{it.parent.name}/{it.stem}" in named]
+        lacking = named - {f"{it.parent.name}/{it.stem}" for it in files}
+        if lacking:
+            sys.exit(f"more-edits/gate.txt names what isn't there: {' '.join(sorted(lacking))}")
     edits = [Edit(it) for it in files if not words.crates or it.parent.name in words.crates]
     crates = dict.fromkeys(it.crate for it in edits)
     for crate in crates if not words.built else ():
