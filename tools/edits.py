@@ -1,9 +1,9 @@
 #!/usr/bin/env python3
 """Has the prover try wrong edits: each turns what a function does, and its crate's own contracts have to refuse it.
 
-    tools/edits.py [--gate] [--built] [--jobs N] [CRATE ..]
+    tools/edits.py [--gate] [--built] [--jobs N] [CRATE | CRATE/NAME ..]
 
-Tries the edits of more-edits/, of all crates or of those named; with --gate only those that more-edits/gate.txt names.
+Tries the edits of more-edits/, all of them or those named; with --gate only those that more-edits/gate.txt names.
 A crate's edits stand in more-edits/CRATE/NAME.edit, as lines `file: src/FILE.rt`, `old: TEXT` and `new: TEXT`, where TEXT stands once in the file.
 
 Edits of different functions are tried in one check, of these functions and of what they call: each function has a
@@ -77,8 +77,13 @@ def changes_of(file):
             yield Change(path, old, text)
 
 
-class Function(collections.namedtuple("Function", "path unit file first last")):
-    """A function: its path in the crate, the functions that are proved with it (itself, or a cycle), and its lines."""
+class Function(collections.namedtuple("Function", "path cycle file first last")):
+    """A function: its path, which for a method is the end of one, since it begins with the module of its type; the cycle of calls that it is proved with, if
+    there is one; and its lines."""
+
+    def unit(self):
+        """Returns what names the proof that it is part of."""
+        return self.cycle or self.path
 
 
 def function_at(text, at, path):
@@ -98,9 +103,8 @@ def function_at(text, at, path):
     owner = owner_of(lines, first) if indent else None
     module = [it for it in path.removeprefix("src/").removesuffix(".rt").split("/") if it not in ("lib", "main", "mod")]
     cycle = re.search(r"#\[cycle\((\w+)\)\]", "\n".join(above(lines, first)))
-    unit = "::".join([*module, f"+{cycle[1]}"]) if cycle else None
-    whole = "::".join(it for it in [*module, owner, name] if it)
-    return Function(whole, unit or whole, path, first + 1 - len(above(lines, first)), last + 1)
+    whole = "::".join([owner, name] if owner else [*module, name])
+    return Function(whole, cycle and f"+{cycle[1]}", path, first + 1 - len(above(lines, first)), last + 1)
 
 
 def above(lines, first):
@@ -127,7 +131,7 @@ def batches_of(edits):
     """Parts a crate's edits so that each part can be tried in one check: no two change the same function."""
     batches = []
     for edit in edits:
-        units = {it.unit for it in edit.functions if it}
+        units = {it.unit() for it in edit.functions if it}
         place = next((it for it in batches if not edit.is_whole() and not it[0][0].is_whole() and not units & it[1]), None)
         if place:
             place[0].append(edit)
@@ -201,16 +205,16 @@ def told_of(function, lines):
 
 def is_proof_of(function, file):
     """Whether a file is part of a function's proof. That of a cycle stands where all of its functions' modules meet."""
-    *_, name = function.unit.split("::")
-    folder = pathlib.PurePath(file).parent
-    return name == folder.name if name.startswith("+") else folder == pathlib.PurePath("proofs", *function.unit.split("::"))
+    names = function.unit().split("::")
+    folders = pathlib.PurePath(file).parts[:-1]
+    return folders[:1] == ("proofs",) and list(folders[-len(names) :]) == names
 
 
 def judge(edit, status, lines):
     """Returns whether a check refused an edit, or None where it said nothing of it, and why."""
     for function in edit.functions:
         # (closures have names of their own; a proof that only rests on a refused one has other words)
-        own = re.compile(rf"fn {edit.crate}::(?:\S*fn::)?{re.escape(function.path)}(?:::\S+)?: (not proved|could not tell|no proof: (?!it calls))")
+        own = re.compile(rf"fn {edit.crate}::(?:\S*::)?{re.escape(function.path)}(?:::\S+)?: (not proved|could not tell|no proof: (?!it calls))")
         verdicts = [found[1] for found in map(own.match, lines) if found]
         told = told_of(function, lines)
         errors = [it for it in told if ": error" in it] or told
@@ -230,7 +234,7 @@ def judge(edit, status, lines):
 def whole(edit, status, lines):
     """Judges an edit of what no function holds, by a check of the whole crate."""
     if status == 1 and lines and lines[-1].startswith("logic=not-proved"):
-        return True, next((it for it in lines if ": error" in it), "")[:160]
+        return True, next((it for it in lines if ": error" in it or "not proved" in it), "")[:160]
     return False, "the crate is proved with it" if status == 0 else f"status {status}"
 
 
@@ -249,11 +253,16 @@ def tried(kit, batch):
 def asked():
     """Returns what the words of the command line ask for."""
     words = argparse.ArgumentParser(description=__doc__, formatter_class=argparse.RawDescriptionHelpFormatter)
-    words.add_argument("crates", nargs="*", metavar="CRATE")
+    words.add_argument("names", nargs="*", metavar="CRATE | CRATE/NAME")
     words.add_argument("--gate", action="store_true", help="only the edits that more-edits/gate.txt names")
     words.add_argument("--built", action="store_true", help="take the libraries in crates/*/out as they stand")
     words.add_argument("--jobs", type=int, default=os.cpu_count(), help="how many checks run at a time")
     return words.parse_args()
+
+
+def names_of(file):
+    """Returns the words of the command line that ask for an edit."""
+    return file.parent.name, f"{file.parent.name}/{file.stem}"
 
 
 def main():
@@ -265,7 +274,10 @@ def main():
         lacking = named - {f"{it.parent.name}/{it.stem}" for it in files}
         if lacking:
             sys.exit(f"more-edits/gate.txt names what isn't there: {' '.join(sorted(lacking))}")
-    edits = [Edit(it) for it in files if not words.crates or it.parent.name in words.crates]
+    unknown = set(words.names) - {name for it in files for name in names_of(it)}
+    if unknown:
+        sys.exit(f"no edits of these names: {' '.join(sorted(unknown))}")
+    edits = [Edit(it) for it in files if not words.names or set(words.names) & set(names_of(it))]
     crates = dict.fromkeys(it.crate for it in edits)
     for crate in crates if not words.built else ():
         if subprocess.run(["rt", "check", "--only", ""], cwd=ROOT / "crates" / crate, stdout=subprocess.DEVNULL).returncode:
