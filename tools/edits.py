@@ -101,10 +101,14 @@ def function_at(text, at, path):
     indent, name = len(found[1]), found[2]
     last = next(it for it in range(first, len(lines)) if lines[it] == " " * indent + "}" or it > here and lines[it].endswith(";") and indent > len(lines[it]))
     owner = owner_of(lines, first) if indent else None
-    module = [it for it in path.removeprefix("src/").removesuffix(".rt").split("/") if it not in ("lib", "main", "mod")]
     cycle = re.search(r"#\[cycle\((\w+)\)\]", "\n".join(above(lines, first)))
-    whole = "::".join([owner, name] if owner else [*module, name])
+    whole = "::".join([owner, name] if owner else [*module_of(path), name])
     return Function(whole, cycle and f"+{cycle[1]}", path, first + 1 - len(above(lines, first)), last + 1)
+
+
+def module_of(path):
+    """Returns the names of the module that a file is."""
+    return [it for it in path.removeprefix("src/").removesuffix(".rt").split("/") if it not in ("lib", "main", "mod")]
 
 
 def above(lines, first):
@@ -238,14 +242,25 @@ def whole(edit, status, lines):
     return False, "the crate is proved with it" if status == 0 else f"status {status}"
 
 
+def checked(kit, batch):
+    """Checks the functions that some edits of a crate change, with these edits made in it. Returns the status and what was said."""
+    functions = {function.path: function for edit in batch for function in edit.functions}
+    while True:
+        status, lines = kit.check(batch[0].crate, batch, sorted(functions))
+        several = re.search(r"several functions are named `(.*?)`", "\n".join(lines)) if status == 2 else None
+        if not several or several[1] not in functions:
+            return status, lines
+        # (it is that of the type which the edited file declares)
+        function = functions.pop(several[1])
+        functions["::".join([*module_of(function.file), function.path])] = function
+
+
 def tried(kit, batch):
     """Tries some edits of a crate together, and returns what came of each."""
-    crate = batch[0].crate
     if batch[0].is_whole():
-        return [(batch[0], *whole(batch[0], *kit.check(crate, batch, [])))]
-    functions = sorted({function.path for edit in batch for function in edit.functions})
-    status, lines = kit.check(crate, batch, functions)
-    found = [(edit, *judge(edit, status, lines)) for edit in batch]
+        return [(batch[0], *whole(batch[0], *kit.check(batch[0].crate, batch, [])))]
+    said = checked(kit, batch)
+    found = [(edit, *judge(edit, *said)) for edit in batch]
     # (what isn't refused beside others may be by itself: the prover may leave a proof that rests on a refused one)
     return [it if it[1] or len(batch) == 1 else tried(kit, [it[0]])[0] for it in found]
 
