@@ -261,8 +261,12 @@ def tried(kit, batch):
         return [(batch[0], *whole(batch[0], *kit.check(batch[0].crate, batch, [])))]
     said = checked(kit, batch)
     found = [(edit, *judge(edit, *said)) for edit in batch]
-    # (what isn't refused beside others may be by itself: the prover may leave a proof that rests on a refused one)
-    return [it if it[1] or len(batch) == 1 else tried(kit, [it[0]])[0] for it in found]
+    refused, others = [it for it in found if it[1]], [it[0] for it in found if not it[1]]
+    if len(batch) == 1 or not others:
+        return found
+    # (the prover may leave a proof that rests on a refused one: the others are tried without those, and if that tells none, one by one)
+    again = [others] if refused else [[it] for it in others]
+    return refused + [it for some in again for it in tried(kit, some)]
 
 
 def asked():
