@@ -151,6 +151,11 @@ def libraries():
     return {name.split()[0]: below.split() for name, _, below in (it.partition(":") for it in lines if it)}
 
 
+def built(library):
+    """Returns the folder that a library of the repository is built into."""
+    return ROOT / "crates" / library / "out" / "rlib"
+
+
 class Kit:
     """The toolchain, and how it checks a crate."""
 
@@ -168,16 +173,15 @@ class Kit:
 
     def words(self, crate):
         """Returns the words of a check of a crate, but for its functions."""
-        rlib = lambda it: ROOT / "crates" / it / "out" / "rlib"
         words = [self.folder / "bin" / "rattle", "check", "--crate-name", crate, "src/lib.rt"]
         for name in ["std", *[it for it in self.crates[crate] if it not in self.crates]]:
             words += ["--extern", f"{name}={self.folder}/rlibs/{name}.rlib"]
         words += ["-L", f"dependency={self.folder}/rlibs"]
         for name in self.crates[crate]:
             if name in self.crates:
-                words += ["--extern", f"{name}={rlib(name)}/{name}.rlib"]
+                words += ["--extern", f"{name}={built(name)}/{name}.rlib"]
         for name in self.below(crate):
-            words += ["-L", f"dependency={rlib(name)}"]
+            words += ["-L", f"dependency={built(name)}"]
         words += ["--antt-project", self.folder / "rattle/logic/antt-project.json", "--logic-built", self.folder / "logic_built"]
         return [*map(str, words), "--links", f"{crate}=", "--jobs", "1"]
 
@@ -301,6 +305,9 @@ def main():
     for crate in crates if not words.built else ():
         if subprocess.run(["rt", "check", "--only", ""], cwd=ROOT / "crates" / crate, stdout=subprocess.DEVNULL).returncode:
             sys.exit(f"{crate}: a library below it isn't proved: see `rt check` in its folder")
+    lacking = sorted({it for crate in crates for it in kit.below(crate) if not built(it).is_dir()})
+    if lacking:
+        sys.exit(f"these libraries aren't built, as `rt ci` leaves them: {' '.join(lacking)}. Without --built they are built first")
     passed = failed = 0
 
     def told(edit, is_refused, why):

@@ -12,19 +12,19 @@ use Rattle.lf_grammar.proofs.Typings.{fit-set}
 
 -- a value of any sort is of the sort with which it is read
 pub truth-sorted : (at : Context) (ts : List Token) (x : Found) → first_truth at ts ≡ Some x
-    → tree_sort at.definition at.scope x.said.term ≡ Some x.said.sort
+    → tree_sort at.definition at.scope at.within x.said.term ≡ Some x.said.sort
 unfolding first_truth
 truth-sorted at ts x e = (fits at (suc (steps (All levels.Or) ts)) (All levels.Or) ts x tt e).sort.is
 
 -- and so is a sum
 pub sum-sorted : (at : Context) (ts : List Token) (x : Found) → first_sum at ts ≡ Some x
-    → tree_sort at.definition at.scope x.said.term ≡ Some x.said.sort
+    → tree_sort at.definition at.scope at.within x.said.term ≡ Some x.said.sort
 unfolding first_sum
 sum-sorted at ts x e = (fits at (suc (steps (All levels.Sum) ts)) (All levels.Sum) ts x tt e).sort.is
 
 -- what is of its sort still is where a number is made a set
-pub set-sorted : (at : Context) (a c : Said) → tree_sort at.definition at.scope a.term ≡ Some a.sort → as_set a ≡ Some c
-    → tree_sort at.definition at.scope c.term ≡ Some c.sort
+pub set-sorted : (at : Context) (a c : Said) → tree_sort at.definition at.scope at.within a.term ≡ Some a.sort → as_set a ≡ Some c
+    → tree_sort at.definition at.scope at.within c.term ≡ Some c.sort
 set-sorted at a c is e = (fit-set {at = at} a.sort (record { is = is }) e).sort.is
 
 -- what is left behind a sum is no longer than what was there

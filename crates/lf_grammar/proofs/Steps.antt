@@ -6,6 +6,9 @@ use Rattle.lf_rules.specs.Terms as terms
 use Rattle.lf_rules.specs.declared.expr.Leaf.{Leaf}
 use Rattle.lf_rules.specs.declared.sort.Sort.{Sort}
 use Rattle.lf_rules.specs.declared.expr.Unary.TheVariants as ones
+use Rattle.lf_rules.specs.declared.expr.Row.{Row}
+use Rattle.lf_rules.specs.declared.expr.Over.{Over}
+use Rattle.lf_rules.specs.declared.expr.Over.TheVariants as overs
 use Rattle.lf_grammar.specs.declared.sign.Sign.{Sign}
 use Rattle.lf_grammar.specs.declared.sign.Sign.TheVariants as signs
 use Rattle.lf_grammar.specs.declared.token.Token.{Token}
@@ -14,11 +17,12 @@ use Rattle.lf_grammar.specs.declared.error.Unread.{Unread}
 use Rattle.lf_grammar.specs.declared.level.Level.{Level}
 use Rattle.lf_grammar.specs.declared.level.Level.TheVariants as levels
 use Rattle.lf_grammar.specs.declared.calls.Call.{Call}
-use Rattle.lf_grammar.specs.Places.{Context}
-use Rattle.lf_grammar.specs.Typing.{Said, ◌>>=◌, by_one, compared, joined, by_call, only_by, between, how_many, no_node}
-use Rattle.lf_grammar.specs.Fronts.{Cut, Joined, behind_word, behind_sign, behind_comparison, behind_joint, ends_item, called}
-use Rattle.lf_grammar.specs.Expressions.{Found, found, Alone, Round, Curly, Called, Nowhere, Next, All, Left, More, Right, Denied, Comparison, Compared}
-use Rattle.lf_grammar.specs.Expressions.{Atom, Behind, Second, Item, Range, cases_of, closed, begins, begins_sign, begins_word, read, all_depth}
+use Rattle.lf_grammar.specs.Places.{Context, body_at, row_of}
+use Rattle.lf_grammar.specs.Typing.{Said, ◌>>=◌, typed, by_one, compared, joined, by_call, at_place, over_set, only_by, between, how_many, no_node}
+use Rattle.lf_grammar.specs.Fronts.{Cut, Joined, behind_word, behind_sign, behind_comparison, behind_joint, ends_item, called, of_body, level_of, end_of}
+use Rattle.lf_grammar.specs.Expressions.{Found, found, Alone, Named, Round, Curly, Called, Nowhere, Next, All, Left, More, Right, Denied, Comparison, Compared}
+use Rattle.lf_grammar.specs.Expressions.{Atom, Behind, Placed, Second, Single, Item, Range, Members, Body, cases_of, closed, begins, begins_sign, begins_word}
+use Rattle.lf_grammar.specs.Expressions.{read, all_depth}
 use Rattle.lf_grammar.specs.Expressions.{left_depth, steps, first_divisor}
 use Rattle.lf_grammar.specs.Readings.{IsRead, Reads, Finds}
 
@@ -69,6 +73,11 @@ left-low levels.Or = omega arith
 left-low levels.And = omega arith
 left-low levels.Sum = omega arith
 left-low levels.Term = omega arith
+
+body-below : (op : Over) → all_depth (level_of op) ≤ 13
+body-below overs.Those = omega arith
+body-below overs.Least = omega arith
+body-below overs.Greatest = omega arith
 
 module _ {at : Context} where
   -- what is done with a call's answer is done with what it reads
@@ -218,7 +227,7 @@ module _ {at : Context} where
   unfolding read
   round-none a = step (λ m h. then-none _ (a.runs m (omega (arith, h))))
 
-  pub round-by : {ts : List Token} {x : Found} {o : Option Found} → IsRead at (All levels.Or) ts (Some x) → closed (Some x.said) x.rest ≡ o
+  pub round-by : {ts : List Token} {x : Found} {o : Option Found} → IsRead at (All levels.Or) ts (Some x) → closed signs.CloseRound (Some x.said) x.rest ≡ o
       → IsRead at (Behind Round) ts o
   unfolding read
   round-by a e = step (λ m h. then-some _ (a.runs m (omega (arith, h))) e)
@@ -227,15 +236,83 @@ module _ {at : Context} where
   unfolding read
   curly-empty e = step (λ m h. case-some _ _ e refl)
 
-  pub curly-none : {ts : List Token} → behind_sign signs.CloseCurly ts ≡ None → IsRead at (All levels.Items) ts None → IsRead at (Behind Curly) ts None
+  pub curly-none : {ts : List Token} → behind_sign signs.CloseCurly ts ≡ None → IsRead at (All levels.Sum) ts None → IsRead at (Behind Curly) ts None
   unfolding read
   curly-none e a = step (λ m h. case-none _ _ e (then-none _ (a.runs m (omega (arith, h)))))
 
-  pub curly-by : {ts : List Token} {x : Found} {p : Option (List Token)} → behind_sign signs.CloseCurly ts ≡ None → IsRead at (All levels.Items) ts (Some x)
-      → behind_sign signs.CloseCurly x.rest ≡ p → IsRead at (Behind Curly) ts (p >>= λ rest. found x.said rest)
+  pub curly-more : {ts : List Token} {x : Found} {o : Option Found} → behind_sign signs.CloseCurly ts ≡ None → IsRead at (All levels.Sum) ts (Some x)
+      → length x.rest ≤ length ts → IsRead at (Members x.said) x.rest o → IsRead at (Behind Curly) ts o
   unfolding read
-  curly-by {x = x} e a f =
-      step (λ m h. case-none _ _ e (then-some _ (a.runs m (omega (arith, h))) (ap (λ p. p >>= λ rest. found x.said rest) f)))
+  curly-more e a s b = step (λ m h. case-none _ _ e (then-some _ (a.runs m (omega (arith, h))) (b.runs m (omega (arith, h, s)))))
+
+  -- what stands in a set
+  pub members-none : {a : Said} {ts : List Token} → behind_word (codes "where") ts ≡ None → IsRead at (Range a) ts None → IsRead at (Members a) ts None
+  unfolding read
+  members-none e a = step (λ m h. case-none _ _ e (then-none _ (a.runs m (omega (arith, h)))))
+
+  pub members-unread : {a : Said} {ts : List Token} {x : Found} → behind_word (codes "where") ts ≡ None → IsRead at (Range a) ts (Some x)
+      → length x.rest ≤ length ts → IsRead at (More levels.Items x.said) x.rest None → IsRead at (Members a) ts None
+  unfolding read
+  members-unread e a s b =
+      step (λ m h. case-none _ _ e (then-some _ (a.runs m (omega (arith, h))) (then-none _ (b.runs m (omega (arith, h, s))))))
+
+  pub members-by : {a : Said} {ts : List Token} {x y : Found} {o : Option Found} → behind_word (codes "where") ts ≡ None → IsRead at (Range a) ts (Some x)
+      → length x.rest ≤ length ts → IsRead at (More levels.Items x.said) x.rest (Some y) → closed signs.CloseCurly (Some y.said) y.rest ≡ o
+      → IsRead at (Members a) ts o
+  unfolding read
+  members-by e a s b f =
+      step (λ m h. case-none _ _ e (then-some _ (a.runs m (omega (arith, h))) (then-some _ (b.runs m (omega (arith, h, s))) f)))
+
+  pub members-where : {a : Said} {ts after : List Token} {o : Option Found} → behind_word (codes "where") ts ≡ Some after → length after < length ts
+      → IsRead at (Body overs.Those a) after o → IsRead at (Members a) ts o
+  unfolding read
+  members-where e s b = step (λ m h. case-some _ _ e (b.runs m (omega (arith, h, s))))
+
+  -- bodies
+  pub body-nowhere : {op : Over} {a : Said} {ts : List Token} → body_at at ≡ None → IsRead at (Body op a) ts None
+  unfolding read
+  body-nowhere e = step (λ m h. then-none _ e)
+
+  pub body-none : {op : Over} {a : Said} {ts : List Token} {inner : Context} → body_at at ≡ Some inner → IsRead inner (All (level_of op)) ts None
+      → IsRead at (Body op a) ts None
+  unfolding read
+  body-none {op} e b = step (λ m h. then-some _ e (then-none _ (b.runs m (omega (arith, h, body-below op)))))
+
+  pub body-by : {op : Over} {a : Said} {ts : List Token} {inner : Context} {x : Found} {o : Option Found} → body_at at ≡ Some inner
+      → IsRead inner (All (level_of op)) ts (Some x) → closed (end_of op) (over_set op a x.said) x.rest ≡ o → IsRead at (Body op a) ts o
+  unfolding read
+  body-by {op} e b f = step (λ m h. then-some _ e (then-some _ (b.runs m (omega (arith, h, body-below op))) f))
+
+  -- names
+  pub named-alone : {alone : Option Said} {row : Option Row} {a : Said} {ts : List Token} → behind_sign signs.OpenSquare ts ≡ None → alone ≡ Some a
+      → IsRead at (Behind (Named alone row)) ts (found a ts)
+  unfolding read
+  named-alone e f = step (λ m h. case-none _ _ e (then-some _ f refl))
+
+  pub named-unfit : {alone : Option Said} {row : Option Row} {ts : List Token} → behind_sign signs.OpenSquare ts ≡ None → alone ≡ None
+      → IsRead at (Behind (Named alone row)) ts None
+  unfolding read
+  named-unfit e f = step (λ m h. case-none _ _ e (then-none _ f))
+
+  pub named-items : {alone : Option Said} {row : Option Row} {r : Row} {ts after : List Token} {o : Option Found}
+      → behind_sign signs.OpenSquare ts ≡ Some after → length after < length ts → row ≡ Some r → IsRead at (Placed r) after o
+      → IsRead at (Behind (Named alone row)) ts o
+  unfolding read
+  named-items e s f a = step (λ m h. case-some _ _ e (then-some _ f (a.runs m (omega (arith, h, s)))))
+
+  pub named-none : {alone : Option Said} {row : Option Row} {ts after : List Token} → behind_sign signs.OpenSquare ts ≡ Some after → row ≡ None
+      → IsRead at (Behind (Named alone row)) ts None
+  unfolding read
+  named-none e f = step (λ m h. case-some _ _ e (then-none _ f))
+
+  pub placed-none : {row : Row} {ts : List Token} → IsRead at (All levels.Sum) ts None → IsRead at (Placed row) ts None
+  unfolding read
+  placed-none a = step (λ m h. then-none _ (a.runs m (omega (arith, h))))
+
+  pub placed-by : {row : Row} {ts : List Token} {x : Found} {o : Option Found} → IsRead at (All levels.Sum) ts (Some x)
+      → closed signs.CloseSquare (at_place at.definition at.scope row x.said) x.rest ≡ o → IsRead at (Placed row) ts o
+  unfolding read
+  placed-by a e = step (λ m h. then-some _ (a.runs m (omega (arith, h))) e)
 
   -- calls
   pub call-unopened : {call : Call} {ts : List Token} → behind_sign signs.OpenRound ts ≡ None → IsRead at (Behind (Called call)) ts None
@@ -255,10 +332,25 @@ module _ {at : Context} where
   call-more e s a t b =
       step (λ m h. then-some _ e (then-some _ (a.runs m (omega (arith, h, s))) (b.runs m (omega (arith, h, s, t)))))
 
-  pub second-left : {call : Call} {a : Said} {ts : List Token} {o : Option Found} → behind_sign signs.Comma ts ≡ None → closed (by_call call a None) ts ≡ o
+  pub second-single : {call : Call} {a : Said} {ts : List Token} {o : Option Found} → behind_sign signs.Comma ts ≡ None → IsRead at (Single call a) ts o
       → IsRead at (Second call a) ts o
   unfolding read
-  second-left e f = step (λ m h. case-none _ _ e f)
+  second-single e b = step (λ m h. case-none _ _ e (b.runs m (omega (arith, h))))
+
+  pub single-left : {call : Call} {a : Said} {ts : List Token} {o : Option Found} → behind_sign signs.Colon ts ≡ None
+      → closed signs.CloseRound (by_call call a None) ts ≡ o → IsRead at (Single call a) ts o
+  unfolding read
+  single-left e f = step (λ m h. case-none _ _ e f)
+
+  pub single-none : {call : Call} {a : Said} {ts after : List Token} → behind_sign signs.Colon ts ≡ Some after → of_body call ≡ None
+      → IsRead at (Single call a) ts None
+  unfolding read
+  single-none e f = step (λ m h. case-some _ _ e (then-none _ f))
+
+  pub single-body : {call : Call} {op : Over} {a : Said} {ts after : List Token} {o : Option Found} → behind_sign signs.Colon ts ≡ Some after
+      → length after < length ts → of_body call ≡ Some op → IsRead at (Body op a) after o → IsRead at (Single call a) ts o
+  unfolding read
+  single-body e s f b = step (λ m h. case-some _ _ e (then-some _ f (b.runs m (omega (arith, h, s)))))
 
   pub second-none : {call : Call} {a : Said} {ts after : List Token} → behind_sign signs.Comma ts ≡ Some after → length after < length ts
       → IsRead at (All levels.Sum) after None → IsRead at (Second call a) ts None
@@ -267,7 +359,7 @@ module _ {at : Context} where
 
   pub second-by : {call : Call} {a : Said} {ts after : List Token} {x : Found} {o : Option Found} → behind_sign signs.Comma ts ≡ Some after
       → length after < length ts
-      → IsRead at (All levels.Sum) after (Some x) → closed (by_call call a (Some x.said)) x.rest ≡ o → IsRead at (Second call a) ts o
+      → IsRead at (All levels.Sum) after (Some x) → closed signs.CloseRound (by_call call a (Some x.said)) x.rest ≡ o → IsRead at (Second call a) ts o
   unfolding read
   second-by e s b f = step (λ m h. case-some _ _ e (then-some _ (b.runs m (omega (arith, h, s))) f))
 
@@ -304,22 +396,36 @@ module _ {at : Context} where
       step (λ m h. case-some _ _ e (rw t (then-some _ (b.runs m (omega (arith, h, s))) (ap (λ p. p >>= λ b. found b x.rest) f))))
 
 -- closing brackets
-pub closed-by : {rest : List Token} (a : Option Said) (ts : List Token) → behind_sign signs.CloseRound ts ≡ Some rest
-    → closed a ts ≡ (a >>= λ b. found b rest)
-closed-by a ts e = then-some _ e refl
+pub closed-by : {rest : List Token} (sign : Sign) (a : Option Said) (ts : List Token) → behind_sign sign ts ≡ Some rest
+    → closed sign a ts ≡ (a >>= λ b. found b rest)
+closed-by sign a ts e = then-some _ e refl
 
-pub closed-none : (a : Option Said) (ts : List Token) → behind_sign signs.CloseRound ts ≡ None → closed a ts ≡ None
-closed-none a ts e = then-none _ e
+pub closed-none : (sign : Sign) (a : Option Said) (ts : List Token) → behind_sign sign ts ≡ None → closed sign a ts ≡ None
+closed-none sign a ts e = then-none _ e
+
+-- what is made, where it can be and a bracket closes behind it
+pub closed-made : {rest : List Token} {a : Option Said} {c : Said} (sign : Sign) (ts : List Token) → behind_sign sign ts ≡ Some rest → a ≡ Some c
+    → closed sign a ts ≡ found c rest
+closed-made {a = a} sign ts e f = closed-by sign a ts e ∙ then-some _ f refl
+
+pub closed-unfit : {rest : List Token} {a : Option Said} (sign : Sign) (ts : List Token) → behind_sign sign ts ≡ Some rest → a ≡ None
+    → closed sign a ts ≡ None
+closed-unfit {a = a} sign ts e f = closed-by sign a ts e ∙ then-none _ f
+
+-- what a leaf is by itself
+pub leaf-typed : (leaf : Leaf) {sort : Sort} {o : Option Sort} → o ≡ Some sort
+    → typed (terms.Leaf leaf) o ≡ Some (record { term = terms.Leaf leaf; sort = sort })
+leaf-typed leaf e = ap (typed (terms.Leaf leaf)) e
+
+pub leaf-untyped : (leaf : Leaf) {o : Option Sort} → o ≡ None → typed (terms.Leaf leaf) o ≡ None
+leaf-untyped leaf e = ap (typed (terms.Leaf leaf)) e
 
 -- what a word begins
 module _ {at : Context} {ts : List Token} (word : List ℕ) where
-  pub word-alone : {o : Option Leaf} {leaf : Leaf} {sort : Sort} → o ≡ Some leaf → leaf_sort at.definition at.scope leaf ≡ Some sort
-      → IsRead at (Behind (begins_word at word o)) ts (found (record { term = terms.Leaf leaf; sort = sort }) ts)
-  word-alone {leaf = leaf} {sort = sort} e f = rw (e, f) alone-by
-
-  pub word-unfit : {o : Option Leaf} {leaf : Leaf} → o ≡ Some leaf → leaf_sort at.definition at.scope leaf ≡ None
-      → IsRead at (Behind (begins_word at word o)) ts None
-  word-unfit e f = rw (e, f) nowhere-by
+  pub word-named : {o : Option Leaf} {leaf : Leaf} {p : Option Found} → o ≡ Some leaf
+      → IsRead at (Behind (Named (typed (terms.Leaf leaf) (leaf_sort at.definition at.scope at.within leaf)) (row_of at.definition leaf))) ts p
+      → IsRead at (Behind (begins_word at word o)) ts p
+  word-named e a = rw e a
 
   pub word-called : {o : Option Leaf} {call : Call} {p : Option Found} → o ≡ None → called word ≡ Some call → IsRead at (Behind (Called call)) ts p
       → IsRead at (Behind (begins_word at word o)) ts p

@@ -4,6 +4,10 @@ use Rattle.std.specs.Prelude.{if◌then◌else◌}
 use Rattle.lf_rules.specs.Terms as terms
 use Rattle.lf_rules.specs.declared.expr.Unary.{Unary}
 use Rattle.lf_rules.specs.declared.expr.Unary.TheVariants as ones
+use Rattle.lf_rules.specs.declared.expr.Row.{Row}
+use Rattle.lf_rules.specs.declared.expr.Over.{Over}
+use Rattle.lf_rules.specs.declared.expr.Over.TheVariants as overs
+use Rattle.lf_grammar.specs.declared.sign.Sign.{Sign}
 use Rattle.lf_grammar.specs.declared.sign.Sign.TheVariants as signs
 use Rattle.lf_grammar.specs.declared.token.Token.{Token}
 use Rattle.lf_grammar.specs.declared.token.Token.TheVariants as tokens
@@ -12,11 +16,12 @@ use Rattle.lf_grammar.specs.declared.level.Level.TheVariants as levels
 use Rattle.lf_grammar.specs.declared.level.Joint.{Joint}
 use Rattle.lf_grammar.specs.declared.level.Joint.TheVariants as joints
 use Rattle.lf_grammar.specs.declared.calls.Call.{Call}
-use Rattle.lf_grammar.specs.Places.{Context}
-use Rattle.lf_grammar.specs.Typing.{Said, ◌>>=◌, by_one, compared, joined, by_call, only_by, between, how_many, no_node}
-use Rattle.lf_grammar.specs.Fronts.{Cut, cut, Joined, behind_word, behind_sign, behind_comparison, behind_joint, ends_item}
-use Rattle.lf_grammar.specs.Expressions.{Found, found, Alone, Round, Curly, Called, Nowhere, Next, All, Left, More, Right, Denied, Comparison}
-use Rattle.lf_grammar.specs.Expressions.{Compared, Atom, Behind, Second, Item, Range, cases_of, closed, begins, first_divisor, read, steps}
+use Rattle.lf_grammar.specs.Places.{Context, body_at}
+use Rattle.lf_grammar.specs.Typing.{Said, ◌>>=◌, by_one, compared, joined, by_call, at_place, over_set, only_by, between, how_many, no_node}
+use Rattle.lf_grammar.specs.Fronts.{Cut, cut, Joined, behind_word, behind_sign, behind_comparison, behind_joint, of_body, level_of, end_of, ends_item}
+use Rattle.lf_grammar.specs.Expressions.{Found, found, Alone, Named, Round, Curly, Called, Nowhere, Next, All, Left, More, Right, Denied, Comparison}
+use Rattle.lf_grammar.specs.Expressions.{Compared, Atom, Behind, Placed, Second, Single, Item, Range, Members, Body, cases_of, closed, begins, first_divisor}
+use Rattle.lf_grammar.specs.Expressions.{read, steps}
 use Rattle.lf_grammar.proofs.Enough.{enough-same}
 
 -- one step after another, where something is there or isn't
@@ -58,10 +63,6 @@ module _ {at : Context} where
       → IsSure at (All level) ts o
   unfolding read
   sure-all a b = step (a.least + b.least) (λ n h. then-some _ (a.runs n (omega (arith, h))) (b.runs n (omega (arith, h))))
-
-  sure-left-items : {ts : List Token} {o : Option Found} → IsSure at Item ts o → IsSure at (Left levels.Items) ts o
-  unfolding read
-  sure-left-items a = step a.least (λ n h. a.runs n h)
 
   sure-left-or : {ts : List Token} {o : Option Found} → IsSure at (All levels.And) ts o → IsSure at (Left levels.Or) ts o
   unfolding read
@@ -137,6 +138,23 @@ module _ {at : Context} where
   unfolding read
   sure-alone = step 0 (λ n h. refl)
 
+  -- a name by itself, and one with a place in brackets
+  pub sure-named : {row : Option Row} {a : Said} {ts : List Token} → behind_sign signs.OpenSquare ts ≡ None
+      → IsSure at (Behind (Named (Some a) row)) ts (found a ts)
+  unfolding read
+  sure-named e = step 0 (λ n h. case-none _ _ e refl)
+
+  pub sure-placed : {alone : Option Said} {row : Row} {ts rest : List Token} {a c : Said}
+      → IsSure at (All levels.Sum) ts (found a (tokens.Sign signs.CloseSquare ∷ rest)) → at_place at.definition at.scope row a ≡ Some c
+      → IsSure at (Behind (Named alone (Some row))) (tokens.Sign signs.OpenSquare ∷ ts) (found c rest)
+  unfolding read
+  sure-placed {alone} {row} {ts} {rest} {a} {c} s f =
+      step (suc s.least) (λ n h. placed n h)
+    where
+      placed : (n : ℕ) → suc s.least ≤ n → read at n (Placed row) ts ≡ found c rest
+      placed zero h = absurd (omega (arith, h))
+      placed (suc n) h = then-some _ (s.runs n (omega (arith, h))) (then-some _ f refl)
+
   -- what stands in round brackets
   pub sure-round : {ts rest : List Token} {a : Said} → IsSure at (All levels.Or) ts (found a (tokens.Sign signs.CloseRound ∷ rest))
       → IsSure at (Behind Round) ts (found a rest)
@@ -147,22 +165,37 @@ module _ {at : Context} where
   unfolding read
   sure-empty = step 0 (λ n h. refl)
 
-  sure-curly : {ts rest : List Token} {a : Said} → behind_sign signs.CloseCurly ts ≡ None
-      → IsSure at (All levels.Items) ts (found a (tokens.Sign signs.CloseCurly ∷ rest)) → IsSure at (Behind Curly) ts (found a rest)
+  sure-curly : {ts : List Token} {x : Found} {o : Option Found} → behind_sign signs.CloseCurly ts ≡ None → IsSure at (All levels.Sum) ts (Some x)
+      → IsSure at (Members x.said) x.rest o → IsSure at (Behind Curly) ts o
   unfolding read
-  sure-curly e a = step a.least (λ n h. case-none _ _ e (then-some _ (a.runs n h) refl))
+  sure-curly e a b = step (a.least + b.least) (λ n h. case-none _ _ e (then-some _ (a.runs n (omega (arith, h))) (b.runs n (omega (arith, h)))))
+
+  sure-members : {a c : Said} {ts rest : List Token} {x : Found} → behind_word (codes "where") ts ≡ None → IsSure at (Range a) ts (Some x)
+      → IsSure at (More levels.Items x.said) x.rest (found c (tokens.Sign signs.CloseCurly ∷ rest)) → IsSure at (Members a) ts (found c rest)
+  unfolding read
+  sure-members e a b =
+      step (a.least + b.least) (λ n h. case-none _ _ e (then-some _ (a.runs n (omega (arith, h))) (then-some _ (b.runs n (omega (arith, h))) refl)))
+
+  sure-where : {a : Said} {ts : List Token} {o : Option Found} → IsSure at (Body overs.Those a) ts o
+      → IsSure at (Members a) (tokens.Word (codes "where") ∷ ts) o
+  unfolding read
+  sure-where b = step b.least (λ n h. b.runs n h)
 
   pub sure-call : {call : Call} {ts rest : List Token} {a c : Said} → IsSure at (All levels.Sum) ts (found a (tokens.Sign signs.CloseRound ∷ rest))
       → by_call call a None ≡ Some c → IsSure at (Behind (Called call)) (tokens.Sign signs.OpenRound ∷ ts) (found c rest)
   unfolding read
   sure-call {call} {ts} {rest} {a} {c} s f =
-      step (suc s.least) (λ n h. go n h)
+      step (suc (suc s.least)) (λ n h. go n h)
     where
-      second : (n : ℕ) → 1 ≤ n → read at n (Second call a) (tokens.Sign signs.CloseRound ∷ rest) ≡ found c rest
-      second zero h = absurd (omega (arith, h))
-      second (suc n) h = then-some _ f refl
+      single : (n : ℕ) → 1 ≤ n → read at n (Single call a) (tokens.Sign signs.CloseRound ∷ rest) ≡ found c rest
+      single zero h = absurd (omega (arith, h))
+      single (suc n) h = then-some _ f refl
 
-      go : (n : ℕ) → suc s.least ≤ n → read at (suc n) (Behind (Called call)) (tokens.Sign signs.OpenRound ∷ ts) ≡ found c rest
+      second : (n : ℕ) → 2 ≤ n → read at n (Second call a) (tokens.Sign signs.CloseRound ∷ rest) ≡ found c rest
+      second zero h = absurd (omega (arith, h))
+      second (suc n) h = single n (omega (arith, h))
+
+      go : (n : ℕ) → suc (suc s.least) ≤ n → read at (suc n) (Behind (Called call)) (tokens.Sign signs.OpenRound ∷ ts) ≡ found c rest
       go n h = then-some _ (s.runs n (omega (arith, h))) (second n (omega (arith, h)))
 
   pub sure-call-of-two : {call : Call} {ts us rest : List Token} {a b c : Said} → IsSure at (All levels.Sum) ts (found a (tokens.Sign signs.Comma ∷ us))
@@ -179,10 +212,34 @@ module _ {at : Context} where
       go : (n : ℕ) → suc (s.least + u.least) ≤ n → read at (suc n) (Behind (Called call)) (tokens.Sign signs.OpenRound ∷ ts) ≡ found c rest
       go n h = then-some _ (s.runs n (omega (arith, h))) (second n (omega (arith, h)))
 
-  sure-item : {ts : List Token} {x : Found} {o : Option Found} → IsSure at (All levels.Sum) ts (Some x) → IsSure at (Range x.said) x.rest o
-      → IsSure at Item ts o
+  -- a body, and what closes behind it
+  sure-body : {inner : Context} {op : Over} {a b c : Said} {ts us rest : List Token} → body_at at ≡ Some inner
+      → IsSure inner (All (level_of op)) ts (found b us) → behind_sign (end_of op) us ≡ Some rest → over_set op a b ≡ Some c
+      → IsSure at (Body op a) ts (found c rest)
   unfolding read
-  sure-item a b = step (a.least + b.least) (λ n h. then-some _ (a.runs n (omega (arith, h))) (b.runs n (omega (arith, h))))
+  sure-body e s g f = step s.least (λ n h. then-some _ e (then-some _ (s.runs n h) (then-some _ g (then-some _ f refl))))
+
+  pub sure-call-of-body : {inner : Context} {call : Call} {op : Over} {ts us vs rest : List Token} {a b c : Said} → body_at at ≡ Some inner
+      → of_body call ≡ Some op → IsSure at (All levels.Sum) ts (found a (tokens.Sign signs.Colon ∷ us))
+      → IsSure inner (All (level_of op)) us (found b vs) → behind_sign (end_of op) vs ≡ Some rest → over_set op a b ≡ Some c
+      → IsSure at (Behind (Called call)) (tokens.Sign signs.OpenRound ∷ ts) (found c rest)
+  unfolding read
+  sure-call-of-body {inner} {call} {op} {ts} {us} {vs} {rest} {a} {b} {c} e o s u g f =
+      step (suc (suc (s.least + body.least))) (λ n h. go n h)
+    where
+      body : IsSure at (Body op a) us (found c rest)
+      body = sure-body e u g f
+
+      single : (n : ℕ) → suc body.least ≤ n → read at n (Single call a) (tokens.Sign signs.Colon ∷ us) ≡ found c rest
+      single zero h = absurd (omega (arith, h))
+      single (suc n) h = then-some _ o (body.runs n (omega (arith, h)))
+
+      second : (n : ℕ) → suc (suc body.least) ≤ n → read at n (Second call a) (tokens.Sign signs.Colon ∷ us) ≡ found c rest
+      second zero h = absurd (omega (arith, h))
+      second (suc n) h = single n (omega (arith, h))
+
+      go : (n : ℕ) → suc (suc (s.least + body.least)) ≤ n → read at (suc n) (Behind (Called call)) (tokens.Sign signs.OpenRound ∷ ts) ≡ found c rest
+      go n h = then-some _ (s.runs n (omega (arith, h))) (second n (omega (arith, h)))
 
   sure-only : {a c : Said} {rest : List Token} → only_by a.sort a ≡ Some c
       → IsSure at (Range a) (tokens.Sign signs.CloseCurly ∷ rest) (found c (tokens.Sign signs.CloseCurly ∷ rest))
@@ -252,10 +309,17 @@ module _ {at : Context} where
   pub sure-set-of-one : {ts rest : List Token} {a c : Said} → behind_sign signs.CloseCurly ts ≡ None
       → IsSure at (All levels.Sum) ts (found a (tokens.Sign signs.CloseCurly ∷ rest)) → only_by a.sort a ≡ Some c
       → IsSure at (Behind Curly) ts (found c rest)
-  sure-set-of-one e a made = sure-curly e (sure-all (sure-left-items (sure-item a (sure-only made))) (sure-end refl))
+  sure-set-of-one e a made = sure-curly e a (sure-members refl (sure-only made) (sure-end refl))
 
   pub sure-set-between : {ts us rest : List Token} {a b c : Said} → behind_sign signs.CloseCurly ts ≡ None
       → IsSure at (All levels.Sum) ts (found a (tokens.Sign signs.To ∷ us)) → ends_item us ≡ false
       → IsSure at (All levels.Sum) us (found b (tokens.Sign signs.CloseCurly ∷ rest)) → between a b ≡ Some c
       → IsSure at (Behind Curly) ts (found c rest)
-  sure-set-between e a f b made = sure-curly e (sure-all (sure-left-items (sure-item a (sure-range f b made))) (sure-end refl))
+  sure-set-between e a f b made = sure-curly e a (sure-members refl (sure-range f b made) (sure-end refl))
+
+  -- the nodes of a set for which a body is true
+  pub sure-set-where : {inner : Context} {ts us rest : List Token} {a b c : Said} → body_at at ≡ Some inner → behind_sign signs.CloseCurly ts ≡ None
+      → IsSure at (All levels.Sum) ts (found a (tokens.Word (codes "where") ∷ us))
+      → IsSure inner (All levels.Or) us (found b (tokens.Sign signs.CloseCurly ∷ rest)) → over_set overs.Those a b ≡ Some c
+      → IsSure at (Behind Curly) ts (found c rest)
+  sure-set-where w e a b made = sure-curly e a (sure-where (sure-body w b refl made))

@@ -1,14 +1,17 @@
--- What is read is of its sort, and has at most two parts for each token.
-use Rattle.std.proofs.Common.{◌≡◌, ℕ, ◌+◌, ◌≤◌, Option, Some, None, refl, sym, ap, arith}
+-- What is read is of its sort, and has fewer than three parts for two tokens.
+use Rattle.std.proofs.Common.{◌≡◌, ℕ, ◌+◌, ◌≤◌, Bool, true, false, ◌&&◌, Option, Some, None, refl, sym, ap, subst, arith}
 use Rattle.std.proofs.lemmas.Option.{none-some}
 use Rattle.lf_rules.specs.Terms.{Term}
 use Rattle.lf_rules.specs.Terms as terms
 use Rattle.lf_rules.specs.Trees.{parts}
-use Rattle.lf_rules.specs.Sorts.{unary_sort, binary_sort, tree_sort}
+use Rattle.lf_rules.specs.Sorts.{names_state, has_bodies, unary_sort, binary_sort, row_sort, at_sort, over_sort, tree_sort}
 use Rattle.lf_rules.specs.declared.expr.Unary.{Unary}
 use Rattle.lf_rules.specs.declared.expr.Unary.TheVariants as ones
 use Rattle.lf_rules.specs.declared.expr.Binary.{Binary}
 use Rattle.lf_rules.specs.declared.expr.Binary.TheVariants as twos
+use Rattle.lf_rules.specs.declared.expr.Row.{Row}
+use Rattle.lf_rules.specs.declared.expr.Over.{Over}
+use Rattle.lf_rules.specs.declared.sort.Within.TheVariants as withins
 use Rattle.lf_rules.specs.declared.sort.Sort.{Sort}
 use Rattle.lf_rules.specs.declared.sort.Sort.TheVariants as sorts
 use Rattle.lf_grammar.specs.declared.sign.Sign.TheVariants as signs
@@ -18,9 +21,9 @@ use Rattle.lf_grammar.specs.declared.level.Joint.{Joint}
 use Rattle.lf_grammar.specs.declared.level.Joint.TheVariants as joints
 use Rattle.lf_grammar.specs.declared.calls.Call.{Call}
 use Rattle.lf_grammar.specs.declared.calls.Call.TheVariants as calls
-use Rattle.lf_grammar.specs.Places.{Context}
+use Rattle.lf_grammar.specs.Places.{Context, in_body, in_case, body_at}
 use Rattle.lf_grammar.specs.Typing.{Said, ◌>>=◌, typed, by_one, by_two, set_by, as_set, plus_by, minus_by, compared, joined, by_call, only_by, between}
-use Rattle.lf_grammar.specs.Typing.{all_nodes}
+use Rattle.lf_grammar.specs.Typing.{all_nodes, at_place, over_set}
 
 -- ---- what stands before a step
 
@@ -40,10 +43,19 @@ typed-inv term None e = absurd (none-some _ e)
 typed-inv term (Some sort) e =
     let same = some-same e in (sym (ap (λ c. c.term) same), ap (λ c. Some c.sort) same)
 
+pub body-inv : {inner : Context} (so : Bool) (at : Context) → in_case so at ≡ Some inner → (so ≡ true) × (at ≡ inner)
+body-inv true at e = (refl, some-same e)
+body-inv false at e = absurd (none-some _ e)
+
+-- how many parts two values that are joined have beside their own
+abbrev pub beside : Joint → ℕ
+beside joints.Comma = 1
+beside other = 2
+
 module _ (at : Context) where
   -- a value is of its sort where it stands
   pub record IsTyped (a : Said) : Type 0 where
-    pub is : tree_sort at.definition at.scope a.term ≡ Some a.sort
+    pub is : tree_sort at.definition at.scope at.within a.term ≡ Some a.sort
 
   -- it is of its sort, and has so many parts at most
   pub record IsFit (most : ℕ) (c : Said) : Type 0 where
@@ -63,6 +75,22 @@ module _ {at : Context} where
   fit-two {a} {b} {c} op h k e =
       let i = typed-inv (terms.Binary op a.term b.term) (binary_sort op (Some a.sort) (Some b.sort)) e in
       record { sort = record { is = rw (i.0, h.is, k.is) i.1 }; short = rw i.0 (omega arith) }
+
+  -- what stands at a place
+  pub fit-at : {a c : Said} (row : Row) → IsTyped at a → at_place at.definition at.scope row a ≡ Some c → IsFit at (parts a.term + 1) c
+  fit-at {a} {c} row h e =
+      let i = typed-inv (terms.At row a.term) (at_sort (row_sort at.definition at.scope row) (Some a.sort)) e in
+      record { sort = record { is = rw (i.0, h.is) i.1 }; short = rw i.0 (omega arith) }
+
+  -- a set and a body, which is of its sort where bodies stand
+  pub fit-over : {inner : Context} {a b c : Said} (op : Over) → body_at at ≡ Some inner → IsTyped at a → IsTyped inner b → over_set op a b ≡ Some c
+      → IsFit at (parts a.term + parts b.term + 1) c
+  fit-over {inner} {a} {b} {c} op within h k e =
+      let i = typed-inv (terms.Over op a.term b.term) (over_sort op (Some a.sort) (Some b.sort)) e in
+      let w = body-inv (names_state at.scope && has_bodies at.within) (in_body at) within in
+      let body : IsTyped (in_body at) b = subst (λ (z : Context). IsTyped z b) (sym w.1) k in
+      let sorted : tree_sort at.definition at.scope withins.Body b.term ≡ Some b.sort = body.is in
+      record { sort = record { is = rw (i.0, w.0, h.is, sorted) i.1 }; short = rw i.0 (omega arith) }
 
   pub fit-self : {a c : Said} → IsTyped at a → Some a ≡ Some c → IsFit at (parts a.term + 1) c
   fit-self {a} {c} h e = let same = some-same e in record { sort = rw (sym same) h; short = rw (sym same) (omega arith) }
@@ -102,8 +130,8 @@ module _ {at : Context} where
   fit-minus sorts.Truth h k e = fit-two-more twos.Subtract h k e
   fit-minus (sorts.Word of) h k e = fit-two-more twos.Subtract h k e
 
-  pub fit-joined : {a b c : Said} (by : Joint) → IsTyped at a → IsTyped at b → joined by a b ≡ Some c → IsFit at (parts a.term + parts b.term + 2) c
-  fit-joined joints.Comma h k e = fit-two-more twos.Union h k e
+  pub fit-joined : {a b c : Said} (by : Joint) → IsTyped at a → IsTyped at b → joined by a b ≡ Some c → IsFit at (parts a.term + parts b.term + beside by) c
+  fit-joined joints.Comma h k e = fit-two twos.Union h k e
   fit-joined joints.Or h k e = fit-two-more twos.Or h k e
   fit-joined joints.And h k e = fit-two-more twos.And h k e
   fit-joined {a} joints.Plus h k e = fit-plus a.sort h k e

@@ -8,17 +8,26 @@ use Rattle.lf_rules.specs.declared.expr.Unary.{Unary}
 use Rattle.lf_rules.specs.declared.expr.Unary.TheVariants as ones
 use Rattle.lf_rules.specs.declared.expr.Binary.{Binary}
 use Rattle.lf_rules.specs.declared.expr.Binary.TheVariants as twos
+use Rattle.lf_rules.specs.declared.expr.Row.{Row}
+use Rattle.lf_rules.specs.declared.expr.Row.TheVariants as rows
+use Rattle.lf_rules.specs.declared.expr.Over.{Over}
+use Rattle.lf_rules.specs.declared.expr.Over.TheVariants as overs
 use Rattle.lf_grammar.specs.declared.sign.Sign.TheVariants as signs
 use Rattle.lf_grammar.specs.declared.token.Token.{Token}
 use Rattle.lf_grammar.specs.declared.token.Token.TheVariants as tokens
 use Rattle.lf_grammar.specs.Expressions.{constant_never_0}
-use Rattle.lf_grammar.specs.Places.{Context, leaf_of}
+use Rattle.lf_grammar.specs.Places.{Context, leaf_of, row_of}
 
 abbrev pub round : List Token → List Token
 round rest = tokens.Sign signs.OpenRound ∷ rest
 
 abbrev pub closing : List Token → List Token
 closing rest = tokens.Sign signs.CloseRound ∷ rest
+
+-- what has the name of a row
+abbrev pub leaf_of_row : Row → Leaf
+leaf_of_row (rows.Table t) = leaves.Variable t.of
+leaf_of_row (rows.Given i) = leaves.Given i
 
 -- by the name of each leaf that has one
 module _ (name : Leaf → List ℕ) where
@@ -60,11 +69,26 @@ module _ (name : Leaf → List ℕ) where
   two_written twos.Between a b rest = tokens.Sign signs.OpenCurly ∷ a (tokens.Sign signs.To ∷ b (tokens.Sign signs.CloseCurly ∷ rest))
   two_written twos.Majority a b rest = called_with (codes "majority") a b rest
 
+  -- the item at a place: the place in brackets behind the name
+  abbrev pub at_written : Row → (List Token → List Token) → List Token → List Token
+  at_written row a rest = tokens.Word (name (leaf_of_row row)) ∷ tokens.Sign signs.OpenSquare ∷ a (tokens.Sign signs.CloseSquare ∷ rest)
+
+  -- a set and a body: with `where` between, or a call of both with a colon between
+  abbrev pub chosen_with : List ℕ → (List Token → List Token) → (List Token → List Token) → List Token → List Token
+  chosen_with word a b rest = tokens.Word word ∷ round (a (tokens.Sign signs.Colon ∷ b (closing rest)))
+
+  abbrev pub over_written : Over → (List Token → List Token) → (List Token → List Token) → List Token → List Token
+  over_written overs.Those a b rest = tokens.Sign signs.OpenCurly ∷ a (tokens.Word (codes "where") ∷ b (tokens.Sign signs.CloseCurly ∷ rest))
+  over_written overs.Least a b rest = chosen_with (codes "min") a b rest
+  over_written overs.Greatest a b rest = chosen_with (codes "max") a b rest
+
   -- an expression, and what stands behind it
   abbrev pub written : Term → List Token → List Token
   written (terms.Leaf x) rest = leaf_written x rest
   written (terms.Unary op a) rest = one_written op (written a) rest
   written (terms.Binary op a b) rest = two_written op (written a) (written b) rest
+  written (terms.At row a) rest = at_written row (written a) rest
+  written (terms.Over op a b) rest = over_written op (written a) (written b) rest
 
   -- an expression with every bracket
   abbrev pub bracketed : Term → List Token
@@ -88,11 +112,17 @@ module _ (name : Leaf → List ℕ) where
     IsSecond twos.Remainder b = IsDivisor b
     IsSecond op b = Unit {0}
 
-    -- an expression can be written: each of its leaves has a name that means it, and it divides by what the language lets it divide by
+    -- the name of a row means what has its items
+    abbrev pub IsRow : Row → Type 0
+    IsRow row = IsNamed (leaf_of_row row) × (row_of at.definition (leaf_of_row row) ≡ Some row)
+
+    -- an expression can be written: each of its leaves and rows has a name that means it, and it divides by what the language lets it divide by
     abbrev pub IsWritable : Term → Type 0
     IsWritable (terms.Leaf x) = IsNamed x
     IsWritable (terms.Unary op a) = IsWritable a
     IsWritable (terms.Binary op a b) = IsWritable a × IsWritable b × IsSecond op b
+    IsWritable (terms.At row a) = IsRow row × IsWritable a
+    IsWritable (terms.Over op a b) = IsWritable a × IsWritable b
 
 -- no name means what a word of an expression says, as is so in every protocol file
 pub record IsPlain (at : Context) : Type 0 where

@@ -4,6 +4,8 @@ use Rattle.std.specs.Option.{is_some}
 use Rattle.std.specs.Str.{bytes_eq}
 use Rattle.lf_rules.specs.declared.expr.Unary.TheVariants as ones
 use Rattle.lf_rules.specs.declared.expr.Binary.TheVariants as twos
+use Rattle.lf_rules.specs.declared.expr.Over.{Over}
+use Rattle.lf_rules.specs.declared.expr.Over.TheVariants as overs
 use Rattle.lf_grammar.specs.declared.sign.Sign.{Sign}
 use Rattle.lf_grammar.specs.declared.sign.Sign.TheVariants as signs
 use Rattle.lf_grammar.specs.declared.token.Token.{Token}
@@ -35,6 +37,8 @@ same_sign signs.OpenRound signs.OpenRound = true
 same_sign signs.CloseRound signs.CloseRound = true
 same_sign signs.OpenCurly signs.OpenCurly = true
 same_sign signs.CloseCurly signs.CloseCurly = true
+same_sign signs.OpenSquare signs.OpenSquare = true
+same_sign signs.CloseSquare signs.CloseSquare = true
 same_sign signs.Comma signs.Comma = true
 same_sign signs.Colon signs.Colon = true
 same_sign signs.Bar signs.Bar = true
@@ -97,6 +101,21 @@ called name =
     if bytes_eq name (codes "count") then Some (calls.Of ones.Count) else if bytes_eq name (codes "lowest") then Some (calls.Of ones.Lowest)
     else if bytes_eq name (codes "highest") then Some (calls.Of ones.Highest) else if bytes_eq name (codes "min") then Some (calls.OfTwo twos.Smaller)
     else if bytes_eq name (codes "max") then Some (calls.OfTwo twos.Larger) else if bytes_eq name (codes "majority") then Some calls.Majority else None
+
+-- what a call says of the values of a body
+abbrev pub of_body : Call → Option Over
+of_body (calls.OfTwo twos.Smaller) = Some overs.Least
+of_body (calls.OfTwo twos.Larger) = Some overs.Greatest
+of_body other = None
+
+-- how loose the operators of a body are, and the bracket behind it
+abbrev pub level_of : Over → Level
+level_of overs.Those = levels.Or
+level_of other = levels.Sum
+
+abbrev pub end_of : Over → Sign
+end_of overs.Those = signs.CloseCurly
+end_of other = signs.CloseRound
 
 -- an item of a set ends with what follows it
 abbrev pub ends_item : List Token → Bool

@@ -10,6 +10,7 @@ single b =
     else if b == 60 then Some signs.Less else if b == 62 then Some signs.More
     else if b == 40 then Some signs.OpenRound else if b == 41 then Some signs.CloseRound
     else if b == 123 then Some signs.OpenCurly else if b == 125 then Some signs.CloseCurly
+    else if b == 91 then Some signs.OpenSquare else if b == 93 then Some signs.CloseSquare
     else if b == 44 then Some signs.Comma else if b == 58 then Some signs.Colon else if b == 124 then Some signs.Bar else None
 
 -- a sign, where the second byte is the one that it wants
@@ -26,9 +27,11 @@ pair a b =
 abbrev pub opens : Sign → Bool
 opens signs.OpenRound = true
 opens signs.OpenCurly = true
+opens signs.OpenSquare = true
 opens other = false
 
 abbrev pub closes : Sign → Bool
 closes signs.CloseRound = true
 closes signs.CloseCurly = true
+closes signs.CloseSquare = true
 closes other = false

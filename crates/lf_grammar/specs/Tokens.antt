@@ -88,7 +88,7 @@ open_after depth other = Ok depth
 
 -- a token, where there is room for one more
 abbrev pub in_room : ℕ → Token → Reading Token
-in_room count token = if nat_lt count 96 then Ok token else Err faults.TooMany
+in_room count token = if nat_lt count 160 then Ok token else Err faults.TooMany
 
 -- the tokens of pieces, behind so many tokens of which so many brackets are open
 abbrev pub tokens_behind : ℕ → ℕ → List Piece → Reading (List Token)

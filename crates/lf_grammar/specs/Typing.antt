@@ -3,12 +3,16 @@ use Rattle.std.specs.Prelude.{Bool, true, false, Option, Some, None, codes}
 use Rattle.std.specs.Str.{bytes_eq}
 use Rattle.lf_rules.specs.Terms.{Term}
 use Rattle.lf_rules.specs.Terms as terms
-use Rattle.lf_rules.specs.Sorts.{unary_sort, binary_sort}
+use Rattle.lf_rules.specs.Sorts.{unary_sort, binary_sort, row_sort, at_sort, over_sort}
 use Rattle.lf_rules.specs.declared.expr.Leaf.TheVariants as leaves
 use Rattle.lf_rules.specs.declared.expr.Unary.{Unary}
 use Rattle.lf_rules.specs.declared.expr.Unary.TheVariants as ones
 use Rattle.lf_rules.specs.declared.expr.Binary.{Binary}
 use Rattle.lf_rules.specs.declared.expr.Binary.TheVariants as twos
+use Rattle.lf_rules.specs.declared.expr.Row.{Row}
+use Rattle.lf_rules.specs.declared.expr.Over.{Over}
+use Rattle.lf_rules.specs.declared.definition.Definition.{Definition}
+use Rattle.lf_rules.specs.declared.sort.Scope.{Scope}
 use Rattle.lf_rules.specs.declared.sort.Sort.{Sort}
 use Rattle.lf_rules.specs.declared.sort.Sort.TheVariants as sorts
 use Rattle.lf_grammar.specs.declared.sign.Sign.TheVariants as signs
@@ -40,6 +44,14 @@ by_one op a = typed (terms.Unary op a.term) (unary_sort op (Some a.sort))
 
 abbrev pub by_two : Binary → Said → Said → Option Said
 by_two op a b = typed (terms.Binary op a.term b.term) (binary_sort op (Some a.sort) (Some b.sort))
+
+-- what stands at a place
+abbrev pub at_place : Definition → Scope → Row → Said → Option Said
+at_place d scope row a = typed (terms.At row a.term) (at_sort (row_sort d scope row) (Some a.sort))
+
+-- what comes of a set and a body
+abbrev pub over_set : Over → Said → Said → Option Said
+over_set op a b = typed (terms.Over op a.term b.term) (over_sort op (Some a.sort) (Some b.sort))
 
 -- a number stands for the set of that node alone
 abbrev pub set_by : Sort → Said → Option Said

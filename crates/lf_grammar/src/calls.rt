@@ -1,18 +1,19 @@
 //! What is said of sets and numbers by name.
 
 ghost use Rattle.std.specs.Prelude.{◌≡◌, ◌≤◌, length, IfOk, MatchResult, Some, None};
-ghost use Rattle.lf_grammar.specs.Expressions.{Behind, Called, Second, closed};
-ghost use Rattle.lf_grammar.specs.Fronts.{called};
+ghost use Rattle.lf_grammar.specs.Expressions.{Behind, Called, Second, Single};
+ghost use Rattle.lf_grammar.specs.Fronts.{called, of_body};
 ghost use Rattle.lf_grammar.specs.Places.{context_of};
 ghost use Rattle.lf_grammar.specs.Readings.{said, Reads};
 ghost use Rattle.lf_grammar.specs.Typing.{by_call};
 
+use crate::bodies::read_body;
 use crate::expressions::{Read, read_all};
 use crate::fronts::{behind_sign, past_sign};
 use crate::level::Level;
 use crate::typed::by_call;
-use crate::{Place, Sign, Token, Typed, Unread};
-use lf_rules::{Binary, Unary};
+use crate::{Place, Sign, Token, Typed, Unread, Why, wrong};
+use lf_rules::{Binary, Over, Unary};
 use std::alloc::Global;
 
 /// What is said by a name of values in brackets.
@@ -37,6 +38,17 @@ pub(crate) fn called(name: &str) -> Option<Call>
         "min" => Some(Call::OfTwo(Binary::Smaller)),
         "max" => Some(Call::OfTwo(Binary::Larger)),
         "majority" => Some(Call::Majority),
+        _ => None,
+    }
+}
+
+/// What a call says of the values of a body. None where it says nothing of them.
+fn of_body(call: Call) -> Option<Over>
+    ensures { result ≡ of_body call }
+{
+    match call {
+        Call::OfTwo(Binary::Smaller) => Some(Over::Least),
+        Call::OfTwo(Binary::Larger) => Some(Over::Greatest),
         _ => None,
     }
 }
@@ -76,9 +88,29 @@ fn read_second<'t>(
             let end = past_sign(rest, Sign::CloseRound, opened)?;
             Ok((by_call(alloc, call, one, Some(other), end.len())?, end))
         }
-        None => {
-            let end = past_sign(tokens, Sign::CloseRound, opened)?;
-            Ok((by_call(alloc, call, one, None, end.len())?, end))
-        }
+        None => read_single(alloc, place, call, one, tokens),
+    }
+}
+
+/// Goes on behind the first value of a call where no second one follows: a body does, or nothing.
+#[cycle(reading)]
+fn read_single<'t>(
+    alloc: Global,
+    place: &Place<'_>,
+    call: Call,
+    one: Typed,
+    tokens: &'t [Token],
+) -> Read<'t>
+    ensures read { Reads (context_of place.now) (Single call (said one)) tokens.now result }
+    ensures shorter { IfOk result (λ r. length r.1.now ≤ length tokens.now) }
+{
+    let opened = one.from.saturating_add(1);
+    let Some(after) = behind_sign(tokens, Sign::Colon) else {
+        let end = past_sign(tokens, Sign::CloseRound, opened)?;
+        return Ok((by_call(alloc, call, one, None, end.len())?, end));
+    };
+    match of_body(call) {
+        Some(over) => read_body(alloc, place, over, one, after),
+        None => Err(wrong(Why::Sign(Sign::CloseRound), tokens.len())),
     }
 }

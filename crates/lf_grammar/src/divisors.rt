@@ -48,10 +48,13 @@ fn divided_by(place: &Place<'_>, token: &Token, left: usize) -> Result<Typed, Un
 
 /// Whether a constant may be named here, and is a number that is 0 at no node.
 fn is_divisor(place: &Place<'_>, i: u8) -> bool
-    ensures { result ≡ (is_of (leaf_sort place.now.definition.now place.now.scope (leaves.Given i)) sorts.Number
+    ensures { result ≡ (is_of (leaf_sort place.now.definition.now place.now.scope place.now.within (leaves.Given i)) sorts.Number
         && constant_never_0 (slice_get place.now.definition.now.given i)) }
 {
-    match place.definition.leaf_sort(place.scope, Leaf::Given(i)) {
+    match place
+        .definition
+        .leaf_sort(place.scope, place.within, Leaf::Given(i))
+    {
         Some(Sort::Number) => is_never_0(place, i),
         _ => false,
     }

@@ -20,22 +20,23 @@ use std::alloc::Global;
 /// What is read, and the tokens behind it.
 pub(crate) type Read<'t> = Result<(Typed, &'t [Token]), Unread>;
 
-/// Reads what comes first as a value of any sort, and gives it with the tokens behind it. It has fewer than two parts for each token.
+/// Reads what comes first as a value of any sort, and gives it with the tokens behind it. It has fewer than three parts for
+/// two tokens.
 pub fn read_truth<'t>(alloc: Global, place: &Place<'_>, tokens: &'t [Token]) -> Read<'t>
     ensures read { Finds (first_truth (context_of place.now) tokens.now) result }
-    ensures typed { IfOk result (λ r. tree_sort place.now.definition.now place.now.scope (term_of r.0.tree) ≡ Some r.0.sort) }
-    ensures few { IfOk result (λ r. parts (term_of r.0.tree) + 2 * length r.1.now < 2 * length tokens.now) }
+    ensures typed { IfOk result (λ r. tree_sort place.now.definition.now place.now.scope place.now.within (term_of r.0.tree) ≡ Some r.0.sort) }
+    ensures few { IfOk result (λ r. 2 * parts (term_of r.0.tree) + 3 * length r.1.now < 3 * length tokens.now) }
     ensures shorter { IfOk result (λ r. length r.1.now ≤ length tokens.now) }
 {
     read_all(alloc, place, Level::Or, tokens)
 }
 
-/// Reads what comes first as a sum, which is a number or a set unless it is an atom, and gives it with the tokens behind it. It has fewer than two parts
-/// for each token.
+/// Reads what comes first as a sum, which is a number or a set unless it is an atom, and gives it with the tokens behind it. It has fewer than three parts
+/// for two tokens.
 pub fn read_sum<'t>(alloc: Global, place: &Place<'_>, tokens: &'t [Token]) -> Read<'t>
     ensures read { Finds (first_sum (context_of place.now) tokens.now) result }
-    ensures typed { IfOk result (λ r. tree_sort place.now.definition.now place.now.scope (term_of r.0.tree) ≡ Some r.0.sort) }
-    ensures few { IfOk result (λ r. parts (term_of r.0.tree) + 2 * length r.1.now < 2 * length tokens.now) }
+    ensures typed { IfOk result (λ r. tree_sort place.now.definition.now place.now.scope place.now.within (term_of r.0.tree) ≡ Some r.0.sort) }
+    ensures few { IfOk result (λ r. 2 * parts (term_of r.0.tree) + 3 * length r.1.now < 3 * length tokens.now) }
     ensures shorter { IfOk result (λ r. length r.1.now ≤ length tokens.now) }
 {
     read_all(alloc, place, Level::Sum, tokens)
@@ -73,7 +74,7 @@ fn read_left<'t>(alloc: Global, place: &Place<'_>, level: Level, tokens: &'t [To
 
 /// Goes on behind an operand, where another one is joined to it.
 #[cycle(reading)]
-fn read_more<'t>(
+pub(crate) fn read_more<'t>(
     alloc: Global,
     place: &Place<'_>,
     level: Level,

@@ -5,6 +5,7 @@
 #![tactic(auto)]
 
 mod atoms;
+mod bodies;
 mod bytes;
 mod calls;
 mod divisors;

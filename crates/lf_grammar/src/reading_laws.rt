@@ -19,9 +19,9 @@ pub fn enough_steps_read_the_same()
 
 /// An expression that is written with every bracket is read back: the grammar reads this expression of it, of its sort, and nothing is left.
 ///
-/// It holds wherever an expression stands where no name means `not` or what a call says, for every expression that has a sort there, whose leaves have names
-/// that mean them, and that divides by nothing but what the language lets it divide by.
+/// It holds wherever an expression stands where no name means `not` or what a call says, for every expression that has a sort there, whose leaves, tables and
+/// constants have names that mean them, and that divides by nothing but what the language lets it divide by.
 pub fn bracketed_is_read_back()
     ensures { (at : Context) (name : Leaf → List ℕ) (e : Term) (sort : Sort) → IsPlain at → IsWritable name at e →
-        tree_sort at.definition at.scope e ≡ Some sort → first_truth at (bracketed name e) ≡ found (record { term = e; sort = sort }) [] }
+        tree_sort at.definition at.scope at.within e ≡ Some sort → first_truth at (bracketed name e) ≡ found (record { term = e; sort = sort }) [] }
 {}

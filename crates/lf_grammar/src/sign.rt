@@ -32,6 +32,10 @@ pub enum Sign {
     OpenCurly,
     /// `}`
     CloseCurly,
+    /// `[`
+    OpenSquare,
+    /// `]`
+    CloseSquare,
     /// `,`
     Comma,
     /// `:`
@@ -55,6 +59,8 @@ impl Sign {
             b')' => Some(Sign::CloseRound),
             b'{' => Some(Sign::OpenCurly),
             b'}' => Some(Sign::CloseCurly),
+            b'[' => Some(Sign::OpenSquare),
+            b']' => Some(Sign::CloseSquare),
             b',' => Some(Sign::Comma),
             b':' => Some(Sign::Colon),
             b'|' => Some(Sign::Bar),
@@ -91,13 +97,16 @@ impl Sign {
     pub(crate) fn opens(self) -> bool
         ensures { result ≡ opens self }
     {
-        matches!(self, Sign::OpenRound | Sign::OpenCurly)
+        matches!(self, Sign::OpenRound | Sign::OpenCurly | Sign::OpenSquare)
     }
 
     /// Whether it closes one.
     pub(crate) fn closes(self) -> bool
         ensures { result ≡ closes self }
     {
-        matches!(self, Sign::CloseRound | Sign::CloseCurly)
+        matches!(
+            self,
+            Sign::CloseRound | Sign::CloseCurly | Sign::CloseSquare
+        )
     }
 }

@@ -11,6 +11,14 @@ pub enum Why {
     Name,
     /// A number can't be divided by it.
     Divisor,
+    /// It has no items: only tables and constants have brackets behind their names.
+    Items,
+    /// A table stands without brackets.
+    Table,
+    /// `it` is no node there.
+    It,
+    /// A body stands in another one, or where the state isn't named.
+    Body,
     /// This sign has to stand there.
     Sign(Sign),
     /// A value is of another sort than it has to be, or there are too many or too few.

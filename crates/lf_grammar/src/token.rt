@@ -4,7 +4,7 @@ use crate::Sign;
 use lf_rules::Name;
 
 /// The most tokens that a text has.
-pub const MOST_TOKENS: usize = 96;
+pub const MOST_TOKENS: usize = 160;
 
 /// The most brackets of a text that are open at once.
 pub const MOST_OPEN: u32 = 12;

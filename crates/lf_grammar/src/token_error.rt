@@ -12,7 +12,7 @@ pub enum TokenError {
     Stray,
     #[error("a number over 255")]
     TooLarge,
-    #[error("more than 96 numbers, words and signs")]
+    #[error("more than 160 numbers, words and signs")]
     TooMany,
     #[error("more than 12 brackets that are open at once")]
     TooDeep,

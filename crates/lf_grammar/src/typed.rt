@@ -2,13 +2,16 @@
 
 ghost use Rattle.std.specs.Prelude.{◌≡◌, ◌≢◌, MatchResult};
 ghost use Rattle.lf_rules.specs.Terms as terms;
-ghost use Rattle.lf_grammar.specs.Typing.{by_one, by_two, as_set, plus_by, minus_by, compared, joined, by_call, only_by, between, how_many};
+ghost use Rattle.lf_grammar.specs.Typing.{by_one, by_two, at_place, over_set, as_set, plus_by, minus_by, compared, joined, by_call, only_by};
+ghost use Rattle.lf_grammar.specs.Typing.{between, how_many};
 ghost use Rattle.lf_grammar.specs.Readings.{said, said_of, Gives};
 
 use crate::calls::Call;
 use crate::level::Joint;
-use crate::{Sign, Slip, Token, Unread, Why};
-use lf_rules::{Binary, Leaf, Sort, Tree, Unary, binary_sort, unary_sort};
+use crate::{Place, Sign, Slip, Token, Unread, Why};
+use lf_rules::{
+    Binary, Leaf, Over, Row, Sort, Tree, Unary, at_sort, binary_sort, over_sort, unary_sort,
+};
 use std::alloc::Global;
 
 /// An expression, and what it is where it stands.
@@ -67,6 +70,61 @@ pub(crate) fn binary(
             })
         }
         None => Err(unfit(from, one.to.max(other.to), to)),
+    }
+}
+
+/// What stands at a place, of which the bracket is closed where so many tokens are left.
+pub(crate) fn at_place(
+    alloc: Global,
+    place: &Place<'_>,
+    row: Row,
+    at: Typed,
+    to: usize,
+) -> Result<Typed, Unread>
+    ensures { Gives said (at_place place.now.definition.now place.now.scope row (said at)) result }
+{
+    let from = at.from.saturating_add(2);
+    let items = place.definition.row_sort(place.scope, row);
+    match at_sort(items, Some(at.sort)) {
+        Some(sort) => {
+            let tree = Tree::At(row, boxed(alloc, at.tree)?);
+            Ok(Typed {
+                tree,
+                sort,
+                from,
+                to,
+            })
+        }
+        None => Err(unfit(at.from, at.from, at.to)),
+    }
+}
+
+/// What comes of a set and a body behind which so many tokens are left.
+pub(crate) fn over_set(
+    alloc: Global,
+    over: Over,
+    set: Typed,
+    body: Typed,
+    to: usize,
+) -> Result<Typed, Unread>
+    ensures { Gives said (over_set over (said set) (said body)) result }
+{
+    let before = match over {
+        Over::Those => 1,
+        Over::Least | Over::Greatest => 2,
+    };
+    let from = set.from.saturating_add(before);
+    match over_sort(over, Some(set.sort), Some(body.sort)) {
+        Some(sort) => {
+            let tree = Tree::Over(over, boxed(alloc, set.tree)?, boxed(alloc, body.tree)?);
+            Ok(Typed {
+                tree,
+                sort,
+                from,
+                to,
+            })
+        }
+        None => Err(unfit(from, set.to, to)),
     }
 }
 

@@ -4,6 +4,7 @@ use Rattle.std.proofs.Common.{length, get_or, take, map, cond, refl, sym, ap, �
 use Rattle.std.specs.List.{enumerate_from, filter, join_with_byte, range_with_len}
 use Rattle.std.proofs.lemmas.List.{length-take-le, map-append, map-id, take_all, take_more}
 use Rattle.std.proofs.lemmas.List.FromFn.{filter_of_map_range_with_len_more, get_or-enumerate_from, length-enumerate_from}
+use Rattle.std.proofs.lemmas.List.FromFn.{length-map-range_with_len, map-range_with_len_more}
 use Rattle.std.proofs.Math.ListN.{length-map}
 use Rattle.lf_naming.specs.Pieces.{before_piece}
 
@@ -25,6 +26,15 @@ pieces_more c f xs i d within =
     ∙ ap (join_with_byte c) (map-append f (take i xs) (x ∷ []))
     ∙ join_more c so_far (f x)
     ∙ ap (λ k. join_with_byte c so_far ++ (before_piece c k ++ f x)) many
+
+-- of the numbers below n, and of n too
+pub numbers_more : (c : ℕ) (f : ℕ → List ℕ) (n : ℕ) → join_with_byte c (map f (range_with_len 0 (n + 1)))
+    ≡ join_with_byte c (map f (range_with_len 0 n)) ++ (before_piece c n ++ f n)
+numbers_more c f n =
+    let so_far = map f (range_with_len 0 n) in
+    ap (join_with_byte c) (map-range_with_len_more f 0 n n (zero-add n))
+    ∙ join_more c so_far (f n)
+    ∙ ap (λ k. join_with_byte c so_far ++ (before_piece c k ++ f n)) (length-map-range_with_len f 0 n)
 
 -- of a list with the number of each
 pub fields_more : {A : Type 0} (c : ℕ) (f : ℕ × A → List ℕ) (xs : List A) (i : ℕ) (d : A) → i < length xs

@@ -1,10 +1,11 @@
 -- Which facts a definition has, and which of them has a name.
-use Rattle.std.specs.Prelude.{ℕ, Bool, true, false, List, [], ◌∷◌, ◌++◌, length, min, Option, None, Some, find, slice_get}
+use Rattle.std.specs.Prelude.{ℕ, Bool, true, false, List, [], ◌∷◌, ◌++◌, length, min, Option, None, Some, find, slice_get, if◌then◌else◌}
 use Rattle.std.specs.List.{flat_map, range_with_len}
 use Rattle.std.specs.Str.{bytes_eq}
 use Rattle.lf_rules.specs.declared.kind.Kind.{Kind}
 use Rattle.lf_rules.specs.declared.kind.Kind.TheVariants as kinds
 use Rattle.lf_rules.specs.declared.definition.Variable.{Variable}
+use Rattle.lf_rules.specs.Tables.{is_one}
 use Rattle.lf_rules.specs.declared.definition.Definition.{Definition}
 use Rattle.lf_rule_machine.specs.declared.fact.Told.{Told}
 use Rattle.lf_rule_machine.specs.declared.fact.Told.TheVariants as tolds
@@ -23,22 +24,22 @@ both told = record { told = told; denied = false } ∷ record { told = told; den
 abbrev pub guard_facts : Definition → List Fact
 guard_facts d = flat_map (λ guard. both (tolds.Named guard)) (numbers (length d.facts))
 
--- the facts of the words of a variable, and of all variables
+-- the facts of the words of a variable that is no table, and of all variables
 abbrev pub own_words : ℕ → Option Variable → List Fact
 own_words variable None = []
-own_words variable (Some x) = flat_map (λ word. both (tolds.Word variable word)) (numbers (length x.words))
+own_words variable (Some x) = if is_one x.cells then flat_map (λ word. both (tolds.Word variable word)) (numbers (length x.words)) else []
 
 abbrev pub word_facts : Definition → List Fact
 word_facts d = flat_map (λ variable. own_words variable (slice_get d.variables variable)) (numbers (length d.variables))
 
--- the facts of a variable, if it is a flag, and of all variables
+-- the facts of a variable, if it is a flag and no table, and of all variables
 abbrev pub if_flag : ℕ → Kind → List Fact
 if_flag variable kinds.Flag = both (tolds.Flag variable)
 if_flag variable other = []
 
 abbrev pub own_flag : ℕ → Option Variable → List Fact
 own_flag variable None = []
-own_flag variable (Some x) = if_flag variable x.kind
+own_flag variable (Some x) = if is_one x.cells then if_flag variable x.kind else []
 
 abbrev pub flag_facts : Definition → List Fact
 flag_facts d = flat_map (λ variable. own_flag variable (slice_get d.variables variable)) (numbers (length d.variables))

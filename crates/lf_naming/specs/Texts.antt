@@ -1,13 +1,16 @@
 -- How the values, states and notes of a protocol of rules are told in a trace.
-use Rattle.std.specs.Prelude.{ℕ, Bool, true, false, ◌==◌, List, [], ◌∷◌, ◌++◌, codes, map, filter, Option, None, Some, slice_get}
+use Rattle.std.specs.Prelude.{ℕ, Bool, true, false, ◌==◌, min, List, [], ◌∷◌, ◌++◌, codes, map, filter, Option, None, Some, slice_get, if◌then◌else◌}
 use Rattle.std.specs.Char.{to_ascii_lowercase}
 use Rattle.std.specs.Fmt.{decimal}
 use Rattle.std.specs.List.{enumerate_from, join_with_byte, range_with_len}
 use Rattle.lf_rules.specs.declared.kind.Kind.{Kind}
 use Rattle.lf_rules.specs.declared.kind.Kind.TheVariants as kinds
+use Rattle.lf_rules.specs.declared.table.Cells.{Cells}
+use Rattle.lf_rules.specs.declared.table.Cells.TheVariants as cells
 use Rattle.lf_rules.specs.declared.definition.NoteForm.{NoteForm}
 use Rattle.lf_rules.specs.declared.definition.Variable.{Variable}
 use Rattle.lf_rules.specs.declared.definition.Definition.{Definition}
+use Rattle.lf_rules.specs.Tables.{count_of, is_one, others_of, cell_of}
 use Rattle.lf_rule_machine.specs.declared.state.State.{State}
 use Rattle.lf_rule_machine.specs.declared.state.Note.{Note}
 use Rattle.lf_rule_machine.specs.declared.state.Packet.{Packet}
@@ -52,17 +55,36 @@ worded_text d x (word ∷ words) v = or_nothing (slice_get (word ∷ words) v)
 abbrev pub variable_text : Definition → Variable → ℕ → List ℕ
 variable_text d x v = worded_text d x x.words v
 
+-- how many cells of a table are shown: of one with a cell for each node, those of the nodes that there are
+abbrev pub shown_of : ℕ → Cells → ℕ
+shown_of nodes cells.EachNode = min nodes 8
+shown_of nodes other = count_of other
+
+-- the value of the k-th cell of the variable with number i
+abbrev pub cell_value : Definition → State → ℕ → ℕ → ℕ
+cell_value d s i k = zero_or (slice_get s.values (cell_of i (others_of d i) k))
+
+abbrev pub cell_text : Definition → State → ℕ → Variable → ℕ → List ℕ
+cell_text d s i x k = value_text d x.kind (cell_value d s i k)
+
+-- the cells of a table among so many nodes, in order, with a comma (44) between any two; and the table, which is `NAME=[VALUE,VALUE]`
+abbrev pub cells_text : Definition → ℕ → State → ℕ → Variable → List ℕ
+cells_text d nodes s i x = join_with_byte 44 (map (cell_text d s i x) (range_with_len 0 (shown_of nodes x.cells)))
+
+abbrev pub table_text : Definition → ℕ → State → ℕ → Variable → List ℕ
+table_text d nodes s i x = x.name ++ (codes "=[" ++ (cells_text d nodes s i x ++ codes "]"))
+
 -- the variable with a number, in a state; nothing where there is none
-abbrev pub found_text : Definition → Option Variable → ℕ → List ℕ
-found_text d None v = []
-found_text d (Some x) v = variable_text d x v
+abbrev pub found_text : Definition → ℕ → State → ℕ → Option Variable → List ℕ
+found_text d nodes s i None = []
+found_text d nodes s i (Some x) = if is_one x.cells then variable_text d x (zero_or (slice_get s.values i)) else table_text d nodes s i x
 
-abbrev pub shown_text : Definition → State → ℕ → List ℕ
-shown_text d s i = found_text d (slice_get d.variables i) (zero_or (slice_get s.values i))
+abbrev pub shown_text : Definition → ℕ → State → ℕ → List ℕ
+shown_text d nodes s i = found_text d nodes s i (slice_get d.variables i)
 
--- a state: the variables that a trace shows, in order, with a blank (32) between any two
-abbrev pub state_text : Definition → State → List ℕ
-state_text d s = join_with_byte 32 (map (shown_text d s) d.trace)
+-- a state among so many nodes: the variables that a trace shows, in order, with a blank (32) between any two
+abbrev pub state_text : Definition → ℕ → State → List ℕ
+state_text d nodes s = join_with_byte 32 (map (shown_text d nodes s) d.trace)
 
 -- the value of a note's field with a number and a kind, and the values of fields of these kinds, with a comma between any two
 abbrev pub field_text : Definition → Note → ℕ × Kind → List ℕ

@@ -11,8 +11,9 @@ use lf_rules::{Definition, Kind};
 
 /// The fact with this name. None where there is none.
 ///
-/// These are a definition's facts: each named guard, each word of each variable, each variable that is a flag, that a value was clamped, and that a note was
-/// replaced, each of them followed by its denial. Where several have the name it is the first of them. A guard, a variable or a word past number 255 has none.
+/// These are a definition's facts: each named guard, each word of each variable that is no table, each such variable that is a flag, that a value was clamped,
+/// and that a note was replaced, each of them followed by its denial. Where several have the name it is the first of them. A guard, a variable or a word past
+/// number 255 has none.
 pub fn fact_named(definition: &Definition, word: &str) -> Option<Fact>
     ensures value { result ≡ fact_named definition.now word.now }
     ensures some { IfSome result (λ fact. Contains (facts_of definition.now) fact × (fact_name definition.now fact ≡ word.now)) }
@@ -64,12 +65,15 @@ fn word_named(definition: &Definition, word: &str) -> Option<Fact>
     None
 }
 
-/// The fact of a word of a variable.
+/// The fact of a word of a variable that is no table.
 fn own_word_named(definition: &Definition, variable: u8, word: &str) -> Option<Fact>
     ensures { result ≡ find (has_name definition.now word.now) (own_words variable (slice_get definition.now.variables variable)) }
 {
-    let words = variable_at(definition, variable)?.words.len();
-    'words: for own in 0..numbers(words) {
+    let found = variable_at(definition, variable)?;
+    if !found.cells.is_one() {
+        return None;
+    }
+    'words: for own in 0..numbers(found.words.len()) {
         let told = Told::Word {
             variable,
             word: own as u8,
@@ -93,11 +97,15 @@ fn flag_named(definition: &Definition, word: &str) -> Option<Fact>
     None
 }
 
-/// The fact of a variable, where it is a flag.
+/// The fact of a variable, where it is a flag and no table.
 fn own_flag_named(definition: &Definition, variable: u8, word: &str) -> Option<Fact>
     ensures { result ≡ find (has_name definition.now word.now) (own_flag variable (slice_get definition.now.variables variable)) }
 {
-    match variable_at(definition, variable)?.kind {
+    let named = variable_at(definition, variable)?;
+    if !named.cells.is_one() {
+        return None;
+    }
+    match named.kind {
         Kind::Flag => told_named(definition, Told::Flag(variable), word),
         _ => None,
     }

@@ -1,6 +1,6 @@
 -- A fact whose numbers are there is one of its definition's, and of the protocol's.
 use Rattle.std.proofs.Common.{◌≡◌, ℕ, Bool, true, false, List, [], ◌∷◌, ◌++◌, length, min, refl, sym, ap, subst, inl, inr, map, arith}
-use Rattle.std.specs.Prelude.{Option, Some, None, slice_get}
+use Rattle.std.specs.Prelude.{Option, Some, None, if◌then◌else◌, slice_get}
 use Rattle.std.specs.List.{flat_map}
 use Rattle.std.specs.Str.{bytes_eq}
 use Rattle.std.proofs.lemmas.Bool.{and_parts, ltb-true}
@@ -10,6 +10,7 @@ use Rattle.lf_rules.specs.declared.kind.Kind.{Kind}
 use Rattle.lf_rules.specs.declared.kind.Kind.TheVariants as ranges
 use Rattle.lf_rules.specs.declared.definition.Variable.{Variable}
 use Rattle.lf_rules.specs.declared.definition.Definition.{Definition}
+use Rattle.lf_rules.specs.Tables.{is_one}
 use Rattle.lf_rule_machine.specs.declared.fact.Told.{Told}
 use Rattle.lf_rule_machine.specs.declared.fact.Told.TheVariants as tolds
 use Rattle.lf_rule_machine.specs.declared.fact.Fact.{Fact as Shown}
@@ -60,11 +61,19 @@ unfolding of_told
 in-both told false = inl refl
 in-both told true = inr (inl refl)
 
+-- what is there where something is so
+in-where : {X : Type 0} (so : Bool) (xs : List X) (x : X) → so ≡ true → Member xs x → Member (if so then xs else []) x
+in-where true xs x is m = m
+in-where false xs x is m = absurd cc
+
 in-words : (v word : ℕ) (denied : Bool) (o : Option Variable) → has_word o word ≡ true → Member (own_words v o) (of_told (tolds.Word v word) denied)
 in-words v word denied None h = absurd cc
 in-words v word denied (Some x) h =
-    in-flat (λ k. both (tolds.Word v k)) (of_told (tolds.Word v word) denied) (numbers (length x.words)) word (in-numbers word (length x.words) h)
-    (in-both (tolds.Word v word) denied)
+    let of_word : ℕ → List Shown = λ k. both (tolds.Word v k) in
+    let fact = of_told (tolds.Word v word) denied in
+    let own = and_parts (is_one x.cells) (is_number word (length x.words)) h in
+    in-where (is_one x.cells) (flat_map of_word (numbers (length x.words))) fact own.0
+    (in-flat of_word fact (numbers (length x.words)) word (in-numbers word (length x.words) own.1) (in-both (tolds.Word v word) denied))
 
 in-flag : (v : ℕ) (denied : Bool) (k : Kind) → is_flag_kind k ≡ true → Member (if_flag v k) (of_told (tolds.Flag v) denied)
 in-flag v denied ranges.Flag h = in-both (tolds.Flag v) denied
@@ -74,7 +83,9 @@ in-flag v denied (ranges.Word of words) h = absurd cc
 
 in-flags : (v : ℕ) (denied : Bool) (o : Option Variable) → is_flag o ≡ true → Member (own_flag v o) (of_told (tolds.Flag v) denied)
 in-flags v denied None h = absurd cc
-in-flags v denied (Some x) h = in-flag v denied x.kind h
+in-flags v denied (Some x) h =
+    let own = and_parts (is_one x.cells) (is_flag_kind x.kind) h in
+    in-where (is_one x.cells) (if_flag v x.kind) (of_told (tolds.Flag v) denied) own.0 (in-flag v denied x.kind own.1)
 
 module _ (d : Definition) where
   -- the facts behind those of guards, of words and of flags

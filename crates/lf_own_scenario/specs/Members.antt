@@ -4,7 +4,7 @@ use Rattle.std.specs.List.{range_with_len}
 use Rattle.lf_rules.specs.Terms.{Term}
 use Rattle.lf_rule_machine.specs.Sets.{has}
 use Rattle.lf_rule_machine.specs.Values.{fixed_value}
-use Rattle.lf_rule_machine.specs.Constants.{row_of}
+use Rattle.lf_rule_machine.specs.Moments.{row_of}
 use Rattle.lf_own_scenario.specs.declared.scene.Scene.{Scene}
 
 -- n is in the set that the expression gives at n

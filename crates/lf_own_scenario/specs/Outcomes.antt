@@ -8,6 +8,7 @@ use Rattle.lf_rules.specs.declared.definition.Constant.{Constant}
 use Rattle.lf_rules.specs.declared.definition.Definition.{Definition}
 use Rattle.lf_rules.specs.declared.definition.Given.{Given}
 use Rattle.lf_rules.specs.declared.sort.Scope.TheVariants as scopes
+use Rattle.lf_rules.specs.declared.sort.Within.TheVariants as withins
 use Rattle.lf_rule_machine.specs.Constants.{given_table}
 use Rattle.lf_grammar.specs.Places.{Context}
 use Rattle.lf_texts.specs.declared.error.TextError.{TextError}
@@ -67,7 +68,7 @@ abbrev pub told_in : Definition → List Given → Definition
 told_in d given = record { variables = d.variables; notes = []; given = with_values d.given given; lets = []; facts = d.facts; chains = []; trace = [] }
 
 abbrev pub told_place : Declared → Definition → Context
-told_place file d = record { definition = d; fields = []; names = file.names; scope = scopes.Who }
+told_place file d = record { definition = d; fields = []; names = file.names; scope = scopes.Who; within = withins.Nothing }
 
 -- the promise that a text is in a scenario with these constants
 unfoldable pub promise_in : Declared → List Given → List ℕ → Reading Promise

@@ -9,6 +9,7 @@ use Rattle.lf_rules.specs.declared.definition.Value.{Value}
 use Rattle.lf_rules.specs.declared.definition.Value.TheVariants as values
 use Rattle.lf_rules.specs.declared.sort.Scope.{Scope}
 use Rattle.lf_rules.specs.declared.sort.Scope.TheVariants as scopes
+use Rattle.lf_rules.specs.declared.sort.Within.TheVariants as withins
 use Rattle.lf_rules.specs.declared.sort.Sort.{Sort}
 use Rattle.lf_rules.specs.declared.sort.Sort.TheVariants as sorts
 use Rattle.lf_grammar.specs.Places.{Context}
@@ -45,7 +46,7 @@ as_constant (Err e) = Err (refusal e)
 
 -- what may be named in a text of a file
 abbrev pub place_of : Declared → Scope → Context
-place_of file scope = record { definition = file.definition; fields = []; names = file.names; scope = scope }
+place_of file scope = record { definition = file.definition; fields = []; names = file.names; scope = scope; within = withins.Nothing }
 
 -- a number up to 255
 abbrev pub number_in : ℤ → Reading Value

@@ -7,6 +7,8 @@ use Rattle.lf_rules.specs.declared.expr.Binary.{Binary}
 use Rattle.lf_rules.specs.declared.expr.Binary.TheVariants as binaries
 use Rattle.lf_rules.specs.declared.expr.Leaf.TheVariants as leaves
 use Rattle.lf_rules.specs.declared.rule.Assignment.{Assignment}
+use Rattle.lf_rules.specs.declared.rule.Target.{Target}
+use Rattle.lf_rules.specs.declared.rule.Target.TheVariants as targets
 use Rattle.lf_rules.specs.declared.rule.Send.{Send}
 use Rattle.lf_rules.specs.declared.rule.Rule.{Rule}
 use Rattle.lf_rules.specs.declared.rule.Chain.{Chain}
@@ -49,10 +51,17 @@ module _ (given : List Given) where
   divides_by_zero (terms.Leaf x) = false
   divides_by_zero (terms.Unary op a) = divides_by_zero a
   divides_by_zero (terms.Binary op a b) = (is_division op && is_zero_leaf b) || (divides_by_zero a || divides_by_zero b)
+  divides_by_zero (terms.At row place) = divides_by_zero place
+  divides_by_zero (terms.Over op set body) = divides_by_zero set || divides_by_zero body
 
-  -- and so do what is made of expressions
+  -- and so do what is made of expressions: of an assignment the place, too
+  abbrev pub target_divides : Target → Bool
+  target_divides (targets.Variable i) = false
+  target_divides (targets.Cell t place) = divides_by_zero place
+  target_divides (targets.Cells t places) = divides_by_zero places
+
   abbrev pub set_divides : Assignment → Bool
-  set_divides x = divides_by_zero x.value
+  set_divides x = target_divides x.target || divides_by_zero x.value
 
   abbrev pub send_divides : Send → Bool
   send_divides x = list_any divides_by_zero x.fields || divides_by_zero x.to

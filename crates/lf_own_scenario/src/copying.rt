@@ -22,6 +22,15 @@ fn copied_tree(alloc: Global, tree: &Tree) -> Result<Tree, AllocError>
             let b = Box::new(alloc, copied_tree(alloc, b)?)?;
             Ok(Tree::Binary(*operator, a, b))
         }
+        Tree::At(row, place) => {
+            let place = Box::new(alloc, copied_tree(alloc, place)?)?;
+            Ok(Tree::At(*row, place))
+        }
+        Tree::Over(over, set, body) => {
+            let set = Box::new(alloc, copied_tree(alloc, set)?)?;
+            let body = Box::new(alloc, copied_tree(alloc, body)?)?;
+            Ok(Tree::Over(*over, set, body))
+        }
     }
 }
 
@@ -101,6 +110,7 @@ fn copied_variable(alloc: Global, variable: &Variable) -> Result<Variable, Alloc
     Ok(Variable {
         name,
         kind: variable.kind,
+        cells: variable.cells,
         words,
     })
 }

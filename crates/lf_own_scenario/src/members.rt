@@ -1,7 +1,7 @@
 //! The nodes of sets.
 
 ghost use Rattle.std.specs.Prelude.{◌≡◌, IfOk, length, slice_get};
-ghost use Rattle.lf_rule_machine.specs.Constants.{row_of};
+ghost use Rattle.lf_rule_machine.specs.Moments.{row_of};
 ghost use Rattle.lf_own_scenario.specs.Members.{is_in, is_in_set, members, others};
 
 use crate::Scene;

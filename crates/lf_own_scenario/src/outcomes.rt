@@ -24,7 +24,7 @@ use lf_promises::{Promise, PromiseError, read_promise};
 use lf_protocol_file::ProtocolFile;
 use lf_protocols::Fact;
 use lf_rule_machine::given_table;
-use lf_rules::{Definition, Given, Scope};
+use lf_rules::{Definition, Given, Scope, Within};
 use lf_scenario::{Described, Key, ScenarioError, at, list_formula};
 use lf_texts::{TextError, text_tokens};
 use std::alloc::Global;
@@ -87,6 +87,7 @@ fn told_promise(
         names: file.names(),
         fields: &[],
         scope: Scope::Who,
+        within: Within::Nothing,
     };
     match read_promise(alloc, &place, tokens) {
         Ok(promise) => Ok(promise),

@@ -7,7 +7,7 @@ ghost use Rattle.lf_own_scenario.specs.Values.{Gives, is_of_sort, all_of_sort, r
 use lf_grammar::Place;
 use lf_list::Listed;
 use lf_protocol_file::ProtocolFile;
-use lf_rules::{Given, Scope, Sort};
+use lf_rules::{Given, Scope, Sort, Within};
 use lf_scenario::{Key, ScenarioError};
 use lf_texts::{TextError, read_nodes, text_tokens};
 use std::alloc::Global;
@@ -59,6 +59,7 @@ fn set_in(alloc: Global, file: &ProtocolFile, text: &str) -> Result<lf_rules::Va
         names: file.names(),
         fields: &[],
         scope: Scope::Given,
+        within: Within::Nothing,
     };
     let nodes = read_nodes(alloc, &place, tokens.as_slice()).map_err(refusal)?;
     Ok(lf_rules::Value::Nodes(nodes))

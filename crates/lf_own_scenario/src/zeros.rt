@@ -3,12 +3,14 @@
 ghost use Rattle.std.specs.Prelude.{◌≡◌, slice_get};
 ghost use Rattle.std.specs.List.{list_any};
 ghost use Rattle.lf_rules.specs.Terms.{term_of};
-ghost use Rattle.lf_own_scenario.specs.Zeros.{is_zero, has_zero, is_zero_at, is_division, is_zero_leaf, divides_by_zero, set_divides, send_divides};
-ghost use Rattle.lf_own_scenario.specs.Zeros.{rule_divides, chain_divides, fact_divides, let_divides, definition_divides, promise_divides, group_divides};
+ghost use Rattle.lf_own_scenario.specs.Zeros.{is_zero, has_zero, is_zero_at, is_division, is_zero_leaf, divides_by_zero};
+ghost use Rattle.lf_own_scenario.specs.Zeros.{set_divides, target_divides, send_divides, rule_divides, chain_divides, fact_divides, let_divides};
+ghost use Rattle.lf_own_scenario.specs.Zeros.{definition_divides, promise_divides, group_divides};
 
 use lf_promises::Promise;
 use lf_rules::{
-    Assignment, Binary, Chain, Definition, Expr, Given, Guard, Leaf, Named, Rule, Send, Tree, Value,
+    Assignment, Binary, Chain, Definition, Expr, Given, Guard, Leaf, Named, Rule, Send, Target,
+    Tree, Value,
 };
 
 /// Whether a value is the number 0.
@@ -85,6 +87,8 @@ fn tree_divides(given: &[Given], tree: &Tree) -> bool
                 || tree_divides(given, a)
                 || tree_divides(given, b)
         }
+        Tree::At(_, place) => tree_divides(given, place),
+        Tree::Over(_, set, body) => tree_divides(given, set) || tree_divides(given, body),
     }
 }
 
@@ -111,7 +115,17 @@ fn some_value_divides(given: &[Given], values: &[Expr]) -> bool
 fn set_divides(given: &[Given], set: &Assignment) -> bool
     ensures { result ≡ set_divides given.now set.now }
 {
-    divides(given, &set.value)
+    target_divides(given, &set.target) || divides(given, &set.value)
+}
+
+/// Whether the place of what gets a value does.
+fn target_divides(given: &[Given], target: &Target) -> bool
+    ensures { result ≡ target_divides given.now target.now }
+{
+    match target {
+        Target::Variable(_) => false,
+        Target::Cell(_, place) | Target::Cells(_, place) => divides(given, place),
+    }
 }
 
 /// Whether one of some assignments does.

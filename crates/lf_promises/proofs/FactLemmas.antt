@@ -1,7 +1,7 @@
 -- What is read names facts of its definition alone.
-use Rattle.std.proofs.Common.{◌≡◌, ℕ, zero, suc, ◌+◌, ◌<◌, Bool, true, false, not, ◌&&◌, List, [], ◌∷◌, ◌++◌, length, codes, min}
+use Rattle.std.proofs.Common.{◌≡◌, ℕ, zero, suc, ◌+◌, ◌<◌, Bool, true, false, ◌&&◌, List, [], ◌∷◌, ◌++◌, length, codes, min}
 use Rattle.std.proofs.Common.{Option, Some, None, refl, sym, ap, ◌∙◌, subst, arith, inl, inr}
-use Rattle.std.specs.Prelude.{◌⊎◌, ⊤, find, slice_get}
+use Rattle.std.specs.Prelude.{◌⊎◌, ⊤, find, slice_get, if◌then◌else◌}
 use Rattle.std.specs.List.{list_all, flat_map, range_with_len}
 use Rattle.std.proofs.lemmas.Bool.{and_from, and_parts, cases_Bool, lt-ltb}
 use Rattle.std.proofs.lemmas.List.Concat.{flat_map-cons}
@@ -10,11 +10,12 @@ use Rattle.lf_rules.specs.Terms.{Term}
 use Rattle.lf_rules.specs.declared.kind.Kind.{Kind}
 use Rattle.lf_rules.specs.declared.kind.Kind.TheVariants as kinds
 use Rattle.lf_rules.specs.declared.definition.Variable.{Variable}
+use Rattle.lf_rules.specs.Tables.{is_one}
 use Rattle.lf_rules.specs.declared.definition.Definition.{Definition}
 use Rattle.lf_rule_machine.specs.declared.fact.Told.{Told}
 use Rattle.lf_rule_machine.specs.declared.fact.Told.TheVariants as tolds
 use Rattle.lf_rule_machine.specs.declared.fact.Fact.{Fact}
-use Rattle.lf_naming.specs.Facts.{both, own_words, if_flag, own_flag, guard_facts, word_facts, flag_facts, facts_of, has_name}
+use Rattle.lf_naming.specs.Facts.{both, numbers, own_words, if_flag, own_flag, guard_facts, word_facts, flag_facts, facts_of, has_name}
 use Rattle.lf_grammar.specs.declared.sign.Sign.TheVariants as signs
 use Rattle.lf_grammar.specs.declared.token.Token.{Token}
 use Rattle.lf_grammar.specs.declared.token.Token.TheVariants as tokens
@@ -124,14 +125,21 @@ module _ (d : Definition) where
       flat-all is_there (λ guard. both (tolds.Named guard)) (min (length d.facts) 256) 0
       (λ k below. both-there (tolds.Named k) (numbered k (length d.facts) below))
 
+  -- facts of a variable that may be a table
+  if-one : (single : Bool) (facts : List Fact) → (single ≡ true → list_all is_there facts ≡ true) → list_all is_there (if single then facts else []) ≡ true
+  if-one true facts h = h refl
+  if-one false facts h = refl
+
   words-there : (v : ℕ) → is_number v (length d.variables) ≡ true → (o : Option Variable) → o ≡ slice_get d.variables v
       → list_all is_there (own_words v o) ≡ true
   words-there v at None is = refl
   words-there v at (Some x) is =
-      flat-all is_there (λ word. both (tolds.Word v word)) (min (length x.words) 256) 0
+      if-one (is_one x.cells) (flat_map (λ word. both (tolds.Word v word)) (numbers (length x.words)))
+      (λ single. flat-all is_there (λ word. both (tolds.Word v word)) (min (length x.words) 256) 0
       (λ k below. both-there (tolds.Word v k)
       (and_from (is_number v (length d.variables)) (has_word (slice_get d.variables v) k) at
-      (ap (λ o. has_word o k) (sym is) ∙ numbered k (length x.words) below)))
+      (ap (λ o. has_word o k) (sym is)
+      ∙ and_from (is_one x.cells) (is_number k (length x.words)) single (numbered k (length x.words) below)))))
 
   flag-there : (v : ℕ) → is_number v (length d.variables) ≡ true → (k : Kind) → is_flag (slice_get d.variables v) ≡ is_flag_kind k
       → list_all is_there (if_flag v k) ≡ true
@@ -143,7 +151,9 @@ module _ (d : Definition) where
   flags-there : (v : ℕ) → is_number v (length d.variables) ≡ true → (o : Option Variable) → o ≡ slice_get d.variables v
       → list_all is_there (own_flag v o) ≡ true
   flags-there v at None is = refl
-  flags-there v at (Some x) is = flag-there v at x.kind (ap is_flag (sym is))
+  flags-there v at (Some x) is =
+      if-one (is_one x.cells) (if_flag v x.kind)
+      (λ single. flag-there v at x.kind (ap is_flag (sym is) ∙ ap (λ b. b && is_flag_kind x.kind) single))
 
   -- all of its facts
   pub all-there : list_all is_there (facts_of d) ≡ true
@@ -172,9 +182,9 @@ given {A} P x h y is = let same : x ≡ y = cc in subst P same h
 nothing : {A : Type 0} (P : A → Type 0) → Gives P None
 nothing P x is = absurd cc
 
-then : {A B : Type 0} (P : B → Type 0) (o : Option A) (f : A → Option B) → ((x : A) → o ≡ Some x → Gives P (f x)) → Gives P (o >>= f)
-then P (Some x) f h = h x refl
-then P None f h = nothing P
+onward : {A B : Type 0} (P : B → Type 0) (o : Option A) (f : A → Option B) → ((x : A) → o ≡ Some x → Gives P (f x)) → Gives P (o >>= f)
+onward P (Some x) f h = h x refl
+onward P None f h = nothing P
 
 by_cases : {A B : Type 0} (P : B → Type 0) (o : Option A) (absent : Option B) (f : A → Option B) → Gives P absent → ((x : A) → Gives P (f x))
     → Gives P (cases_of o absent f)
@@ -202,7 +212,7 @@ module _ (at : Context) where
   named-own (tokens.Number n ∷ rest) = nothing IsOwn
   named-own (tokens.Sign sign ∷ rest) = nothing IsOwn
   named-own (tokens.Word word ∷ rest) =
-      then IsOwn (fact_of at.definition word) (λ fact. found fact rest)
+      onward IsOwn (fact_of at.definition word) (λ fact. found fact rest)
       (λ fact is. given IsOwn (record { value = fact; rest = rest }) (record { there = named-there at.definition word fact is }))
 
   fact-own : (ts : List Token) → Gives IsOwn (first_fact at.definition ts)
@@ -210,31 +220,31 @@ module _ (at : Context) where
   fact-own ts =
       by_cases IsOwn (behind_word (codes "not") ts) (first_named at.definition ts)
       (λ after. first_named at.definition after >>= λ x. found (opposite x.value) x.rest) (named-own ts)
-      (λ after. then IsOwn (first_named at.definition after) (λ x. found (opposite x.value) x.rest)
+      (λ after. onward IsOwn (first_named at.definition after) (λ x. found (opposite x.value) x.rest)
       (λ x is. let own = named-own after x is in
       given IsOwn (record { value = opposite x.value; rest = x.rest }) (record { there = own.there })))
 
   nodes-fine : (many : Many) (ts : List Token) → Gives IsFine (first_nodes at many ts)
   unfolding first_nodes
   nodes-fine many ts =
-      then IsFine (first_fact at.definition ts) (λ x. first_group at x.rest >>= λ y. found (promises.Nodes many x.value y.value) y.rest)
-      (λ x is. then IsFine (first_group at x.rest) (λ y. found (promises.Nodes many x.value y.value) y.rest)
+      onward IsFine (first_fact at.definition ts) (λ x. first_group at x.rest >>= λ y. found (promises.Nodes many x.value y.value) y.rest)
+      (λ x is. onward IsFine (first_group at x.rest) (λ y. found (promises.Nodes many x.value y.value) y.rest)
       (λ y group. let own = fact-own ts x is in
       fine (promises.Nodes many x.value y.value) y.rest (facts-Nodes at.definition many x.value y.value ∙ own.there)))
 
   down-fine : (ts : List Token) → Gives IsFine (first_down ts)
   unfolding first_down
   down-fine ts =
-      then IsFine (first_node ts) (λ x. found (promises.Down x.value) x.rest)
+      onward IsFine (first_node ts) (λ x. found (promises.Down x.value) x.rest)
       (λ x is. fine (promises.Down x.value) x.rest (facts-Down at.definition x.value))
 
   at-fine : (ts : List Token) → Gives IsFine (first_at at ts)
   unfolding first_at
   at-fine ts =
-      then IsFine (first_fact at.definition ts)
+      onward IsFine (first_fact at.definition ts)
       (λ x. behind_word (codes "at") x.rest >>= λ after. first_node after >>= λ y. found (promises.At y.value x.value) y.rest)
-      (λ x is. then IsFine (behind_word (codes "at") x.rest) (λ after. first_node after >>= λ y. found (promises.At y.value x.value) y.rest)
-      (λ after behind. then IsFine (first_node after) (λ y. found (promises.At y.value x.value) y.rest)
+      (λ x is. onward IsFine (behind_word (codes "at") x.rest) (λ after. first_node after >>= λ y. found (promises.At y.value x.value) y.rest)
+      (λ after behind. onward IsFine (first_node after) (λ y. found (promises.At y.value x.value) y.rest)
       (λ y node. let own = fact-own ts x is in
       fine (promises.At y.value x.value) y.rest (facts-At at.definition y.value x.value ∙ own.there))))
 
@@ -275,7 +285,7 @@ module _ (at : Context) where
   unfolding read
   read-fine zero timed next ts ready = nothing IsFine
   read-fine (suc n) timed (Joined joint) ts ready =
-      then IsFine (read at n timed (Part joint) ts)
+      onward IsFine (read at n timed (Part joint) ts)
       (λ x. cases_of (behind_joint joint x.rest) (found x.value x.rest) (λ after. read at n timed (More joint (x.value ∷ [])) after))
       (λ x is. let part = read-fine n timed (Part joint) ts tt x is in
       by_cases IsFine (behind_joint joint x.rest) (found x.value x.rest) (λ after. read at n timed (More joint (x.value ∷ [])) after)
@@ -283,7 +293,7 @@ module _ (at : Context) where
   read-fine (suc n) timed (Part joints.Or) ts ready = read-fine n timed (Joined joints.And) ts tt
   read-fine (suc n) timed (Part joints.And) ts ready = read-fine n timed Whole ts tt
   read-fine (suc n) timed (More joint parts) ts ready =
-      then IsFine (read at n timed (Part joint) ts)
+      onward IsFine (read at n timed (Part joint) ts)
       (λ x. cases_of (behind_joint joint x.rest) (found (of_parts joint (parts ++ x.value ∷ [])) x.rest)
       (λ after. read at n timed (More joint (parts ++ x.value ∷ [])) after))
       (λ x is. let part = read-fine n timed (Part joint) ts tt x is in
@@ -299,12 +309,12 @@ module _ (at : Context) where
       (λ x. read-fine n timed (Timed x.value) x.rest tt))
       (λ after. read-fine n timed Round after tt)
   read-fine (suc n) timed Round ts ready =
-      then IsFine (read at n timed (Joined joints.Or) ts) (λ x. behind_sign signs.CloseRound x.rest >>= λ rest. found x.value rest)
+      onward IsFine (read at n timed (Joined joints.Or) ts) (λ x. behind_sign signs.CloseRound x.rest >>= λ rest. found x.value rest)
       (λ x is. let inner = read-fine n timed (Joined joints.Or) ts tt x is in
-      then IsFine (behind_sign signs.CloseRound x.rest) (λ rest. found x.value rest) (λ rest closes. fine x.value rest inner.names))
+      onward IsFine (behind_sign signs.CloseRound x.rest) (λ rest. found x.value rest) (λ rest closes. fine x.value rest inner.names))
   read-fine (suc n) true (Timed time) ts ready = nothing IsFine
   read-fine (suc n) false (Timed time) ts ready =
-      then IsFine (read at n true Whole ts) (λ x. found (at_times time x.value) x.rest)
+      onward IsFine (read at n true Whole ts) (λ x. found (at_times time x.value) x.rest)
       (λ x is. let inner = read-fine n true Whole ts tt x is in fine (at_times time x.value) x.rest (timed-fine time x.value inner.names))
 
   pub reads-fine : (ts rest : List Token) (p : Promise) → IsRead at false (Joined joints.Or) ts (found p rest) → names_facts at.definition p ≡ true
@@ -322,5 +332,5 @@ module _ (at : Context) where
   unfolding promise_of
   promise-fine ts p h =
       let n = suc (steps (Joined joints.Or) ts) in
-      then (λ q. names_facts at.definition q ≡ true) (read at n false (Joined joints.Or) ts) (λ x. to_the_end x.value x.rest)
+      onward (λ q. names_facts at.definition q ≡ true) (read at n false (Joined joints.Or) ts) (λ x. to_the_end x.value x.rest)
       (λ x is. let fine_one = read-fine n false (Joined joints.Or) ts tt x is in to-end x.value x.rest fine_one.names) p h

@@ -4,6 +4,7 @@ use Rattle.std.specs.List.{list_all}
 use Rattle.lf_rules.specs.declared.kind.Kind.{Kind}
 use Rattle.lf_rules.specs.declared.kind.Kind.TheVariants as kinds
 use Rattle.lf_rules.specs.declared.definition.Variable.{Variable}
+use Rattle.lf_rules.specs.Tables.{is_one}
 use Rattle.lf_rules.specs.declared.definition.Definition.{Definition}
 use Rattle.lf_rule_machine.specs.declared.fact.Told.{Told}
 use Rattle.lf_rule_machine.specs.declared.fact.Told.TheVariants as tolds
@@ -14,19 +15,19 @@ use Rattle.lf_promises.specs.declared.promise.Promise.TheOpen.{Promise-F}
 abbrev pub is_number : ℕ → ℕ → Bool
 is_number number count = nat_lt number (min count 256)
 
--- the variable is there and has a word with the number
+-- the variable is there, is no table, and has a word with the number
 abbrev pub has_word : Option Variable → ℕ → Bool
 has_word None word = false
-has_word (Some x) word = is_number word (length x.words)
+has_word (Some x) word = is_one x.cells && is_number word (length x.words)
 
--- the variable is there and is a flag
+-- the variable is there, is no table, and is a flag
 abbrev pub is_flag_kind : Kind → Bool
 is_flag_kind kinds.Flag = true
 is_flag_kind other = false
 
 abbrev pub is_flag : Option Variable → Bool
 is_flag None = false
-is_flag (Some x) = is_flag_kind x.kind
+is_flag (Some x) = is_one x.cells && is_flag_kind x.kind
 
 -- what a fact is about is there, by its numbers
 abbrev pub has_told : Definition → Told → Bool

@@ -3,7 +3,7 @@
 ghost use Rattle.std.specs.Prelude.{◌≡◌, slice_get};
 ghost use Rattle.std.specs.List.{list_all};
 ghost use Rattle.std.specs.Option.{option_copied};
-ghost use Rattle.lf_promises.specs.Facts.{has_told, has_word, is_flag, is_number, names_facts};
+ghost use Rattle.lf_promises.specs.Facts.{has_told, has_word, is_flag, is_flag_kind, is_number, names_facts};
 
 use crate::Promise;
 use lf_rule_machine::Told;
@@ -11,8 +11,8 @@ use lf_rules::{Definition, Kind, Variable};
 
 /// Whether each fact that a promise names is one of the definition's, denied or not.
 ///
-/// A named guard, a variable and its word are there by their numbers, which are at most 255, and a flag is a variable of that kind. That a value was clamped
-/// or a note replaced is a fact of every definition.
+/// A named guard, a variable and its word are there by their numbers, which are at most 255, and a flag is a variable of that kind. A table is no fact, and
+/// its words are none. That a value was clamped or a note replaced is a fact of every definition.
 #[cycle(naming)]
 pub fn names_facts(definition: &Definition, promise: &Promise) -> bool
     ensures { result ≡ names_facts definition.now promise.now }
@@ -67,26 +67,33 @@ fn is_number(number: u8, count: usize) -> bool
     usize::from(number) < count.min(256)
 }
 
-/// Whether a variable is there and has a word with the number.
+/// Whether a variable is there, is no table, and has a word with the number.
 fn has_word(definition: &Definition, variable: u8, word: u8) -> bool
     ensures { result ≡ has_word (slice_get definition.now.variables variable) word }
 {
     match variable_at(definition, variable) {
-        Some(variable) => is_number(word, variable.words.len()),
+        Some(variable) => variable.cells.is_one() && is_number(word, variable.words.len()),
         None => false,
     }
 }
 
-/// Whether a variable is there and is a flag.
+/// Whether a variable is there, is no table, and is a flag.
 fn is_flag(definition: &Definition, variable: u8) -> bool
     ensures { result ≡ is_flag (slice_get definition.now.variables variable) }
 {
     match variable_at(definition, variable) {
-        Some(variable) => match variable.kind {
-            Kind::Flag => true,
-            _ => false,
-        },
+        Some(variable) => variable.cells.is_one() && is_flag_kind(variable.kind),
         None => false,
+    }
+}
+
+/// Whether a kind is that of flags.
+fn is_flag_kind(kind: Kind) -> bool
+    ensures { result ≡ is_flag_kind kind }
+{
+    match kind {
+        Kind::Flag => true,
+        _ => false,
     }
 }
 

@@ -10,6 +10,7 @@ use Rattle.lf_rules.specs.Sorts.{same_sort, is_a}
 use Rattle.lf_rules.specs.declared.sort.Scope.TheVariants as scopes
 use Rattle.lf_rules.specs.declared.sort.Sort.{Sort}
 use Rattle.lf_rules.specs.declared.sort.Sort.TheVariants as sorts
+use Rattle.lf_rules.specs.declared.sort.Within.TheVariants as withins
 use Rattle.lf_rules.specs.declared.definition.Given.{Given}
 use Rattle.lf_rules.specs.declared.definition.Given.TheVariants as givens
 use Rattle.lf_rules.specs.declared.definition.Value.{Value}
@@ -58,7 +59,7 @@ module _ (d : Draft) where
       let e = step-inv (as_value (nodes_in at ts.0)) (λ e. Ok (values.Nodes e)) ts.2 in
       let same : values.Nodes e.0 ≡ v = cc in
       ap (is_value d.definition sort) (sym same)
-      ∙ and_from (same_sort sort sorts.Nodes) (is_a d.definition scopes.Given sorts.Nodes e.0) (turned sorts.Nodes sort is)
+      ∙ and_from (same_sort sort sorts.Nodes) (is_a d.definition scopes.Given withins.Nothing sorts.Nodes e.0) (turned sorts.Nodes sort is)
       (nodes-sorted at ts.0 e.0 (as_value-inv (nodes_in at ts.0) e.0 e.1))
 
   value-fits : (sort : Sort) (x : Data) (v : Value) → is_of_sort sort x ≡ true → constants.value_in d x ≡ Ok v → is_value d.definition sort v ≡ true

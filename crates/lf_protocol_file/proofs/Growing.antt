@@ -1,19 +1,25 @@
 -- What holds in a definition still holds where the definition has grown.
 use Rattle.std.proofs.Common.{◌≡◌, ℕ, ◌+◌, ◌≤◌, Bool, true, false, ◌&&◌, ◌||◌, ◌==◌, List, [], ◌∷◌, ◌++◌, length, refl, sym, ap, ◌∙◌, arith}
 use Rattle.std.specs.Prelude.{Option, Some, None, nat_le, slice_get}
-use Rattle.std.specs.List.{list_all}
+use Rattle.std.specs.List.{list_all, list_any}
 use Rattle.std.proofs.lemmas.Bool.{and_from, and_parts, lt-ltb, ltb-true}
 use Rattle.lf_rules.specs.Forms.{is_from, has_words, is_kind, is_word_of, is_variable, are_variables, is_form, is_value, is_given, is_constant, is_let, is_fact}
-use Rattle.lf_rules.specs.Forms.{is_assigned, is_assignment, are_fields, are_sent, is_send, is_rule_in, is_event, scope_of, sends_of, is_chain, is_shown}
+use Rattle.lf_rules.specs.Forms.{is_assigned, is_whole, within_of, is_set, is_assignment, are_fields, are_sent, same_truth, is_send, is_rule_in, is_event}
+use Rattle.lf_rules.specs.Forms.{scope_of, sends_of, is_chain, is_shown}
 use Rattle.lf_rules.specs.Kinds.{sort_of}
 use Rattle.lf_rules.specs.Sorts.{same_sort, is_of, where_so, names_constants, names_state, names_lets, is_rule, constant_sort, let_sort, fact_sort}
-use Rattle.lf_rules.specs.Sorts.{variable_sort, field_sort, word_sort, heard_sort, leaf_sort, unary_sort, made, binary_sort, tree_sort, is_a}
+use Rattle.lf_rules.specs.Sorts.{has_bodies, variable_sort, cell_sort, field_sort, word_sort, heard_sort, leaf_sort, row_sort, unary_sort, made, binary_sort}
+use Rattle.lf_rules.specs.Sorts.{at_sort, comes_of, over_sort, tree_sort, is_a}
+use Rattle.lf_rules.specs.Tables.{is_each_node, is_cells, is_table}
 use Rattle.lf_rules.specs.Terms.{Term}
 use Rattle.lf_rules.specs.Terms as terms
+use Rattle.lf_rules.specs.Trees.{has_it}
 use Rattle.lf_rules.specs.declared.expr.Leaf.{Leaf}
 use Rattle.lf_rules.specs.declared.expr.Leaf.TheVariants as leaves
 use Rattle.lf_rules.specs.declared.expr.Binary.{Binary}
 use Rattle.lf_rules.specs.declared.expr.Binary.TheVariants as twos
+use Rattle.lf_rules.specs.declared.expr.Row.{Row}
+use Rattle.lf_rules.specs.declared.expr.Row.TheVariants as rows
 use Rattle.lf_rules.specs.declared.kind.Kind.{Kind}
 use Rattle.lf_rules.specs.declared.kind.Kind.TheVariants as kinds
 use Rattle.lf_rules.specs.declared.rule.Assignment.{Assignment}
@@ -22,10 +28,15 @@ use Rattle.lf_rules.specs.declared.rule.Event.{Event}
 use Rattle.lf_rules.specs.declared.rule.Event.TheVariants as events
 use Rattle.lf_rules.specs.declared.rule.Rule.{Rule}
 use Rattle.lf_rules.specs.declared.rule.Send.{Send}
+use Rattle.lf_rules.specs.declared.rule.Target.{Target}
+use Rattle.lf_rules.specs.declared.rule.Target.TheVariants as targets
 use Rattle.lf_rules.specs.declared.sort.Scope.{Scope}
 use Rattle.lf_rules.specs.declared.sort.Scope.TheVariants as scopes
 use Rattle.lf_rules.specs.declared.sort.Sort.{Sort}
 use Rattle.lf_rules.specs.declared.sort.Sort.TheVariants as sorts
+use Rattle.lf_rules.specs.declared.sort.Within.{Within}
+use Rattle.lf_rules.specs.declared.sort.Within.TheVariants as withins
+use Rattle.lf_rules.specs.declared.table.Table.{Table}
 use Rattle.lf_rules.specs.declared.definition.Constant.{Constant}
 use Rattle.lf_rules.specs.declared.definition.Definition.{Definition}
 use Rattle.lf_rules.specs.declared.definition.Given.{Given}
@@ -45,6 +56,7 @@ pub record Grows (d e : Definition) : Type 0 where
   pub given : (i : ℕ) (x : Constant) → slice_get d.given i ≡ Some x → slice_get e.given i ≡ Some x
   pub lets : (i : ℕ) (x : Named) → slice_get d.lets i ≡ Some x → slice_get e.lets i ≡ Some x
   pub facts : (i : ℕ) (x : Guard) → slice_get d.facts i ≡ Some x → slice_get e.facts i ≡ Some x
+  pub tables : (t : Table) → is_table d t ≡ true → is_table e t ≡ true
   pub more_variables : length d.variables ≤ length e.variables
   pub more_notes : length d.notes ≤ length e.notes
 
@@ -93,41 +105,69 @@ right-none twos.Without a = so-none (is_of a sorts.Nodes) (Some (made twos.Witho
 right-none twos.Majority a = so-none (is_of a sorts.Nodes) (Some (made twos.Majority))
 right-none other a = so-none (is_of a sorts.Number) (Some (made other))
 
+-- what is there where something is so
+so-stays : (q r : Bool) (o p : Option Sort) (s : Sort) → (q ≡ true → r ≡ true) → (o ≡ Some s → p ≡ Some s) → where_so q o ≡ Some s → where_so r p ≡ Some s
+so-stays true r o p s so stay h = ap (λ b. where_so b p) (so refl) ∙ stay h
+so-stays false r o p s so stay h = absurd cc
+
 module _ {d e : Definition} (g : Grows d e) where
   heard-stays : (scope : Scope) (i : ℕ) (s : Sort) → heard_sort d scope i ≡ Some s → heard_sort e scope i ≡ Some s
   heard-stays (scopes.Note form) i s h = stays (λ o. field_sort o i) refl (slice_get d.notes form) (slice_get e.notes form) (g.notes form) s h
   heard-stays other i s h = h
 
-  leaf-stays : (scope : Scope) (x : Leaf) (s : Sort) → leaf_sort d scope x ≡ Some s → leaf_sort e scope x ≡ Some s
-  leaf-stays scope (leaves.Word of word) s h =
+  leaf-stays : (scope : Scope) (within : Within) (x : Leaf) (s : Sort) → leaf_sort d scope within x ≡ Some s → leaf_sort e scope within x ≡ Some s
+  leaf-stays scope within (leaves.Word of word) s h =
       stays (λ o. word_sort o of word) refl (slice_get d.variables of) (slice_get e.variables of) (g.variables of) s h
-  leaf-stays scope (leaves.Given i) s h =
+  leaf-stays scope within (leaves.Given i) s h =
       stays (λ o. where_so (names_constants scope) (constant_sort o)) (where-none (names_constants scope)) (slice_get d.given i) (slice_get e.given i)
       (g.given i) s h
-  leaf-stays scope (leaves.Field i) s h = heard-stays scope i s h
-  leaf-stays scope (leaves.Variable i) s h =
+  leaf-stays scope within (leaves.Field i) s h = heard-stays scope i s h
+  leaf-stays scope within (leaves.Variable i) s h =
       stays (λ o. where_so (names_state scope) (variable_sort o)) (where-none (names_state scope)) (slice_get d.variables i) (slice_get e.variables i)
       (g.variables i) s h
-  leaf-stays scope (leaves.Let i) s h =
+  leaf-stays scope within (leaves.Let i) s h =
       stays (λ o. where_so (names_lets scope) (let_sort o)) (where-none (names_lets scope)) (slice_get d.lets i) (slice_get e.lets i) (g.lets i) s h
-  leaf-stays scope (leaves.Fact i) s h =
+  leaf-stays scope within (leaves.Fact i) s h =
       stays (λ o. where_so (is_rule scope) (fact_sort o)) (where-none (is_rule scope)) (slice_get d.facts i) (slice_get e.facts i) (g.facts i) s h
-  leaf-stays scope other s h = h
+  leaf-stays scope within other s h = h
+
+  row-stays : (scope : Scope) (x : Row) (s : Sort) → row_sort d scope x ≡ Some s → row_sort e scope x ≡ Some s
+  row-stays scope (rows.Table t) s h =
+      so-stays (names_state scope && is_table d t) (names_state scope && is_table e t) (cell_sort (slice_get d.variables t.of))
+      (cell_sort (slice_get e.variables t.of)) s
+      (both-stay (names_state scope) (is_table d t) (names_state scope) (is_table e t) (λ a. a) (g.tables t))
+      (stays cell_sort refl (slice_get d.variables t.of) (slice_get e.variables t.of) (g.variables t.of) s) h
+  row-stays scope (rows.Given i) s h =
+      stays (λ o. where_so (names_state scope) (constant_sort o)) (where-none (names_state scope)) (slice_get d.given i) (slice_get e.given i) (g.given i) s h
 
   -- an expression keeps its sort
-  sort-stays : (scope : Scope) (t : Term) (s : Sort) → tree_sort d scope t ≡ Some s → tree_sort e scope t ≡ Some s
-  sort-stays scope (terms.Leaf x) s h = leaf-stays scope x s h
-  sort-stays scope (terms.Unary op a) s h =
-      stays (unary_sort op) refl (tree_sort d scope a) (tree_sort e scope a) (λ x is. sort-stays scope a x is) s h
-  sort-stays scope (terms.Binary op a b) s h =
-      stays (λ o. binary_sort op (tree_sort e scope a) o) (right-none op (tree_sort e scope a)) (tree_sort d scope b) (tree_sort e scope b)
-      (λ x is. sort-stays scope b x is) s
-      (stays (λ o. binary_sort op o (tree_sort d scope b)) (left-none op (tree_sort d scope b)) (tree_sort d scope a) (tree_sort e scope a)
-      (λ x is. sort-stays scope a x is) s h)
+  sort-stays : (scope : Scope) (within : Within) (t : Term) (s : Sort) → tree_sort d scope within t ≡ Some s → tree_sort e scope within t ≡ Some s
+  sort-stays scope within (terms.Leaf x) s h = leaf-stays scope within x s h
+  sort-stays scope within (terms.Unary op a) s h =
+      stays (unary_sort op) refl (tree_sort d scope within a) (tree_sort e scope within a) (λ x is. sort-stays scope within a x is) s h
+  sort-stays scope within (terms.Binary op a b) s h =
+      stays (λ o. binary_sort op (tree_sort e scope within a) o) (right-none op (tree_sort e scope within a)) (tree_sort d scope within b)
+      (tree_sort e scope within b) (λ x is. sort-stays scope within b x is) s
+      (stays (λ o. binary_sort op o (tree_sort d scope within b)) (left-none op (tree_sort d scope within b)) (tree_sort d scope within a)
+      (tree_sort e scope within a) (λ x is. sort-stays scope within a x is) s h)
+  sort-stays scope within (terms.At row a) s h =
+      stays (λ o. at_sort (row_sort e scope row) o) refl (tree_sort d scope within a) (tree_sort e scope within a) (λ x is. sort-stays scope within a x is) s
+      (stays (λ o. at_sort o (tree_sort d scope within a)) (where-none (is_of (tree_sort d scope within a) sorts.Number)) (row_sort d scope row)
+      (row_sort e scope row) (λ x is. row-stays scope row x is) s h)
+  sort-stays scope within (terms.Over op a b) s h =
+      so-stays (names_state scope && has_bodies within) (names_state scope && has_bodies within)
+      (over_sort op (tree_sort d scope within a) (tree_sort d scope withins.Body b))
+      (over_sort op (tree_sort e scope within a) (tree_sort e scope withins.Body b)) s
+      (λ so. so)
+      (λ inner. stays (λ o. over_sort op (tree_sort e scope within a) o)
+      (so-none (is_of (tree_sort e scope within a) sorts.Nodes) (Some (comes_of op))) (tree_sort d scope withins.Body b) (tree_sort e scope withins.Body b)
+      (λ x is. sort-stays scope withins.Body b x is) s
+      (stays (λ o. over_sort op o (tree_sort d scope withins.Body b)) refl (tree_sort d scope within a) (tree_sort e scope within a)
+      (λ x is. sort-stays scope within a x is) s inner)) h
 
-  pub is_a-stays : (scope : Scope) (sort : Sort) (t : Term) → is_a d scope sort t ≡ true → is_a e scope sort t ≡ true
-  is_a-stays scope sort t h =
-      passes (λ o. is_of o sort) refl (tree_sort d scope t) (tree_sort e scope t) (λ x is. sort-stays scope t x is) h
+  pub is_a-stays : (scope : Scope) (within : Within) (sort : Sort) (t : Term) → is_a d scope within sort t ≡ true → is_a e scope within sort t ≡ true
+  is_a-stays scope within sort t h =
+      passes (λ o. is_of o sort) refl (tree_sort d scope within t) (tree_sort e scope within t) (λ x is. sort-stays scope within t x is) h
 
   -- ---- and so does all that a definition holds
 
@@ -141,7 +181,7 @@ module _ {d e : Definition} (g : Grows d e) where
 
   variable-stays : (i : ℕ) (x : Variable) → is_variable d i x ≡ true → is_variable e i x ≡ true
   variable-stays i x h =
-      let own = length x.words == 0 || is_word_of i x.kind in
+      let own = is_cells x.cells && (length x.words == 0 || is_word_of i x.kind) in
       both-stay (is_kind d x.kind) own (is_kind e x.kind) own (kind-stays x.kind) (λ a. a) h
 
   pub variables-stay : (i : ℕ) (xs : List Variable) → are_variables d i xs ≡ true → are_variables e i xs ≡ true
@@ -152,15 +192,15 @@ module _ {d e : Definition} (g : Grows d e) where
 
   pub form-stays : (x : NoteForm) → is_form d x ≡ true → is_form e x ≡ true
   form-stays x h =
-      both-stay (nat_le (length x.fields) 6) (list_all (is_kind d) x.fields) (nat_le (length x.fields) 6) (list_all (is_kind e) x.fields) (λ a. a)
+      both-stay (nat_le (length x.fields) 7) (list_all (is_kind d) x.fields) (nat_le (length x.fields) 7) (list_all (is_kind e) x.fields) (λ a. a)
       (all-stay (is_kind d) (is_kind e) kind-stays x.fields) h
 
   value-stays : (sort : Sort) (v : Value) → is_value d sort v ≡ true → is_value e sort v ≡ true
   value-stays sort (values.Number n) h = h
   value-stays sort (values.Truth b) h = h
   value-stays sort (values.Nodes t) h =
-      both-stay (same_sort sort sorts.Nodes) (is_a d scopes.Given sorts.Nodes t) (same_sort sort sorts.Nodes) (is_a e scopes.Given sorts.Nodes t) (λ a. a)
-      (is_a-stays scopes.Given sorts.Nodes t) h
+      both-stay (same_sort sort sorts.Nodes) (is_a d scopes.Given withins.Nothing sorts.Nodes t) (same_sort sort sorts.Nodes)
+      (is_a e scopes.Given withins.Nothing sorts.Nodes t) (λ a. a) (is_a-stays scopes.Given withins.Nothing sorts.Nodes t) h
 
   given-stays : (sort : Sort) (v : Given) → is_given d sort v ≡ true → is_given e sort v ≡ true
   given-stays sort (givens.One v) h = value-stays sort v h
@@ -172,27 +212,52 @@ module _ {d e : Definition} (g : Grows d e) where
   constant-stays x h = given-stays x.sort x.value h
 
   pub let-stays : (x : Named) → is_let d x ≡ true → is_let e x ≡ true
-  let-stays x h = is_a-stays scopes.Let x.sort x.value h
+  let-stays x h = is_a-stays scopes.Let withins.Nothing x.sort x.value h
 
   pub fact-stays : (x : Guard) → is_fact d x ≡ true → is_fact e x ≡ true
-  fact-stays x h = is_a-stays scopes.Fact sorts.Truth x.value h
+  fact-stays x h = is_a-stays scopes.Fact withins.Nothing sorts.Truth x.value h
 
-  assigned-stays : (scope : Scope) (o p : Option Variable) (t : Term) → ((x : Variable) → o ≡ Some x → p ≡ Some x)
-      → is_assigned d scope o t ≡ true → is_assigned e scope p t ≡ true
-  assigned-stays scope None p t stay h = absurd cc
-  assigned-stays scope (Some x) p t stay h = ap (λ q. is_assigned e scope q t) (stay x refl) ∙ is_a-stays scope (sort_of x.kind) t h
+  assigned-stays : (scope : Scope) (within : Within) (o p : Option Variable) (t : Term) → ((x : Variable) → o ≡ Some x → p ≡ Some x)
+      → is_assigned d scope within o t ≡ true → is_assigned e scope within p t ≡ true
+  assigned-stays scope within None p t stay h = absurd cc
+  assigned-stays scope within (Some x) p t stay h =
+      ap (λ q. is_assigned e scope within q t) (stay x refl) ∙ is_a-stays scope within (sort_of x.kind) t h
+
+  set-stays : (scope : Scope) (x : Target) (t : Term) → is_set d scope x t ≡ true → is_set e scope x t ≡ true
+  set-stays scope (targets.Variable i) t h =
+      both-stay (is_whole (slice_get d.variables i)) (is_assigned d scope withins.Nothing (slice_get d.variables i) t)
+      (is_whole (slice_get e.variables i)) (is_assigned e scope withins.Nothing (slice_get e.variables i) t)
+      (passes is_whole refl (slice_get d.variables i) (slice_get e.variables i) (g.variables i))
+      (assigned-stays scope withins.Nothing (slice_get d.variables i) (slice_get e.variables i) t (g.variables i)) h
+  set-stays scope (targets.Cell table place) t h =
+      let inside = within_of table.cells in
+      both-stay (is_table d table)
+      (is_a d scope withins.Nothing sorts.Number place && is_assigned d scope inside (slice_get d.variables table.of) t) (is_table e table)
+      (is_a e scope withins.Nothing sorts.Number place && is_assigned e scope inside (slice_get e.variables table.of) t) (g.tables table)
+      (both-stay (is_a d scope withins.Nothing sorts.Number place) (is_assigned d scope inside (slice_get d.variables table.of) t)
+      (is_a e scope withins.Nothing sorts.Number place) (is_assigned e scope inside (slice_get e.variables table.of) t)
+      (is_a-stays scope withins.Nothing sorts.Number place)
+      (assigned-stays scope inside (slice_get d.variables table.of) (slice_get e.variables table.of) t (g.variables table.of))) h
+  set-stays scope (targets.Cells table places) t h =
+      let old = is_a d scope withins.Nothing sorts.Nodes places && is_assigned d scope withins.Receiver (slice_get d.variables table.of) t in
+      let new = is_a e scope withins.Nothing sorts.Nodes places && is_assigned e scope withins.Receiver (slice_get e.variables table.of) t in
+      both-stay (is_table d table) (is_each_node table.cells && old) (is_table e table) (is_each_node table.cells && new) (g.tables table)
+      (both-stay (is_each_node table.cells) old (is_each_node table.cells) new (λ a. a)
+      (both-stay (is_a d scope withins.Nothing sorts.Nodes places) (is_assigned d scope withins.Receiver (slice_get d.variables table.of) t)
+      (is_a e scope withins.Nothing sorts.Nodes places) (is_assigned e scope withins.Receiver (slice_get e.variables table.of) t)
+      (is_a-stays scope withins.Nothing sorts.Nodes places)
+      (assigned-stays scope withins.Receiver (slice_get d.variables table.of) (slice_get e.variables table.of) t (g.variables table.of)))) h
 
   assignment-stays : (scope : Scope) (x : Assignment) → is_assignment d scope x ≡ true → is_assignment e scope x ≡ true
-  assignment-stays scope x h =
-      assigned-stays scope (slice_get d.variables x.variable) (slice_get e.variables x.variable) x.value (g.variables x.variable) h
+  assignment-stays scope x h = set-stays scope x.target x.value h
 
   fields-stay : (scope : Scope) (ks : List Kind) (ts : List Term) → are_fields d scope ks ts ≡ true → are_fields e scope ks ts ≡ true
   fields-stay scope [] [] h = refl
   fields-stay scope [] (t ∷ ts) h = absurd cc
   fields-stay scope (k ∷ ks) [] h = absurd cc
   fields-stay scope (k ∷ ks) (t ∷ ts) h =
-      both-stay (is_a d scope (sort_of k) t) (are_fields d scope ks ts) (is_a e scope (sort_of k) t) (are_fields e scope ks ts)
-      (is_a-stays scope (sort_of k) t) (fields-stay scope ks ts) h
+      both-stay (is_a d scope withins.Receiver (sort_of k) t) (are_fields d scope ks ts) (is_a e scope withins.Receiver (sort_of k) t)
+      (are_fields e scope ks ts) (is_a-stays scope withins.Receiver (sort_of k) t) (fields-stay scope ks ts) h
 
   sent-stays : (scope : Scope) (o p : Option NoteForm) (ts : List Term) → ((x : NoteForm) → o ≡ Some x → p ≡ Some x)
       → are_sent d scope o ts ≡ true → are_sent e scope p ts ≡ true
@@ -201,9 +266,12 @@ module _ {d e : Definition} (g : Grows d e) where
 
   send-stays : (scope : Scope) (x : Send) → is_send d scope x ≡ true → is_send e scope x ≡ true
   send-stays scope x h =
-      both-stay (are_sent d scope (slice_get d.notes x.form) x.fields) (is_a d scope sorts.Nodes x.to)
-      (are_sent e scope (slice_get e.notes x.form) x.fields) (is_a e scope sorts.Nodes x.to)
-      (sent-stays scope (slice_get d.notes x.form) (slice_get e.notes x.form) x.fields (g.notes x.form)) (is_a-stays scope sorts.Nodes x.to) h
+      let told = same_truth x.each (list_any has_it x.fields) in
+      both-stay (are_sent d scope (slice_get d.notes x.form) x.fields) (is_a d scope withins.Nothing sorts.Nodes x.to && told)
+      (are_sent e scope (slice_get e.notes x.form) x.fields) (is_a e scope withins.Nothing sorts.Nodes x.to && told)
+      (sent-stays scope (slice_get d.notes x.form) (slice_get e.notes x.form) x.fields (g.notes x.form))
+      (both-stay (is_a d scope withins.Nothing sorts.Nodes x.to) told (is_a e scope withins.Nothing sorts.Nodes x.to) told
+      (is_a-stays scope withins.Nothing sorts.Nodes x.to) (λ a. a)) h
 
   pub rule-stays : (scope : Scope) (sends : ℕ) (x : Rule) → is_rule_in d scope sends x ≡ true → is_rule_in e scope sends x ≡ true
   rule-stays scope sends x h =
@@ -211,9 +279,9 @@ module _ {d e : Definition} (g : Grows d e) where
       let new_sends = nat_le (length x.sends) sends && list_all (is_send e scope) x.sends in
       let old_sets = list_all (is_assignment d scope) x.sets && old_sends in
       let new_sets = list_all (is_assignment e scope) x.sets && new_sends in
-      both-stay (is_a d scope sorts.Truth x.guard) (nat_le (length x.sets) 8 && old_sets) (is_a e scope sorts.Truth x.guard)
-      (nat_le (length x.sets) 8 && new_sets) (is_a-stays scope sorts.Truth x.guard)
-      (both-stay (nat_le (length x.sets) 8) old_sets (nat_le (length x.sets) 8) new_sets (λ a. a)
+      both-stay (is_a d scope withins.Nothing sorts.Truth x.guard) (nat_le (length x.sets) 16 && old_sets) (is_a e scope withins.Nothing sorts.Truth x.guard)
+      (nat_le (length x.sets) 16 && new_sets) (is_a-stays scope withins.Nothing sorts.Truth x.guard)
+      (both-stay (nat_le (length x.sets) 16) old_sets (nat_le (length x.sets) 16) new_sets (λ a. a)
       (both-stay (list_all (is_assignment d scope) x.sets) old_sends (list_all (is_assignment e scope) x.sets) new_sends
       (all-stay (is_assignment d scope) (is_assignment e scope) (assignment-stays scope) x.sets)
       (both-stay (nat_le (length x.sends) sends) (list_all (is_send d scope) x.sends) (nat_le (length x.sends) sends) (list_all (is_send e scope) x.sends)
@@ -227,8 +295,9 @@ module _ {d e : Definition} (g : Grows d e) where
   chain-stays x h =
       let old_rules = list_all (is_rule_in d (scope_of x.on) (sends_of x.on)) x.rules in
       let new_rules = list_all (is_rule_in e (scope_of x.on) (sends_of x.on)) x.rules in
-      both-stay (is_a d scopes.Who sorts.Nodes x.who) (is_event d x.on && (nat_le 1 (length x.rules) && old_rules)) (is_a e scopes.Who sorts.Nodes x.who)
-      (is_event e x.on && (nat_le 1 (length x.rules) && new_rules)) (is_a-stays scopes.Who sorts.Nodes x.who)
+      both-stay (is_a d scopes.Who withins.Nothing sorts.Nodes x.who) (is_event d x.on && (nat_le 1 (length x.rules) && old_rules))
+      (is_a e scopes.Who withins.Nothing sorts.Nodes x.who) (is_event e x.on && (nat_le 1 (length x.rules) && new_rules))
+      (is_a-stays scopes.Who withins.Nothing sorts.Nodes x.who)
       (both-stay (is_event d x.on) (nat_le 1 (length x.rules) && old_rules) (is_event e x.on) (nat_le 1 (length x.rules) && new_rules)
       (event-stays x.on)
       (both-stay (nat_le 1 (length x.rules)) old_rules (nat_le 1 (length x.rules)) new_rules (λ a. a)

@@ -9,6 +9,7 @@ use Rattle.std.proofs.lemmas.List.Sums.{sum_by_push}
 use Rattle.toml.specs.Data.{Data, string, integer, float, boolean, datetime, array, table, Members}
 use Rattle.lf_rules.specs.Forms.{is_chain, is_assignment, is_send, is_rule_in, is_event, scope_of, sends_of, rules_in}
 use Rattle.lf_rules.specs.Sorts.{is_a}
+use Rattle.lf_rules.specs.Tables.{cells_in}
 use Rattle.lf_rules.specs.Terms as terms
 use Rattle.lf_rules.specs.declared.expr.Leaf.TheVariants as leaves
 use Rattle.lf_rules.specs.declared.rule.Assignment.{Assignment}
@@ -19,6 +20,7 @@ use Rattle.lf_rules.specs.declared.rule.Rule.{Rule}
 use Rattle.lf_rules.specs.declared.rule.Send.{Send}
 use Rattle.lf_rules.specs.declared.sort.Scope.TheVariants as scopes
 use Rattle.lf_rules.specs.declared.sort.Sort.TheVariants as sorts
+use Rattle.lf_rules.specs.declared.sort.Within.TheVariants as withins
 use Rattle.lf_rules.specs.declared.definition.Definition.{Definition}
 use Rattle.lf_grammar.specs.declared.token.Token.{Token}
 use Rattle.lf_texts.specs.declared.events.Heard.{Heard}
@@ -49,17 +51,18 @@ use Rattle.lf_protocol_file.proofs.Stages.{AreMeasured, HasParts}
 -- ---- the parts of a rule
 
 module _ (d : Draft) where
-  who-by : (o : Option (List Token)) (who : Who) → who_by d o ≡ Ok who → is_a d.definition scopes.Who sorts.Nodes who.nodes ≡ true
+  who-by : (o : Option (List Token)) (who : Who) → who_by d o ≡ Ok who → is_a d.definition scopes.Who withins.Nothing sorts.Nodes who.nodes ≡ true
   who-by None who h =
       let made : record { nodes = terms.Leaf leaves.All; tokens = None } ≡ who = cc in
-      ap (λ (z : Who). is_a d.definition scopes.Who sorts.Nodes z.nodes) (sym made)
+      ap (λ (z : Who). is_a d.definition scopes.Who withins.Nothing sorts.Nodes z.nodes) (sym made)
   who-by (Some ts) who h =
       let at = place_in d [] scopes.Who in
       let e = step-inv (as_value (nodes_in at ts)) (λ e. Ok (record { nodes = e; tokens = Some ts })) h in
       let made : record { nodes = e.0; tokens = Some ts } ≡ who = cc in
-      ap (λ (z : Who). is_a d.definition scopes.Who sorts.Nodes z.nodes) (sym made) ∙ nodes-sorted at ts e.0 (as_value-inv (nodes_in at ts) e.0 e.1)
+      ap (λ (z : Who). is_a d.definition scopes.Who withins.Nothing sorts.Nodes z.nodes) (sym made)
+      ∙ nodes-sorted at ts e.0 (as_value-inv (nodes_in at ts) e.0 e.1)
 
-  who-fits : (ms : Members) (who : Who) → who_in d ms ≡ Ok who → is_a d.definition scopes.Who sorts.Nodes who.nodes ≡ true
+  who-fits : (ms : Members) (who : Who) → who_in d ms ≡ Ok who → is_a d.definition scopes.Who withins.Nothing sorts.Nodes who.nodes ≡ true
   unfolding who_in
   who-fits ms who h = let ts = step-inv (part_tokens ms parts.Who) (λ ts. who_by d ts) h in who-by ts.0 who ts.2
 
@@ -75,7 +78,7 @@ module _ (d : Draft) where
 
   -- a guard that is one where it stands, and an `else` that may stand there
   pub record IsCondition (who : Who) (heard : Heard) (when : When) : Type 0 where
-    pub guard : is_a d.definition (scope_of heard.on) sorts.Truth when.guard ≡ true
+    pub guard : is_a d.definition (scope_of heard.on) withins.Nothing sorts.Truth when.guard ≡ true
     pub else_under : when.is_else ≡ true → goes_on d.begun who heard.on ≡ true
 
   under-inv : (more : Bool) (w when : When) → under more w ≡ Ok when → (w ≡ when) × (when.is_else ≡ true → more ≡ true)
@@ -96,7 +99,7 @@ module _ (d : Draft) where
   when-by who heard None when h =
       let made : record { is_else = false; guard = terms.Leaf (leaves.Truth true) } ≡ when = cc in
       record {
-        guard = ap (λ (z : When). is_a d.definition (scope_of heard.on) sorts.Truth z.guard) (sym made);
+        guard = ap (λ (z : When). is_a d.definition (scope_of heard.on) withins.Nothing sorts.Truth z.guard) (sym made);
         else_under = λ so. let wrong : false ≡ true = ap (λ (z : When). z.is_else) made ∙ so in absurd (cc wrong);
       }
   when-by who heard (Some ts) when h =
@@ -105,7 +108,7 @@ module _ (d : Draft) where
       let found = under-inv (goes_on d.begun who heard.on) w.0 when w.2 in
       record {
         guard =
-            ap (λ (z : When). is_a d.definition (scope_of heard.on) sorts.Truth z.guard) (sym found.0)
+            ap (λ (z : When). is_a d.definition (scope_of heard.on) withins.Nothing sorts.Truth z.guard) (sym found.0)
             ∙ when-sorted at ts w.0 (as_value-inv (when_in at ts) w.0 w.1);
         else_under = found.1;
       }
@@ -115,7 +118,7 @@ module _ (d : Draft) where
   condition-fits who heard ms when h = let ts = step-inv (part_tokens ms parts.When) (λ ts. when_by d who heard ts) h in when-by who heard ts.0 when ts.2
 
   sets-by : (heard : Heard) (o : Option (List Token)) (xs : List Assignment) → sets_by d heard o ≡ Ok xs
-      → (list_all (is_assignment d.definition (scope_of heard.on)) xs ≡ true) × (length xs ≤ 8)
+      → (list_all (is_assignment d.definition (scope_of heard.on)) xs ≡ true) × (length xs ≤ 16)
   sets-by heard None xs h =
       let same : [] ≡ xs = cc in
       (ap (list_all (is_assignment d.definition (scope_of heard.on))) (sym same), omega (arith, ap length same))
@@ -124,7 +127,7 @@ module _ (d : Draft) where
       sets-fit at ts xs (as_value-inv (sets_in at ts) xs h)
 
   changes-fit : (heard : Heard) (ms : Members) (xs : List Assignment) → changes_in d heard ms ≡ Ok xs
-      → (list_all (is_assignment d.definition (scope_of heard.on)) xs ≡ true) × (length xs ≤ 8)
+      → (list_all (is_assignment d.definition (scope_of heard.on)) xs ≡ true) × (length xs ≤ 16)
   unfolding changes_in
   changes-fit heard ms xs h = let ts = step-inv (part_tokens ms parts.Set) (λ ts. sets_by d heard ts) h in sets-by heard ts.0 xs ts.2
 
@@ -161,7 +164,7 @@ module _ (d : Draft) where
 
 -- a chain that has begun fits
 pub record IsBegunIn (d : Definition) (b : Begun) : Type 0 where
-  pub who : is_a d scopes.Who sorts.Nodes b.who.nodes ≡ true
+  pub who : is_a d scopes.Who withins.Nothing sorts.Nodes b.who.nodes ≡ true
   pub on : is_event d b.on ≡ true
   pub some : 1 ≤ length b.rules
   pub rules : list_all (is_rule_in d (scope_of b.on) (sends_of b.on)) b.rules ≡ true
@@ -177,7 +180,7 @@ begun_rules (Some b) = length b.rules
 -- the parts fit, within their limits, with so many rules in all
 pub record HasRules (n : ℕ) (d : Draft) : Type 0 where
   pub sound : IsSound d.definition
-  pub measured : AreMeasured (length d.definition.variables) (length d.definition.given)
+  pub measured : AreMeasured (length d.definition.variables) (cells_in d.definition) (length d.definition.given)
   pub notes : length d.definition.notes ≤ 16
   pub lets : length d.definition.lets ≤ 16
   pub facts : length d.definition.facts ≤ 32
@@ -208,7 +211,7 @@ rules-push xs x =
 whole-chain : (d : Definition) (b : Begun) → IsBegunIn d b → is_chain d (chain_of b) ≡ true
 whole-chain d b is =
     let rules = list_all (is_rule_in d (scope_of b.on) (sends_of b.on)) b.rules in
-    and_from (is_a d scopes.Who sorts.Nodes b.who.nodes) (is_event d b.on && (nat_le 1 (length b.rules) && rules)) is.who
+    and_from (is_a d scopes.Who withins.Nothing sorts.Nodes b.who.nodes) (is_event d b.on && (nat_le 1 (length b.rules) && rules)) is.who
     (and_from (is_event d b.on) (nat_le 1 (length b.rules) && rules) is.on
     (and_from (nat_le 1 (length b.rules)) rules (le-leb 1 (length b.rules) is.some) is.rules))
 
@@ -233,7 +236,7 @@ same-on one other h = absurd cc
 module _ (who : Who) (on : Event) (rule : Rule) where
   -- a rule with whose it is and what it is on, that fits
   record IsRule (d : Definition) : Type 0 where
-    pub whose : is_a d scopes.Who sorts.Nodes who.nodes ≡ true
+    pub whose : is_a d scopes.Who withins.Nothing sorts.Nodes who.nodes ≡ true
     pub event : is_event d on ≡ true
     pub own : is_rule_in d (scope_of on) (sends_of on) rule ≡ true
 
@@ -271,7 +274,7 @@ module _ (who : Who) (on : Event) (rule : Rule) where
         trace = p.trace;
         unpromised = p.unpromised;
         begun = began (sounding.and_chain d.definition (chain_of b)) (record {
-          whose = is_a-stays g scopes.Who sorts.Nodes who.nodes is.whose;
+          whose = is_a-stays g scopes.Who withins.Nothing sorts.Nodes who.nodes is.whose;
           event = event-stays g on is.event;
           own = rule-stays g (scope_of on) (sends_of on) rule is.own;
         });
@@ -345,9 +348,9 @@ rule-of n number d ms e p h =
     let scope = scope_of heard.0.on in
     let all_sends = nat_le (length sends.0) (sends_of heard.0.on) && list_all (is_send d.definition scope) sends.0 in
     let is_rule =
-    and_from (is_a d.definition scope sorts.Truth when.0.guard)
-    (nat_le (length sets.0) 8 && (list_all (is_assignment d.definition scope) sets.0 && all_sends)) is_when.guard
-    (and_from (nat_le (length sets.0) 8) (list_all (is_assignment d.definition scope) sets.0 && all_sends) (le-leb (length sets.0) 8 are_sets.1)
+    and_from (is_a d.definition scope withins.Nothing sorts.Truth when.0.guard)
+    (nat_le (length sets.0) 16 && (list_all (is_assignment d.definition scope) sets.0 && all_sends)) is_when.guard
+    (and_from (nat_le (length sets.0) 16) (list_all (is_assignment d.definition scope) sets.0 && all_sends) (le-leb (length sets.0) 16 are_sets.1)
     (and_from (list_all (is_assignment d.definition scope) sets.0) all_sends are_sets.0
     (and_from (nat_le (length sends.0) (sends_of heard.0.on)) (list_all (is_send d.definition scope) sends.0) are_sends.few are_sends.all))) in
     subst (HasRules (suc n)) made
@@ -365,7 +368,7 @@ rule-step n number d (array xs) e p h = absurd cc
 -- all rules, in chains that are whole
 pub record IsRuled (d : Draft) : Type 0 where
   pub sound : IsSound d.definition
-  pub measured : AreMeasured (length d.definition.variables) (length d.definition.given)
+  pub measured : AreMeasured (length d.definition.variables) (cells_in d.definition) (length d.definition.given)
   pub notes : length d.definition.notes ≤ 16
   pub lets : length d.definition.lets ≤ 16
   pub facts : length d.definition.facts ≤ 32

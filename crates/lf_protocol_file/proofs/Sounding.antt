@@ -57,6 +57,7 @@ module _ (d : Definition) where
     given = λ i y h. get-more d.given (x ∷ []) i y h;
     lets = λ i y h. h;
     facts = λ i y h. h;
+    tables = λ t h. h;
     more_variables = omega arith;
     more_notes = omega arith;
   }
@@ -71,6 +72,7 @@ module _ (d : Definition) where
     given = λ i y h. h;
     lets = λ i y h. h;
     facts = λ i y h. h;
+    tables = λ t h. h;
     more_variables = omega arith;
     more_notes = omega (arith, one-longer d.notes x);
   }
@@ -85,6 +87,7 @@ module _ (d : Definition) where
     given = λ i y h. h;
     lets = λ i y h. get-more d.lets (x ∷ []) i y h;
     facts = λ i y h. h;
+    tables = λ t h. h;
     more_variables = omega arith;
     more_notes = omega arith;
   }
@@ -99,6 +102,7 @@ module _ (d : Definition) where
     given = λ i y h. h;
     lets = λ i y h. h;
     facts = λ i y h. get-more d.facts (x ∷ []) i y h;
+    tables = λ t h. h;
     more_variables = omega arith;
     more_notes = omega arith;
   }
@@ -113,6 +117,7 @@ module _ (d : Definition) where
     given = λ i y h. h;
     lets = λ i y h. h;
     facts = λ i y h. h;
+    tables = λ t h. h;
     more_variables = omega arith;
     more_notes = omega arith;
   }
@@ -127,6 +132,7 @@ module _ (d : Definition) where
     given = λ i y h. h;
     lets = λ i y h. h;
     facts = λ i y h. h;
+    tables = λ t h. h;
     more_variables = omega arith;
     more_notes = omega arith;
   }

@@ -1,12 +1,15 @@
 -- What a draft keeps while the sections before the rules are read, entry by entry.
-use Rattle.std.proofs.Common.{◌≡◌, ℕ, suc, ◌+◌, ◌≤◌, ◌==◌, ◌||◌, true, List, [], ◌∷◌, ◌++◌, length}
+use Rattle.std.proofs.Common.{◌≡◌, ℕ, suc, ◌+◌, ◌≤◌, ◌==◌, ◌&&◌, ◌||◌, true, List, [], ◌∷◌, ◌++◌, length}
 use Rattle.std.proofs.Common.{Option, Some, None, Ok, refl, sym, ap, subst, ◌∙◌, arith}
-use Rattle.std.specs.Prelude.{slice_get}
+use Rattle.std.specs.Prelude.{nat_le, slice_get}
 use Rattle.std.specs.List.{list_all}
-use Rattle.std.proofs.lemmas.Bool.{and_from, and_parts}
+use Rattle.std.proofs.lemmas.Bool.{and_from, and_parts, leb-true}
 use Rattle.toml.specs.Data.{Data}
 use Rattle.lf_rules.specs.Forms.{is_kind, is_word_of, is_variable, are_variables, is_form, is_constant, is_let, is_fact, is_chain, is_shown}
+use Rattle.lf_rules.specs.Tables.{is_cells, others_of, cells_in, is_table_of}
 use Rattle.lf_rules.specs.declared.expr.Leaf.TheVariants as leaves
+use Rattle.lf_rules.specs.declared.table.Cells.{Cells}
+use Rattle.lf_rules.specs.declared.table.Table.{Table}
 use Rattle.lf_rules.specs.declared.sort.Scope.TheVariants as scopes
 use Rattle.lf_rules.specs.declared.definition.Constant.{Constant}
 use Rattle.lf_rules.specs.declared.definition.Definition.{Definition}
@@ -19,7 +22,11 @@ use Rattle.lf_texts.specs.declared.variables.VariableText.TheVariants as texts
 use Rattle.lf_texts.specs.Forms.{note_in}
 use Rattle.lf_texts.specs.Values.{value_in, guard_in}
 use Rattle.lf_texts.specs.Variables.{variable_in}
-use Rattle.lf_texts.proofs.Laws.{note-fits, value-sorted, guard-sorted}
+use Rattle.lf_texts.proofs.Laws.{note-fits, cells-hold, value-sorted, guard-sorted}
+use Rattle.lf_protocol_file.specs.declared.error.ProtocolError.TheVariants as refusals
+use Rattle.lf_protocol_file.specs.declared.path.Path.TheVariants as paths
+use Rattle.lf_protocol_file.specs.declared.section.Naming.TheVariants as namings
+use Rattle.lf_protocol_file.specs.declared.section.Section.TheVariants as sections
 use Rattle.lf_protocol_file.specs.Readings.{◌>>=◌, as_value}
 use Rattle.lf_protocol_file.specs.Texts.{tokens_in}
 use Rattle.lf_protocol_file.specs.declared.declared.Outcome.{Outcome}
@@ -30,12 +37,13 @@ use Rattle.lf_protocol_file.specs.Constants.{given_sort, given_in}
 use Rattle.lf_protocol_file.specs.Constants.{with_given, with_constant}
 use Rattle.lf_protocol_file.specs.Drafts.{place_in, check_new, with_name, number_after}
 use Rattle.lf_protocol_file.specs.Named.{and_note, and_let, and_fact, with_note, let_in, with_let, fact_in, with_fact}
-use Rattle.lf_protocol_file.specs.Variables.{held_in, with_words, with_words_of, with_held, with_text, with_sketch, variables_behind, settled, with_variables}
+use Rattle.lf_protocol_file.specs.Variables.{held_in, with_words, with_words_of, with_held, with_text, with_sketch, variables_behind, settled}
+use Rattle.lf_protocol_file.specs.Variables.{limited, with_variables}
 use Rattle.lf_protocol_file.proofs.ConstantLemmas.{given-fits}
 use Rattle.lf_protocol_file.proofs.Growing.{Grows, all-push, all-stay, constant-stays}
-use Rattle.lf_protocol_file.proofs.Readings.{step-inv, as_value-inv}
+use Rattle.lf_protocol_file.proofs.Readings.{step-inv, as_value-inv, through}
 use Rattle.lf_protocol_file.proofs.Sounding.{IsSound, one-longer, and_constant, grows-constant, sound-note, sound-let, sound-fact}
-use Rattle.lf_protocol_file.proofs.VariableKinds.{IsHeld, text-held, AllHeld, held-push, all-variables}
+use Rattle.lf_protocol_file.proofs.VariableKinds.{IsHeld, IsSketch, text-held, AllHeld, held-push, all-variables}
 
 -- before the variables are known there are constants alone
 pub record IsEarly (d : Definition) (begun : Option Begun) (outcomes : List Outcome) : Type 0 where
@@ -114,12 +122,18 @@ text-renames of (texts.Words words) d = words-rename of 0 words d
 text-renames of (texts.Kind kind) d = record { definition = refl; begun = refl; outcomes = refl; sketches = refl }
 text-renames of (texts.Like name) d = record { definition = refl; begun = refl; outcomes = refl; sketches = refl }
 
-held-text : (d : Draft) (x : Data) (t : VariableText) → held_in d x ≡ Ok t → IsHeld t
+-- what the text of a variable says may stand there
+record IsText (v : Cells × VariableText) : Type 0 where
+  pub cells : is_cells v.0 ≡ true
+  pub held : IsHeld v.1
+
+held-text : (d : Draft) (x : Data) (v : Cells × VariableText) → held_in d x ≡ Ok v → IsText v
 unfolding held_in
-held-text d x t h =
+held-text d x v h =
     let at = place_in d [] scopes.Given in
     let ts = step-inv (tokens_in x) (λ ts. as_value (variable_in at ts)) h in
-    text-held at ts.0 t (as_value-inv (variable_in at ts.0) t ts.2)
+    let read = as_value-inv (variable_in at ts.0) v ts.2 in
+    record { cells = cells-hold at ts.0 v read; held = text-held at ts.0 v.0 v.1 read }
 
 early-renamed : (d e : Draft) → IsRenamed d e → IsEarly d.definition d.begun d.outcomes → IsEarly e.definition e.begun e.outcomes
 early-renamed d e r p =
@@ -130,14 +144,16 @@ early-renamed d e r p =
 sketched : (n of : ℕ) (d : Draft) (key : List ℕ) (x : Data) (e : Draft) → HasSketches n d → with_text of d key x ≡ Ok e → HasSketches (suc n) e
 unfolding with_text
 sketched n of d key x e p h =
-    let text = step-inv (held_in d x) (λ text. Ok (with_held (record { name = key; held = text }) (with_words_of of text d))) h in
-    let s : Sketch = record { name = key; held = text.0 } in
-    let named = with_words_of of text.0 d in
+    let text = step-inv (held_in d x) (λ text. Ok (with_held (record { name = key; cells = text.0; held = text.1 }) (with_words_of of text.1 d))) h in
+    let s : Sketch = record { name = key; cells = text.0.0; held = text.0.1 } in
+    let named = with_words_of of text.0.1 d in
     let made : with_held s named ≡ e = cc in
-    let r = text-renames of text.0 d in
+    let r = text-renames of text.0.1 d in
+    let is = held-text d x text.0 text.1 in
+    let sketch : IsSketch s = record { cells = is.cells; held = is.held } in
     let early = early-renamed d named r p.early in
     let few : length named.definition.given ≤ 16 = omega (arith, ap (λ (z : Definition). length z.given) r.definition, p.few_given) in
-    let held = held-push named.sketches s (subst AllHeld (sym r.sketches) p.held) (held-text d x text.0 text.1) in
+    let held = held-push named.sketches s (subst AllHeld (sym r.sketches) p.held) sketch in
     let count : length (named.sketches ++ s ∷ []) ≡ suc n = omega (arith, one-longer named.sketches s, ap length r.sketches, p.count) in
     subst (HasSketches (suc n)) made (record { early = early; few_given = few; held = held; count = count })
 
@@ -152,16 +168,17 @@ sketch-step n d key x e p h =
 
 -- ---- notes, named expressions and named guards
 
--- how many variables and constants there are
-pub record AreMeasured (variables given : ℕ) : Type 0 where
+-- how many variables, cells and constants there are
+pub record AreMeasured (variables cells given : ℕ) : Type 0 where
   pub some_variables : 1 ≤ variables
-  pub few_variables : variables ≤ 16
+  pub few_variables : variables ≤ 32
+  pub few_cells : cells ≤ 64
   pub few_given : given ≤ 16
 
 -- the parts fit, and there are so many notes, named expressions and named guards, and neither rules nor outcomes
 pub record HasParts (ns ls fs : ℕ) (d : Draft) : Type 0 where
   pub sound : IsSound d.definition
-  pub measured : AreMeasured (length d.definition.variables) (length d.definition.given)
+  pub measured : AreMeasured (length d.definition.variables) (cells_in d.definition) (length d.definition.given)
   pub notes : length d.definition.notes ≡ ns
   pub lets : length d.definition.lets ≡ ls
   pub facts : length d.definition.facts ≡ fs
@@ -171,11 +188,13 @@ pub record HasParts (ns ls fs : ℕ) (d : Draft) : Type 0 where
   pub unpromised : d.outcomes ≡ []
 
 -- the variables, once all are there
-pub variables-step : (n : ℕ) (d e : Draft) → HasSketches n d → 1 ≤ n → n ≤ 16 → with_variables d ≡ Ok e → HasParts 0 0 0 e
+pub variables-step : (n : ℕ) (d e : Draft) → HasSketches n d → 1 ≤ n → n ≤ 32 → with_variables d ≡ Ok e → HasParts 0 0 0 e
 unfolding with_variables
 variables-step n d e p some few h =
-    let vs = step-inv (variables_behind d.sketches [] 0 d.sketches) (λ variables. Ok (settled variables d)) h in
-    let made : settled vs.0 d ≡ e = cc in
+    let vs = step-inv (variables_behind d.sketches [] 0 d.sketches) (λ variables. limited (settled variables d)) h in
+    let within = through (refusals.PastLimit (paths.Section (sections.Naming namings.State))) (nat_le (cells_in (settled vs.0 d).definition) 64)
+    (Ok (settled vs.0 d)) e vs.2 in
+    let made : settled vs.0 d ≡ e = cc (within.1) in
     let all = all-variables d.sketches vs.0 p.held (omega (arith, p.count, few)) vs.1 in
     let new : Definition = record d.definition { variables = vs.0 } in
     let fit : are_variables new 0 vs.0 ≡ true = all.fit new refl in
@@ -186,6 +205,9 @@ variables-step n d e p some few h =
       given = λ i x there. there;
       lets = λ i x there. there;
       facts = λ i x there. there;
+      tables = λ t is. let none : is_table_of (slice_get [] t.of) t.cells ≡ true =
+          ap (λ (xs : List Variable). is_table_of (slice_get xs t.of) t.cells) (sym p.early.variables)
+          ∙ (and_parts (is_table_of (slice_get d.definition.variables t.of) t.cells) (t.others == others_of d.definition t.of) is).0 in absurd (nowhere t none);
       more_variables = omega (arith, ap length p.early.variables);
       more_notes = omega arith;
     } in
@@ -202,6 +224,7 @@ variables-step n d e p some few h =
       measured = record {
         some_variables = omega (arith, all.count, p.count, some);
         few_variables = omega (arith, all.count, p.count, few);
+        few_cells = leb-true (cells_in (settled vs.0 d).definition) 64 within.0;
         few_given = p.few_given;
       };
       notes = ap length p.early.notes;
@@ -216,12 +239,15 @@ variables-step n d e p some few h =
     nothing : (i : ℕ) (x : Variable) → slice_get [] i ≡ Some x → ⊥
     nothing i x none = cc
 
+    nowhere : (t : Table) → is_table_of (slice_get [] t.of) t.cells ≡ true → ⊥
+    nowhere t none = cc
+
 -- the kinds of variables that fit
 kinds-of : (d : Definition) (i : ℕ) (xs : List Variable) → are_variables d i xs ≡ true → list_all (λ x. is_kind d x.kind) xs ≡ true
 kinds-of d i [] h = refl
 kinds-of d i (x ∷ xs) h =
     let each = and_parts (is_variable d i x) (are_variables d (i + 1) xs) h in
-    let own = and_parts (is_kind d x.kind) (length x.words == 0 || is_word_of i x.kind) each.0 in
+    let own = and_parts (is_kind d x.kind) (is_cells x.cells && (length x.words == 0 || is_word_of i x.kind)) each.0 in
     and_from (is_kind d x.kind) (list_all (λ x. is_kind d x.kind) xs) own.0 (kinds-of d (i + 1) xs each.1)
 
 pub note-step : (n ls fs : ℕ) (d : Draft) (x : Data) (e : Draft) → HasParts n ls fs d → with_note d x ≡ Ok e → HasParts (suc n) ls fs e

@@ -1,5 +1,5 @@
 -- The variables of a protocol, made of what their texts say, are of kinds that there are.
-use Rattle.std.proofs.Common.{◌≡◌, ℕ, zero, suc, ◌+◌, ◌≤◌, ◌==◌, ◌||◌, Bool, true, false, cond, List, [], ◌∷◌, ◌++◌, append-nil, append_assoc}
+use Rattle.std.proofs.Common.{◌≡◌, ℕ, zero, suc, ◌+◌, ◌≤◌, ◌==◌, ◌&&◌, ◌||◌, Bool, true, false, cond, List, [], ◌∷◌, ◌++◌, append-nil, append_assoc}
 use Rattle.std.proofs.Common.{length, Some, Ok, refl, sym, ap, subst, ◌∙◌, arith}
 use Rattle.std.specs.Prelude.{nat_le, slice_get}
 use Rattle.std.specs.Str.{bytes_eq}
@@ -8,6 +8,8 @@ use Rattle.std.proofs.lemmas.Option.{slice_get_within}
 use Rattle.lf_rules.specs.Forms.{is_from, has_words, is_kind, is_word_of, is_variable, are_variables}
 use Rattle.lf_rules.specs.declared.kind.Kind.{Kind}
 use Rattle.lf_rules.specs.declared.kind.Kind.TheVariants as kinds
+use Rattle.lf_rules.specs.Tables.{is_cells}
+use Rattle.lf_rules.specs.declared.table.Cells.{Cells}
 use Rattle.lf_rules.specs.declared.definition.Definition.{Definition}
 use Rattle.lf_rules.specs.declared.definition.Variable.{Variable}
 use Rattle.lf_grammar.specs.declared.token.Token.{Token}
@@ -35,34 +37,40 @@ abbrev pub IsHeld : VariableText → Type 0
 IsHeld (texts.Kind kind) = (d : Definition) → is_kind d kind ≡ true
 IsHeld other = HasWords other
 
-pub text-held : (at : Context) (ts : List Token) (t : VariableText) → variable_in at ts ≡ Ok t → IsHeld t
-text-held at ts (texts.Kind kind) h = kind-holds at ts kind h
-text-held at ts (texts.Like name) h = tt
-text-held at ts (texts.Words words) h = words-hold at ts (texts.Words words) h
+pub text-held : (at : Context) (ts : List Token) (found : Cells) (t : VariableText) → variable_in at ts ≡ Ok (found, t) → IsHeld t
+text-held at ts found (texts.Kind kind) h = kind-holds at ts found kind h
+text-held at ts found (texts.Like name) h = tt
+text-held at ts found (texts.Words words) h = words-hold at ts (found, texts.Words words) h
+
+-- so many cells as a variable may have, each of which holds what it may hold
+pub record IsSketch (x : Sketch) : Type 0 where
+  pub cells : is_cells x.cells ≡ true
+  pub held : IsHeld x.held
 
 -- all texts are texts of variables
 pub AllHeld : List Sketch → Type 0
 AllHeld [] = Unit {0}
-AllHeld (x ∷ xs) = IsHeld x.held × AllHeld xs
+AllHeld (x ∷ xs) = IsSketch x × AllHeld xs
 
 pub held-none : AllHeld []
 unfolding AllHeld
 held-none = tt
 
-pub held-push : (xs : List Sketch) (x : Sketch) → AllHeld xs → IsHeld x.held → AllHeld (xs ++ x ∷ [])
+pub held-push : (xs : List Sketch) (x : Sketch) → AllHeld xs → IsSketch x → AllHeld (xs ++ x ∷ [])
 unfolding AllHeld
 held-push [] x all is = (is, tt)
 held-push (y ∷ ys) x all is = (all.0, held-push ys x all.1 is)
 
-held-at : (xs : List Sketch) (j : ℕ) (x : Sketch) → AllHeld xs → slice_get xs j ≡ Some x → IsHeld x.held
+held-at : (xs : List Sketch) (j : ℕ) (x : Sketch) → AllHeld xs → slice_get xs j ≡ Some x → IsSketch x
 unfolding AllHeld
 held-at [] j x all there = absurd cc
-held-at (y ∷ ys) zero x all there = let same : y ≡ x = cc in subst (λ (z : Sketch). IsHeld z.held) same all.0
+held-at (y ∷ ys) zero x all there = let same : y ≡ x = cc in subst IsSketch same all.0
 held-at (y ∷ ys) (suc j) x all there = held-at ys j x all.1 there
 
 -- the variable of a sketch
 record IsMade (all : List Sketch) (i : ℕ) (x : Sketch) (v : Variable) : Type 0 where
   pub kind : kind_of all i x.held ≡ Ok v.kind
+  pub cells : v.cells ≡ x.cells
   pub words : v.words ≡ words_of x.held
 
 AreMade : List Sketch → ℕ → List Sketch → List Variable → Type 0
@@ -90,6 +98,7 @@ behind-made all before i (x ∷ xs) vs h =
     let rest = behind-made all (before ++ v.0 ∷ []) (suc i) xs vs v.2 in
     let one : IsMade all i x v.0 = record {
       kind = located-inv (paths.Entry namings.State (shown x.name)) (kind_of all i x.held) kind.0 kind.1 ∙ ap (λ (z : Variable). Ok z.kind) made;
+      cells = ap (λ (z : Variable). z.cells) (sym made);
       words = ap (λ (z : Variable). z.words) (sym made);
     } in
     record { own = v.0 ∷ rest.own; same = rest.same ∙ append_assoc before (v.0 ∷ []) rest.own; made = (one, rest.made) }
@@ -147,9 +156,9 @@ like-found i name (x ∷ xs) k h = here_or_later (bytes_eq x.name name) (like-fo
         }
 
 module _ (all : List Sketch) (vs : List Variable) (e : Definition) (is : e.variables ≡ vs) (made : AreMade all 0 all vs) (held : AllHeld all)
-    (few : length all ≤ 16) where
+    (few : length all ≤ 32) where
   own-fits : (j : ℕ) (x : Sketch) (k : Kind) → slice_get all j ≡ Some x → own_kind j x.held ≡ Ok k → is_kind e k ≡ true
-  own-fits j x k there h = by_text x.held refl (held-at all j x held there) h
+  own-fits j x k there h = by_text x.held refl (held-at all j x held there).held h
     where
       by_text : (t : VariableText) → x.held ≡ t → IsHeld t → own_kind j t ≡ Ok k → is_kind e k ≡ true
       by_text (texts.Kind kind) said holds own = let same : kind ≡ k = cc in ap (is_kind e) (sym same) ∙ holds e
@@ -180,7 +189,7 @@ module _ (all : List Sketch) (vs : List Variable) (e : Definition) (is : e.varia
           let number : found.place ≡ found.number = omega (arith, found.counted) in
           own-fits found.number found.sketch k (ap (slice_get all) (sym number) ∙ found.there) found.kind
 
-  words-fit : (i : ℕ) (x : Sketch) (v : Variable) → i ≤ 16 → IsMade all i x v → (length v.words == 0 || is_word_of i v.kind) ≡ true
+  words-fit : (i : ℕ) (x : Sketch) (v : Variable) → i ≤ 32 → IsMade all i x v → (length v.words == 0 || is_word_of i v.kind) ≡ true
   words-fit i x v low one = by_text x.held refl
     where
       no_words : words_of x.held ≡ [] → (length v.words == 0 || is_word_of i v.kind) ≡ true
@@ -195,7 +204,7 @@ module _ (all : List Sketch) (vs : List Variable) (e : Definition) (is : e.varia
           or_right (length v.words == 0) (is_word_of i v.kind)
           (ap (is_word_of i) (sym same) ∙ eq-eqb (number_after i) i (small-number i (omega (arith, low))))
 
-  variables-fit : (i : ℕ) (xs : List Sketch) (ws : List Variable) → AreMade all i xs ws → i + length xs ≤ 16
+  variables-fit : (i : ℕ) (xs : List Sketch) (ws : List Variable) → AreMade all i xs ws → i + length xs ≤ 32
       → ((j k : ℕ) (x : Sketch) → k ≡ i + j → slice_get xs j ≡ Some x → slice_get all k ≡ Some x) → are_variables e i ws ≡ true
   unfolding AreMade
   variables-fit i [] [] are low at = refl
@@ -205,8 +214,10 @@ module _ (all : List Sketch) (vs : List Variable) (e : Definition) (is : e.varia
       let next : i + 1 ≡ suc i = omega arith in
       let kind = kind-fits i x w.kind (at 0 i x (omega arith) refl) are.0.kind in
       let rest = variables-fit (suc i) xs ws are.1 (omega (arith, low)) (λ j k y is there. at (suc j) k y (omega (arith, is)) there) in
+      let cells : is_cells w.cells ≡ true = ap is_cells are.0.cells ∙ (held-at all i x held (at 0 i x (omega arith) refl)).cells in
       and_from (is_variable e i w) (are_variables e (i + 1) ws)
-      (and_from (is_kind e w.kind) (length w.words == 0 || is_word_of i w.kind) kind (words-fit i x w (omega (arith, low)) are.0))
+      (and_from (is_kind e w.kind) (is_cells w.cells && (length w.words == 0 || is_word_of i w.kind)) kind
+      (and_from (is_cells w.cells) (length w.words == 0 || is_word_of i w.kind) cells (words-fit i x w (omega (arith, low)) are.0)))
       (ap (λ n. are_variables e n ws) next ∙ rest)
 
 -- all of them
@@ -214,7 +225,7 @@ pub record AreVariables (all : List Sketch) (vs : List Variable) : Type 0 where
   pub count : length vs ≡ length all
   pub fit : (e : Definition) → e.variables ≡ vs → are_variables e 0 vs ≡ true
 
-pub all-variables : (all : List Sketch) (vs : List Variable) → AllHeld all → length all ≤ 16 → variables_behind all [] 0 all ≡ Ok vs → AreVariables all vs
+pub all-variables : (all : List Sketch) (vs : List Variable) → AllHeld all → length all ≤ 32 → variables_behind all [] 0 all ≡ Ok vs → AreVariables all vs
 all-variables all vs held few h =
     let found = behind-made all [] 0 all vs h in
     let made = subst (λ (ws : List Variable). AreMade all 0 all ws) (sym found.same) found.made in

@@ -7,6 +7,7 @@ use Rattle.std.specs.Str.{bytes_eq}
 use Rattle.std.proofs.lemmas.Bool.{and_from, le-leb, lt-ltb}
 use Rattle.toml.specs.Data.{Data, string, integer, float, boolean, datetime, array, table, Members}
 use Rattle.lf_rules.specs.Forms.{is_from, are_variables, is_form, is_constant, is_let, is_fact, is_chain, is_shown, rules_in, is_in_limits, is_well_formed}
+use Rattle.lf_rules.specs.Tables.{cells_in}
 use Rattle.lf_rules.specs.declared.sort.Scope.TheVariants as scopes
 use Rattle.lf_rules.specs.declared.definition.Definition.{Definition}
 use Rattle.lf_rules.specs.declared.definition.Variable.{Variable}
@@ -47,7 +48,7 @@ use Rattle.lf_protocol_file.proofs.VariableKinds.{small-number, AllHeld, held-no
 -- all is fit but the trace, which shows nothing so far
 record IsPromising (d : Draft) : Type 0 where
   pub sound : IsSound d.definition
-  pub measured : AreMeasured (length d.definition.variables) (length d.definition.given)
+  pub measured : AreMeasured (length d.definition.variables) (cells_in d.definition) (length d.definition.given)
   pub notes : length d.definition.notes ≤ 16
   pub lets : length d.definition.lets ≤ 16
   pub facts : length d.definition.facts ≤ 32
@@ -93,7 +94,7 @@ outcome-step n d key x e p h =
 -- all is fit, and the trace shows so many variables
 record HasTrace (n : ℕ) (d : Draft) : Type 0 where
   pub sound : IsSound d.definition
-  pub measured : AreMeasured (length d.definition.variables) (length d.definition.given)
+  pub measured : AreMeasured (length d.definition.variables) (cells_in d.definition) (length d.definition.given)
   pub notes : length d.definition.notes ≤ 16
   pub lets : length d.definition.lets ≤ 16
   pub facts : length d.definition.facts ≤ 32
@@ -131,7 +132,7 @@ retraced n m d trace p all count = record {
 }
 
 -- a variable with a name has a number
-named-number : (i : ℕ) (name : List ℕ) (xs : List Variable) (k : ℕ) → i + length xs ≤ 16 → variable_named i name xs ≡ Some k → k < i + length xs
+named-number : (i : ℕ) (name : List ℕ) (xs : List Variable) (k : ℕ) → i + length xs ≤ 32 → variable_named i name xs ≡ Some k → k < i + length xs
 named-number i name [] k few h = absurd cc
 named-number i name (x ∷ xs) k few h = here_or_later (bytes_eq x.name name) (named-number (suc i) name xs k (omega (arith, few))) h
   where
@@ -170,7 +171,7 @@ numbers-length : (n : ℕ) → length (numbers_to n) ≡ n
 numbers-length zero = refl
 numbers-length (suc n) = omega (arith, one-longer (numbers_to n) (number_after n), numbers-length n)
 
-numbers-shown : (d : Definition) (n : ℕ) → n ≤ length d.variables → n ≤ 16 → list_all (is_shown d) (numbers_to n) ≡ true
+numbers-shown : (d : Definition) (n : ℕ) → n ≤ length d.variables → n ≤ 32 → list_all (is_shown d) (numbers_to n) ≡ true
 numbers-shown d zero low few = refl
 numbers-shown d (suc n) low few =
     let rest = numbers-shown d n (omega (arith, low)) (omega (arith, few)) in
@@ -182,9 +183,9 @@ record IsTraced (d : Draft) : Type 0 where
   pub count : ℕ
   pub holds : HasTrace count d
   pub some : 1 ≤ count
-  pub few : count ≤ 16
+  pub few : count ≤ 32
 
-traced-by : (n : ℕ) (d : Draft) (trace : List ℕ) → d.definition.trace ≡ trace → HasTrace n d → n ≤ 16 → IsTraced (shown_by trace d)
+traced-by : (n : ℕ) (d : Draft) (trace : List ℕ) → d.definition.trace ≡ trace → HasTrace n d → n ≤ 32 → IsTraced (shown_by trace d)
 traced-by n d [] is p few =
     let k = length d.definition.variables in
     let all = numbers-shown d.definition k (omega arith) p.measured.few_variables in
@@ -271,23 +272,25 @@ whole name d t =
     (and_from (list_all (is_let e) e.lets) facts p.sound.lets
     (and_from (list_all (is_fact e) e.facts) chains p.sound.facts
     (and_from (list_all (is_chain e) e.chains) shown p.sound.chains p.sound.trace))))) in
-    let traces = is_from 1 16 (length e.trace) in
+    let traces = is_from 1 32 (length e.trace) in
     let ruling = nat_le (rules_in e.chains) 128 && traces in
     let guards = nat_le (length e.facts) 32 && ruling in
     let naming = nat_le (length e.lets) 16 && guards in
     let giving = nat_le (length e.given) 16 && naming in
     let noting = nat_le (length e.notes) 16 && giving in
-    let trace_from = and_from (nat_le 1 (length e.trace)) (nat_le (length e.trace) 16) (le-leb 1 (length e.trace) (omega (arith, p.count, t.some)))
-    (le-leb (length e.trace) 16 (omega (arith, p.count, t.few))) in
-    let variables_from = and_from (nat_le 1 (length e.variables)) (nat_le (length e.variables) 16)
-    (le-leb 1 (length e.variables) p.measured.some_variables) (le-leb (length e.variables) 16 p.measured.few_variables) in
+    let trace_from = and_from (nat_le 1 (length e.trace)) (nat_le (length e.trace) 32) (le-leb 1 (length e.trace) (omega (arith, p.count, t.some)))
+    (le-leb (length e.trace) 32 (omega (arith, p.count, t.few))) in
+    let variables_from = and_from (nat_le 1 (length e.variables)) (nat_le (length e.variables) 32)
+    (le-leb 1 (length e.variables) p.measured.some_variables) (le-leb (length e.variables) 32 p.measured.few_variables) in
+    let celling = nat_le (cells_in e) 64 && noting in
     let limits : is_in_limits e ≡ true =
-    and_from (is_from 1 16 (length e.variables)) noting variables_from
+    and_from (is_from 1 32 (length e.variables)) celling variables_from
+    (and_from (nat_le (cells_in e) 64) noting (le-leb (cells_in e) 64 p.measured.few_cells)
     (and_from (nat_le (length e.notes) 16) giving (le-leb (length e.notes) 16 p.notes)
     (and_from (nat_le (length e.given) 16) naming (le-leb (length e.given) 16 p.measured.few_given)
     (and_from (nat_le (length e.lets) 16) guards (le-leb (length e.lets) 16 p.lets)
     (and_from (nat_le (length e.facts) 32) ruling (le-leb (length e.facts) 32 p.facts)
-    (and_from (nat_le (rules_in e.chains) 128) traces (le-leb (rules_in e.chains) 128 p.rules) trace_from))))) in
+    (and_from (nat_le (rules_in e.chains) 128) traces (le-leb (rules_in e.chains) 128 p.rules) trace_from)))))) in
     and_from (is_well_formed e) (are_named e d.outcomes) (and_from (is_in_limits e) (are_variables e 0 e.variables && notes) limits parts) p.named
 
 -- what a file says is whole: each of its readings, in order

@@ -5,6 +5,7 @@ use Rattle.std.specs.Str.{bytes_eq}
 use Rattle.lf_rules.specs.declared.definition.Definition.{Definition}
 use Rattle.lf_rules.specs.declared.expr.Leaf.{Leaf}
 use Rattle.lf_rules.specs.declared.sort.Scope.{Scope}
+use Rattle.lf_rules.specs.declared.sort.Within.TheVariants as withins
 use Rattle.lf_grammar.specs.Places.{Context}
 use Rattle.lf_grammar.specs.declared.place.Meaning.{Meaning}
 use Rattle.lf_texts.specs.Names.{is_name, is_reserved}
@@ -19,9 +20,9 @@ bare = record { variables = []; notes = []; given = []; lets = []; facts = []; c
 abbrev pub nothing : Draft
 nothing = record { definition = bare; names = []; sketches = []; begun = None; outcomes = [] }
 
--- where an expression stands in the protocol, with the names of a note's fields there
+-- where an expression stands in the protocol, with the names of a note's fields there; `it` is nothing there
 abbrev pub place_in : Draft → List (List ℕ) → Scope → Context
-place_in d fields scope = record { definition = d.definition; fields = fields; names = d.names; scope = scope }
+place_in d fields scope = record { definition = d.definition; fields = fields; names = d.names; scope = scope; within = withins.Nothing }
 
 -- a name means something
 abbrev pub is_declared : List Meaning → List ℕ → Bool

@@ -52,6 +52,7 @@ fewest_entries namings.State = 1
 fewest_entries other = 0
 
 abbrev pub most_entries : Naming → ℕ
+most_entries namings.State = 32
 most_entries namings.Facts = 32
 most_entries other = 16
 
@@ -61,6 +62,7 @@ fewest_items other = 0
 
 abbrev pub most_items : Listing → ℕ
 most_items listings.Rules = 128
+most_items listings.Trace = 32
 most_items other = 16
 
 -- whether a text is one of the sections, or one of the parts of a rule

@@ -1,5 +1,5 @@
 -- The variables of a node's state.
-use Rattle.std.specs.Prelude.{ℕ, suc, if◌then◌else◌, List, [], ◌∷◌, ◌++◌, length, Ok, Err}
+use Rattle.std.specs.Prelude.{ℕ, suc, nat_le, if◌then◌else◌, List, [], ◌∷◌, ◌++◌, length, Ok, Err}
 use Rattle.std.specs.Str.{bytes_eq}
 use Rattle.toml.specs.Data.{Data}
 use Rattle.lf_rules.specs.declared.definition.Variable.{Variable}
@@ -7,21 +7,25 @@ use Rattle.lf_rules.specs.declared.expr.Leaf.TheVariants as leaves
 use Rattle.lf_rules.specs.declared.kind.Kind.{Kind}
 use Rattle.lf_rules.specs.declared.kind.Kind.TheVariants as kinds
 use Rattle.lf_rules.specs.declared.sort.Scope.TheVariants as scopes
+use Rattle.lf_rules.specs.declared.table.Cells.{Cells}
+use Rattle.lf_rules.specs.Tables.{cells_in}
 use Rattle.lf_texts.specs.Variables.{variable_in}
 use Rattle.lf_texts.specs.declared.variables.VariableText.{VariableText}
 use Rattle.lf_texts.specs.declared.variables.VariableText.TheVariants as texts
 use Rattle.lf_protocol_file.specs.declared.draft.Draft.{Draft}
+use Rattle.lf_protocol_file.specs.declared.error.ProtocolError.TheVariants as refusals
 use Rattle.lf_protocol_file.specs.declared.fault.Fault.TheVariants as faults
 use Rattle.lf_protocol_file.specs.declared.path.Path.TheVariants as paths
 use Rattle.lf_protocol_file.specs.declared.section.Naming.TheVariants as namings
+use Rattle.lf_protocol_file.specs.declared.section.Section.TheVariants as sections
 use Rattle.lf_protocol_file.specs.declared.variables.Sketch.{Sketch}
 use Rattle.lf_protocol_file.specs.Refusals.{shown}
 use Rattle.lf_protocol_file.specs.Readings.{Valued, Reading, ◌>>=◌, as_value, located}
 use Rattle.lf_protocol_file.specs.Texts.{tokens_in}
 use Rattle.lf_protocol_file.specs.Drafts.{place_in, check_new, with_name, number_after}
 
--- what the text of a variable says
-unfoldable pub held_in : Draft → Data → Valued VariableText
+-- what the text of a variable says: how many cells it has, and what each of them holds
+unfoldable pub held_in : Draft → Data → Valued (Cells × VariableText)
 held_in d x = do
   ts ← tokens_in x
   as_value (variable_in (place_in d [] scopes.Given) ts)
@@ -42,7 +46,7 @@ with_held x d = record d { sketches = d.sketches ++ x ∷ [] }
 unfoldable pub with_text : ℕ → Draft → List ℕ → Data → Valued Draft
 with_text number d key x = do
   text ← held_in d x
-  Ok (with_held (record { name = key; held = text }) (with_words_of number text d))
+  Ok (with_held (record { name = key; cells = text.0; held = text.1 }) (with_words_of number text.1 d))
 
 -- one more variable: its name, then its text
 unfoldable pub with_sketch : Draft → List ℕ → Data → Valued Draft
@@ -71,7 +75,7 @@ words_of (texts.Words words) = words
 words_of other = []
 
 abbrev pub variable_of : Sketch → Kind → Variable
-variable_of x kind = record { name = x.name; kind = kind; words = words_of x.held }
+variable_of x kind = record { name = x.name; kind = kind; cells = x.cells; words = words_of x.held }
 
 -- a variable, by its number
 abbrev pub variable_at : List Sketch → ℕ → Sketch → Reading Variable
@@ -85,8 +89,12 @@ variables_behind all before i (x ∷ xs) = variable_at all i x >>= λ v. variabl
 abbrev pub settled : List Variable → Draft → Draft
 settled variables d = record d { definition = record d.definition { variables = variables }; sketches = [] }
 
+-- there are no more than 64 cells in all
+abbrev pub limited : Draft → Reading Draft
+limited d = if nat_le (cells_in d.definition) 64 then Ok d else Err (refusals.PastLimit (paths.Section (sections.Naming namings.State)))
+
 -- all variables, now that all are there
 unfoldable pub with_variables : Draft → Reading Draft
 with_variables d = do
   variables ← variables_behind d.sketches [] 0 d.sketches
-  Ok (settled variables d)
+  limited (settled variables d)

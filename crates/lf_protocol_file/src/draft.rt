@@ -8,7 +8,7 @@ use crate::variables::Sketch;
 use crate::{Fault, Outcome, name_of};
 use lf_grammar::{Meaning, Place, Token};
 use lf_list::Listed;
-use lf_rules::{Definition, Event, Expr, Leaf, Name, Rule, Scope};
+use lf_rules::{Definition, Event, Expr, Leaf, Name, Rule, Scope, Within};
 use lf_texts::{is_name, is_reserved};
 use std::alloc::{AllocError, Global};
 
@@ -80,7 +80,7 @@ impl Draft {
         }
     }
 
-    /// Where an expression stands in the protocol, with the names of a note's fields there.
+    /// Where an expression stands in the protocol, with the names of a note's fields there. `it` is nothing there.
     pub fn place<'a>(&'a self, fields: &'a [Name], scope: Scope) -> Place<'a>
         ensures { context_of result ≡ place_in self.now fields.now scope }
     {
@@ -89,6 +89,7 @@ impl Draft {
             names: self.names.as_slice(),
             fields,
             scope,
+            within: Within::Nothing,
         }
     }
 

@@ -105,7 +105,7 @@ impl Naming {
         ensures { result ≡ most_entries self }
     {
         match self {
-            Naming::Facts => 32,
+            Naming::State | Naming::Facts => 32,
             _ => 16,
         }
     }
@@ -146,6 +146,7 @@ impl Listing {
     {
         match self {
             Listing::Rules => 128,
+            Listing::Trace => 32,
             _ => 16,
         }
     }

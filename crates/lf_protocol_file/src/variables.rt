@@ -4,12 +4,12 @@ ghost use Rattle.std.specs.Prelude.{◌≡◌, [], IfOk, MatchResult, Ok, Err};
 ghost use Rattle.toml.specs.View.{view};
 ghost use Rattle.lf_protocol_file.specs.Readings.{Gives, Reads};
 ghost use Rattle.lf_protocol_file.specs.Variables.{held_in, with_words, with_words_of, with_held, with_text, with_sketch, own_kind, kind_like};
-ghost use Rattle.lf_protocol_file.specs.Variables.{kind_of, words_of, variable_of, variable_at, variables_behind, settled, with_variables};
+ghost use Rattle.lf_protocol_file.specs.Variables.{kind_of, words_of, variable_of, variable_at, variables_behind, settled, limited, with_variables};
 
 use crate::draft::{Draft, none_of, number_after, push};
-use crate::{Fault, Naming, ProtocolError, name_of, tokens_in};
+use crate::{Fault, Naming, Path, ProtocolError, Section, name_of, tokens_in};
 use lf_list::Listed;
-use lf_rules::{Kind, Leaf, Name, Scope, Variable};
+use lf_rules::{Cells, Kind, Leaf, Name, Scope, Variable};
 use lf_texts::{VariableText, read_variable};
 use std::alloc::{AllocError, Global};
 use toml::Value;
@@ -18,6 +18,8 @@ use toml::Value;
 #[derive(Debug, Drop)]
 pub struct Sketch {
     pub name: Name,
+    pub cells: Cells,
+    /// What each of its cells holds.
     pub held: VariableText,
 }
 
@@ -43,10 +45,10 @@ fn with_text(
 ) -> Result<Draft, Fault>
     ensures { Gives (with_text number draft key.now (view value.now)) result }
 {
-    let held = held_in(alloc, &draft, value)?;
+    let (cells, held) = held_in(alloc, &draft, value)?;
     let name = name_of(alloc, key)?;
     let draft = with_words_of(alloc, draft, number, &held)?;
-    let draft = with_held(draft, Sketch { name, held })?;
+    let draft = with_held(draft, Sketch { name, cells, held })?;
     Ok(draft)
 }
 
@@ -59,9 +61,9 @@ fn with_held(draft: Draft, sketch: Sketch) -> Result<Draft, AllocError>
     Ok(draft)
 }
 
-/// What the text of a variable says.
+/// What the text of a variable says: how many cells it has, and what each of them holds.
 #[tactic(auto, unfolding(crate::specs::Variables::held_in))]
-fn held_in(alloc: Global, draft: &Draft, value: &Value) -> Result<VariableText, Fault>
+fn held_in(alloc: Global, draft: &Draft, value: &Value) -> Result<(Cells, VariableText), Fault>
     ensures { Gives (held_in draft.now (view value.now)) result }
 {
     let tokens = tokens_in(alloc, value)?;
@@ -95,13 +97,27 @@ fn with_words(alloc: Global, draft: Draft, of: u8, words: &[Name]) -> Result<Dra
     Ok(draft)
 }
 
-/// The draft with its variables, now that all are there.
+/// The most cells of a state.
+const MOST_CELLS: usize = 64;
+
+/// The draft with its variables, now that all are there. They have at most 64 cells in all.
 #[tactic(auto, unfolding(crate::specs::Variables::with_variables))]
 pub fn with_variables(alloc: Global, draft: Draft) -> Result<Draft, ProtocolError>
     ensures { Reads (with_variables draft) result }
 {
     let variables = variables_of(alloc, draft.sketches.as_slice())?;
-    Ok(settled(alloc, draft, variables))
+    limited(settled(alloc, draft, variables))
+}
+
+/// The draft, whose variables have at most 64 cells in all.
+fn limited(draft: Draft) -> Result<Draft, ProtocolError>
+    ensures { Reads (limited draft) result }
+{
+    if draft.definition.cells_in() <= MOST_CELLS {
+        Ok(draft)
+    } else {
+        Err(ProtocolError::PastLimit(Path::Section(Section::Naming(Naming::State))))
+    }
 }
 
 /// The draft with these variables in place of the sketches.
@@ -186,7 +202,12 @@ fn variable_of(alloc: Global, sketch: &Sketch, kind: Kind) -> Result<Variable, A
 {
     let name = name_of(alloc, sketch.name.as_str())?;
     let words = words_of(alloc, &sketch.held)?;
-    Ok(Variable { name, kind, words })
+    Ok(Variable {
+        name,
+        kind,
+        cells: sketch.cells,
+        words,
+    })
 }
 
 /// The words of a variable.

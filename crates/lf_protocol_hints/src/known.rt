@@ -1,7 +1,7 @@
 //! The names of a protocol file that is read, and what each stands for.
 
 use lf_protocol_file::ProtocolFile;
-use lf_rules::Kind;
+use lf_rules::{Cells, Kind};
 use lf_text_hints::{Class, Known};
 use std::alloc::{AllocError, Global};
 
@@ -13,9 +13,10 @@ pub(crate) fn known_in(alloc: Global, file: &ProtocolFile) -> Result<Vec<Known<'
         names.push(Known::new(constant.name.as_str(), Class::Constant, ""))?;
     }
     for variable in definition.variables.as_slice() {
-        let class = match variable.kind {
-            Kind::Flag => Class::Flag,
-            _ => Class::Variable,
+        let class = match (variable.cells, variable.kind) {
+            (Cells::One, Kind::Flag) => Class::Flag,
+            (Cells::One, _) => Class::Variable,
+            _ => Class::Table,
         };
         let name = variable.name.as_str();
         names.push(Known::new(name, class, ""))?;

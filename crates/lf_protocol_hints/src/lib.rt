@@ -6,6 +6,7 @@
 #![tactic(auto)]
 
 mod chains;
+mod clamped;
 mod counts;
 mod drafts;
 mod given;
@@ -18,8 +19,10 @@ mod nobody;
 mod nodes;
 mod notes;
 mod outcome;
+mod places;
 mod refusals;
 mod replaced;
+mod replay;
 mod run;
 mod scenario;
 mod size;

@@ -4,6 +4,12 @@ use lf_text_hints::{Hint, Place, Spot, Told, found_at, limit_told, said, wanted,
 use std::alloc::{AllocError, Global};
 use toml::{Table, Value};
 
+/// The most variables, and the most named guards.
+const MOST_VARIABLES: usize = 32;
+
+/// The most places of a table that are numbers.
+const MOST_PLACES: u64 = 32;
+
 /// The most items of a list of a constant's values.
 const MOST_VALUES: usize = 8;
 
@@ -32,7 +38,7 @@ fn past_told(alloc: Global, place: &Place<'_>, text: &str) -> Result<Told, Alloc
     Ok(match limit_told(alloc, place.text, text)? {
         Some(told) => told,
         None => Told {
-            hint: said(place.text, most_in(Spot::of(place))),
+            hint: said(place.text, most_in(Spot::of(place), text)),
             before: 0,
             length: text.chars().count(),
         },
@@ -54,7 +60,8 @@ fn past_hint(alloc: Global, place: &Place<'_>, value: &Value) -> Result<Hint, Al
 /// That a section has so many entries or items, and how many it may have.
 fn count_hint(place: &Place<'_>, count: usize, what: &str) -> Hint {
     let most: usize = match place.section {
-        "facts" => 32,
+        "state" if count <= MOST_VARIABLES => return cells_hint(place),
+        "facts" | "state" | "trace" => MOST_VARIABLES,
         "rules" => 128,
         _ => 16,
     };
@@ -66,6 +73,44 @@ fn count_hint(place: &Place<'_>, count: usize, what: &str) -> Hint {
         "{}: {count} {what}; {fewest} to {most} may stand there",
         place.text
     ))
+}
+
+/// That variables have too many cells.
+fn cells_hint(place: &Place<'_>) -> Hint {
+    said(
+        place.text,
+        "its variables have more than 64 cells in all: one each, and a table 8 for the nodes, or as many as its brackets say",
+    )
+}
+
+/// The greatest number in the brackets of a table, and 0 where there is none.
+fn places_in(text: &str) -> u64 {
+    let Some((places, _kind)) = text.split_once(']') else {
+        return last_in(text);
+    };
+    last_in(places)
+}
+
+/// The number behind the points of a range, and 0 where there is none.
+fn last_in(places: &str) -> u64 {
+    match places.split_once("..") {
+        Some((front, last)) if front.trim_start().starts_with('[') => {
+            first_number(last.trim_start())
+        }
+        _ => 0,
+    }
+}
+
+/// The number with which a text begins, and 0 where it begins with none.
+fn first_number(text: &str) -> u64 {
+    let behind = text.trim_start_matches(is_digit);
+    let digits = text.strip_suffix(behind).unwrap_or("");
+    digits.parse::<u64>().unwrap_or(0)
+}
+
+/// Whether a character is a digit.
+fn is_digit(c: char) -> bool {
+    c.is_ascii_digit()
 }
 
 /// What passes a limit in a list of a constant's values.
@@ -108,11 +153,14 @@ fn number_hint(place: &Place<'_>, intro: &str, number: &Value) -> Hint {
 }
 
 /// How many parts a text may have.
-fn most_in(spot: Spot) -> &'static str {
+fn most_in(spot: Spot, text: &str) -> &'static str {
     match spot {
+        Spot::State if MOST_PLACES < places_in(text) => {
+            "a table with numbers for its places has at most 32 of them"
+        }
         Spot::State => "a variable has at most 16 words",
-        Spot::Note => "a note has at most 6 fields",
-        Spot::Set => "a rule sets at most 8 variables",
+        Spot::Note => "a note has at most 7 fields",
+        Spot::Set => "a rule has at most 16 assignments",
         Spot::Send => "a rule sends at most 8 notes",
         _ => "a limit is passed",
     }

@@ -3,7 +3,7 @@
 use crate::known::known_in;
 use lf_grammar::Place as Reading;
 use lf_protocol_file::ProtocolFile;
-use lf_rules::Scope;
+use lf_rules::{Scope, Within};
 use lf_text_hints::{Known, Place, expression_told, limit_told, place_of, with_line};
 use std::alloc::{AllocError, Global};
 use toml::Value;
@@ -23,6 +23,7 @@ pub(crate) fn nodes_hint<'a>(
         names: file.names(),
         fields: &[],
         scope: Scope::Given,
+        within: Within::Nothing,
     };
     let shown = format!(in alloc; "given.{constant}")?;
     let place = place_of(shown.as_str());

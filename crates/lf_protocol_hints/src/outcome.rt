@@ -6,7 +6,7 @@ use crate::size::{Size, size_of};
 use lf_grammar::{Place as Reading, TokenError, read_tokens};
 use lf_promises::{Promise, PromiseError, read_promise};
 use lf_protocol_file::ProtocolFile;
-use lf_rules::Scope;
+use lf_rules::{Scope, Within};
 use lf_text_hints::{limit_told, outcome_told, place_of, with_line};
 use std::alloc::{AllocError, Global};
 use toml::{Table, Value};
@@ -87,6 +87,7 @@ fn reading_of(file: &ProtocolFile) -> Reading<'_> {
         names: file.names(),
         fields: &[],
         scope: Scope::Who,
+        within: Within::Nothing,
     }
 }
 

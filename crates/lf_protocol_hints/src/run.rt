@@ -2,6 +2,7 @@
 
 ghost use Rattle.lf_sim.specs.Settings.{IsRun, world_of};
 
+use crate::clamped::clamped_words;
 use crate::idle::idle_words;
 use crate::replaced::replaced_words;
 use lf_faults::FaultSet;
@@ -10,18 +11,20 @@ use lf_protocols::{Fact, Protocol};
 use lf_sim::{Run, Setting, run};
 use std::alloc::{AllocError, Global};
 
-/// Which rules no node of the scenario has, and where, in the run without faults, a value first went past its range, and where a note was first lost at its
-/// sender, since another one of its name took its place or the packet had no room for it, and by which rules, each on a line of its own, without the last
-/// line feed. Nothing where there is none of this, or where the protocol is none of rules. The error, also below, is that memory has run out.
+/// Which rules no node of the scenario has, and where, in the run without faults, a value first went past its range
+/// or a cell was first set that isn't there, and where a note was first lost at its sender, since another one of its name took its place or the packet had no
+/// room for it, and by which rules, each on a line of its own, without the last line feed. Nothing where there is none of this, or where the protocol is none
+/// of rules. The error, also below, is that memory has run out.
 pub fn run_notes(alloc: Global, scenario: &Scenario) -> Result<String, AllocError> {
     let setting = scenario.setting();
     let played = run(alloc, setting, &FaultSet::empty())?;
     let mut text = idle_words(alloc, &setting.machine)?;
     if let Some((step, node)) = first_shown(setting, &played, "clamped") {
         end_line(&mut text)?;
+        let words = clamped_words(alloc, setting, &played, node, step)?;
         write!(
             &mut text,
-            "without faults, at step {step} node {node} has set a variable or a field past its range, and it was cut to the range (`clamped`)"
+            "without faults, at step {step} node {node} has set {words} (`clamped`)"
         )?;
     }
     if let Some((step, node)) = first_shown(setting, &played, "replaced") {

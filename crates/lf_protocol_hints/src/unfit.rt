@@ -78,7 +78,7 @@ fn new_hint(names: &[Known<'_>], place: &Place<'_>, name: &str, own: Class) -> O
         ));
     }
     let known = first_named(names, name)?;
-    if known.class == own || (own == Class::Variable && known.class == Class::Flag) {
+    if known.class == own || (own == Class::Variable && known.class.is_variable()) {
         return None;
     }
     let already = Hint::of(format_args!("{} has this name already", known.words().as_str()));

@@ -4,7 +4,7 @@ use crate::uses::{Uses, bit, has_leaf};
 use lf_promises::Promise;
 use lf_protocol_file::Outcome;
 use lf_rule_machine::{Fact, Told};
-use lf_rules::{Chain, Definition, Event, Leaf, Rule};
+use lf_rules::{Chain, Definition, Event, Leaf, Rule, Target};
 
 /// How deep an outcome is looked into. No file has a deeper one, since its brackets are limited.
 const DEEPEST: u32 = 100;
@@ -40,7 +40,7 @@ fn used_by_chain(chain: &Chain, uses: Uses) -> Uses {
 fn used_by_rule(rule: &Rule, uses: Uses) -> Uses {
     let mut uses = uses.and(&rule.guard);
     for set in rule.sets.as_slice() {
-        uses = uses.and(&set.value);
+        uses = used_by_target(&set.target, uses).and(&set.value);
     }
     for send in rule.sends.as_slice() {
         uses = uses.and(&send.to);
@@ -49,6 +49,14 @@ fn used_by_rule(rule: &Rule, uses: Uses) -> Uses {
         }
     }
     uses
+}
+
+/// What the place of a target uses, besides.
+fn used_by_target(target: &Target, uses: Uses) -> Uses {
+    match target {
+        Target::Variable(_) => uses,
+        Target::Cell(_, place) | Target::Cells(_, place) => uses.and(place),
+    }
 }
 
 /// What an outcome that is looked into so deep uses, besides.

@@ -1,6 +1,6 @@
 //! What expressions use.
 
-use lf_rules::{Expr, Leaf, Tree};
+use lf_rules::{Expr, Leaf, Row, Tree};
 
 /// What some expressions use: of each kind of thing a bit for each number.
 #[derive(Clone, Copy, Debug)]
@@ -39,6 +39,14 @@ impl Uses {
         }
         uses
     }
+
+    /// What has an item for each of some places, besides.
+    pub(crate) fn with_row(self, row: Row) -> Uses {
+        match row {
+            Row::Table(table) => self.with(Leaf::Variable(table.of)),
+            Row::Given(i) => self.with(Leaf::Given(i)),
+        }
+    }
 }
 
 /// What a tree uses, besides.
@@ -47,6 +55,8 @@ fn used_in(tree: &Tree, uses: Uses) -> Uses {
         Tree::Leaf(leaf) => uses.with(*leaf),
         Tree::Unary(_, a) => used_in(a, uses),
         Tree::Binary(_, a, b) => used_in(b, used_in(a, uses)),
+        Tree::At(row, place) => used_in(place, uses.with_row(*row)),
+        Tree::Over(_, set, body) => used_in(body, used_in(set, uses)),
     }
 }
 
@@ -61,6 +71,8 @@ fn tree_has(tree: &Tree, leaf: Leaf) -> bool {
         Tree::Leaf(own) => *own == leaf,
         Tree::Unary(_, a) => tree_has(a, leaf),
         Tree::Binary(_, a, b) => tree_has(a, leaf) || tree_has(b, leaf),
+        Tree::At(_, place) => tree_has(place, leaf),
+        Tree::Over(_, set, body) => tree_has(set, leaf) || tree_has(body, leaf),
     }
 }
 

@@ -1,10 +1,11 @@
 //! What looks like a slip in a protocol file.
 
 use crate::nobody::why_nobody;
+use crate::places::warn_of_places;
 use crate::used::{is_word_given, notes_used, used_by};
 use crate::uses::{Uses, has_bit};
 use lf_protocol_file::Outcome;
-use lf_rules::{Definition, Event, Leaf, Name, Rule, Tree, Unary, Variable};
+use lf_rules::{Cells, Definition, Event, Leaf, Name, Rule, Target, Tree, Unary, Variable};
 use std::alloc::AllocError;
 
 /// Puts the warnings behind a text, each on a line of its own. The error, also below, is that memory has run out.
@@ -17,6 +18,7 @@ pub(crate) fn put_warnings(
     warn_of_notes(text, definition)?;
     warn_of_names(text, definition, uses)?;
     warn_of_variables(text, definition, uses)?;
+    warn_of_places(text, definition)?;
     warn_of_rules(text, definition)
 }
 
@@ -75,15 +77,23 @@ fn warn_of_variables(
 ) -> Result<(), AllocError> {
     for (i, variable) in definition.variables.as_slice().iter().enumerate() {
         if !has_bit(uses.variables, i) {
-            let name = variable.name.as_str();
+            let (what, name) = (what_is(variable), variable.name.as_str());
             write!(
                 text,
-                "\nwarning: nothing in the file reads the variable {name}"
+                "\nwarning: nothing in the file reads the {what} {name}"
             )?;
         }
         warn_of_words(text, definition, i, variable)?;
     }
     Ok(())
+}
+
+/// What a variable is, in a word.
+fn what_is(variable: &Variable) -> &'static str {
+    match variable.cells {
+        Cells::One => "variable",
+        _ => "table",
+    }
 }
 
 /// Of words of the variable with a number that it never gets. It has the first one at the start.
@@ -100,7 +110,12 @@ fn warn_of_words(
         };
         if !is_word_given(definition, leaf) {
             let (name, word) = (variable.name.as_str(), word.as_str());
-            write!(text, "\nwarning: {name} never becomes {word}")?;
+            let cell = if variable.cells == Cells::One {
+                ""
+            } else {
+                "a cell of "
+            };
+            write!(text, "\nwarning: {cell}{name} never becomes {word}")?;
         }
     }
     Ok(())
@@ -176,6 +191,14 @@ fn is_leaf_me(tree: &Tree) -> bool {
     matches!(tree, Tree::Leaf(Leaf::Me))
 }
 
+/// The number of the variable that gets a value.
+fn set_by(target: &Target) -> u8 {
+    match target {
+        Target::Variable(i) => *i,
+        Target::Cell(table, _) | Target::Cells(table, _) => table.of,
+    }
+}
+
 /// Of variables that are set to the step, where no rule is on waking.
 fn warn_of_steps(text: &mut String, definition: &Definition) -> Result<(), AllocError> {
     for (i, variable) in definition.variables.as_slice().iter().enumerate() {
@@ -205,7 +228,7 @@ fn is_set_to_step(definition: &Definition, number: usize) -> bool {
 /// Whether a rule sets the variable with a number to the step.
 fn sets_to_step(rule: &Rule, number: usize) -> bool {
     for set in rule.sets.as_slice() {
-        if usize::from(set.variable) == number
+        if usize::from(set_by(&set.target)) == number
             && matches!(set.value.tree(), Tree::Leaf(Leaf::Step))
         {
             return true;

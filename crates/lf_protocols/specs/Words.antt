@@ -108,7 +108,7 @@ note_text (kinds.Ruled m) (notes.Ruled packet) = texts.packet_text m.definition 
 note_text k note = note_word note
 
 abbrev pub standing_text : Kind → State → List ℕ
-standing_text (kinds.Ruled m) (states.Ruled own) = texts.state_text m.definition own
+standing_text (kinds.Ruled m) (states.Ruled own) = texts.state_text m.definition m.nodes own
 standing_text k own = state_text own
 
 -- the name of a fact of the protocol

@@ -9,6 +9,7 @@ ghost use Rattle.lf_protocols.specs.Words.{fact_word, facts_of, fact_name, fact_
 use crate::{Fact, Kind, Note, Protocol, State};
 use lf_naming as naming;
 use lf_rule_machine::Ruled;
+use lf_sim::Machine;
 use std::alloc::AllocError;
 
 impl Protocol {
@@ -27,7 +28,7 @@ impl Protocol {
     {
         match (self.kind(), state) {
             (Kind::Ruled(ruled), State::Ruled(own)) => {
-                naming::push_state(ruled.definition(), own, text)
+                naming::push_state(ruled.definition(), ruled.nodes(), own, text)
             }
             (_, own) => text.push_str(own.text()),
         }

@@ -6,7 +6,7 @@ use Rattle.lf_sim.specs.declared.out.Stepped.{Stepped}
 use Rattle.lf_rules.specs.declared.rule.Event.{Event}
 use Rattle.lf_rules.specs.declared.rule.Chain.{Chain}
 use Rattle.lf_rules.specs.declared.definition.Definition.{Definition}
-use Rattle.lf_rule_machine.specs.declared.moment.Moment.{Moment}
+use Rattle.lf_rule_machine.specs.Moments.{Moment, given_here}
 use Rattle.lf_rule_machine.specs.declared.state.State.{State}
 use Rattle.lf_rule_machine.specs.declared.state.Packet.{Packet}
 use Rattle.lf_rule_machine.specs.Events.{is_passed, take_first, pass, act}
@@ -14,7 +14,7 @@ use Rattle.lf_rule_machine.specs.Choices.{numbers_of, chosen, take_of, take_at}
 
 module _ (d : Definition) (at : Moment) (event : Event) where
   abbrev is_so : Chain → Bool
-  is_so = is_passed at.nodes at.me at.given event
+  is_so = is_passed at.nodes at.me (given_here at) event
 
   -- one chain, and then those after it
   chosen-next : (x : Chain) (xs : List Chain) (i : ℕ) (turn : Stepped State Packet) (b : Bool) → is_so x ≡ b → slice_get d.chains i ≡ Some x
@@ -33,6 +33,6 @@ module _ (d : Definition) (at : Moment) (event : Event) where
       chosen-next x xs i turn (is_so x) refl (ap (slice_get d.chains) first ∙ same 0) (λ after. chosen-from xs (i + 1) after (λ k.
       let one_on : i + 1 + k ≡ i + suc k = omega arith in ap (slice_get d.chains) one_on ∙ same (suc k)))
 
-  pub chosen-acts : (turn : Stepped State Packet) → fold (take_at d at) turn (chosen d at.nodes at.me at.given event) ≡ act d at event turn
+  pub chosen-acts : (turn : Stepped State Packet) → fold (take_at d at) turn (chosen d at.nodes at.me (given_here at) event) ≡ act d at event turn
   unfolding act
   chosen-acts turn = chosen-from d.chains 0 turn (λ k. let e : 0 + k ≡ k = omega arith in ap (slice_get d.chains) e)

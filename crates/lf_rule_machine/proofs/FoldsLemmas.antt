@@ -9,13 +9,12 @@ use Rattle.lf_rules.specs.declared.kind.Kind.{Kind}
 use Rattle.lf_rules.specs.Terms.{Term}
 use Rattle.lf_rules.specs.declared.rule.Rule.{Rule}
 use Rattle.lf_rules.specs.declared.definition.Definition.{Definition}
-use Rattle.lf_rule_machine.specs.declared.moment.Moment.{Moment}
+use Rattle.lf_rule_machine.specs.Moments.{Moment}
 use Rattle.lf_rule_machine.specs.declared.state.State.{State}
 use Rattle.lf_rule_machine.specs.declared.state.Packet.{Packet}
-use Rattle.lf_rule_machine.specs.declared.sending.Draft.{Draft}
 use Rattle.lf_rule_machine.specs.Sets.{is_true}
 use Rattle.lf_rule_machine.specs.Values.{value_of}
-use Rattle.lf_rule_machine.specs.Events.{fill_as, fill, do_rule, do_found, first_true, take_first}
+use Rattle.lf_rule_machine.specs.Events.{Draft, fill_as, fill, do_rule, do_found, first_true, take_first}
 use Rattle.lf_rule_machine.specs.Readings.{flagged, untaken}
 
 -- the rest of a list begins with the item there

@@ -9,7 +9,9 @@ use Rattle.std.proofs.lemmas.Option.{slice_get-get_or, slice_get_past}
 use Rattle.std.proofs.lemmas.List.FromFn.{get_or-map-range_with_len, length-map-range_with_len}
 use Rattle.lf_rules.specs.declared.sort.Sort.TheVariants as sorts
 use Rattle.lf_rules.specs.declared.sort.Scope.TheVariants as scopes
+use Rattle.lf_rules.specs.declared.sort.Within.TheVariants as withins
 use Rattle.lf_rules.specs.Sorts.{is_a}
+use Rattle.lf_rules.specs.Tables.{cells_in}
 use Rattle.lf_rules.specs.declared.rule.Event.{Event}
 use Rattle.lf_rules.specs.declared.rule.Event.TheVariants as events
 use Rattle.lf_rules.specs.declared.rule.Chain.{Chain}
@@ -19,7 +21,7 @@ use Rattle.lf_rule_machine.specs.Sets.{has}
 use Rattle.lf_rule_machine.specs.Values.{fixed_value}
 use Rattle.lf_rule_machine.specs.Events.{same_event, is_passed}
 use Rattle.lf_rule_machine.specs.Choices.{numbers_of, chosen}
-use Rattle.lf_rule_machine.specs.Constants.{row_of}
+use Rattle.lf_rule_machine.specs.Moments.{row_of}
 use Rattle.lf_rule_machine.specs.Indexes.{number_of, event_at, row_at, rows_of, row_or_none, row_for}
 
 event_at-number : (event : Event) → event_at (number_of event) ≡ event
@@ -49,6 +51,9 @@ first a b all = (and_parts a b all).0
 
 second : (a b c : Bool) → (a && (b && c)) ≡ true → b ≡ true
 second a b c all = first b c (and_parts a (b && c) all).1
+
+third : (a b c e : Bool) → (a && (b && (c && e))) ≡ true → c ≡ true
+third a b c e all = second b c e (and_parts a (b && (c && e)) all).1
 
 seventh : (a b c e f g h i : Bool) → (a && (b && (c && (e && (f && (g && (h && i))))))) ≡ true → h ≡ true
 seventh a b c e f g h i all =
@@ -82,7 +87,7 @@ module _ (d : Definition) (nodes : ℕ) (given : List (List ℕ)) where
 
   few-notes : is_well_formed d ≡ true → length d.notes ≤ 16
   few-notes formed = leb-true (length d.notes) 16 (
-      second (is_from 1 16 (length d.variables)) (nat_le (length d.notes) 16) _ (first (is_in_limits d) _ formed))
+      third (is_from 1 32 (length d.variables)) (nat_le (cells_in d) 64) (nat_le (length d.notes) 16) _ (first (is_in_limits d) _ formed))
 
   event-unformed : (event : Event) (form : ℕ) → length d.notes ≤ form → is_event d event ≡ true → same_event event (events.Note form) ≡ false
   event-unformed events.Start form far there = refl
@@ -96,7 +101,7 @@ module _ (d : Definition) (nodes : ℕ) (given : List (List ℕ)) where
   chain-unformed : (n : ℕ) (row : List ℕ) (form : ℕ) → length d.notes ≤ form → (x : Chain) → is_chain d x ≡ true
       → is_passed nodes n row (events.Note form) x ≡ false
   chain-unformed n row form far x formed =
-      let there : is_event d x.on ≡ true = second (is_a d scopes.Who sorts.Nodes x.who) (is_event d x.on) _ formed in
+      let there : is_event d x.on ≡ true = second (is_a d scopes.Who withins.Nothing sorts.Nodes x.who) (is_event d x.on) _ formed in
       rw (event-unformed x.on form far there) refl
 
   chosen-unformed : is_well_formed d ≡ true → (n : ℕ) (row : List ℕ) (event : Event) → 20 ≤ number_of event → chosen d nodes n row event ≡ []

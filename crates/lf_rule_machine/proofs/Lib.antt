@@ -1,10 +1,12 @@
 mod SetsLemmas
+mod BodiesLemmas
 mod ValuesLemmas
 mod ChoicesLemmas
 mod FoldsLemmas
 pub mod Laws
-mod RangesLemmas
 mod IndexesLemmas
+mod CellsLemmas
+mod RangesLemmas
 mod FactRangesLemmas
 mod PacketsLemmas
 mod PackingLemmas

@@ -23,7 +23,7 @@ use Rattle.lf_rules.specs.declared.sort.Scope.{Scope}
 use Rattle.lf_rules.specs.declared.definition.NoteForm.{NoteForm}
 use Rattle.lf_rules.specs.declared.definition.Definition.{Definition}
 use Rattle.lf_rules.specs.Forms.{is_well_formed, is_chain, is_rule_in, is_send, are_sent, scope_of, sends_of}
-use Rattle.lf_rule_machine.specs.declared.moment.Moment.{Moment}
+use Rattle.lf_rule_machine.specs.Moments.{Moment, with_it, given_here}
 use Rattle.lf_rule_machine.specs.Instances.{Instance}
 use Rattle.lf_rule_machine.specs.declared.state.State.{State}
 use Rattle.lf_rule_machine.specs.declared.state.Note.{Note}
@@ -32,8 +32,8 @@ use Rattle.lf_rule_machine.specs.declared.fact.Fact.{Fact}
 use Rattle.lf_rule_machine.specs.Sets.{is_true}
 use Rattle.lf_rule_machine.specs.States.{packed, packet_of}
 use Rattle.lf_rule_machine.specs.Values.{value_of}
-use Rattle.lf_rule_machine.specs.Events.{is_passed, is_receiver, place, put, put_all, assign, drafted, send, do_rule}
-use Rattle.lf_rule_machine.specs.Events.{first_true, do_found, take_first, pass, act}
+use Rattle.lf_rule_machine.specs.Events.{is_passed, is_receiver, place, put, put_all, Draft, assign, drafted, put_draft, place_draft}
+use Rattle.lf_rule_machine.specs.Events.{send_one, send_each, send, do_rule, first_true, do_found, take_first, pass, act}
 use Rattle.lf_rule_machine.specs.Machines.{moment, no_fields, opened, begin_of, hear_note, hear_of, step_of}
 use Rattle.lf_rule_machine.specs.RuledLemmas.{fold-keeps}
 use Rattle.lf_rule_machine.specs.Ruleds.{rules_of}
@@ -105,12 +105,24 @@ module _ (d : Definition) (few : length d.notes ≤ 1) (at : Moment) where
   put_all-plain set note first turn plain =
       fold-keeps (λ (x : Stepped State Packet). ArePlain x.out) (put at set note) (put-plain set note first) turn (range_with_len 0 at.nodes) plain
 
+  one-plain : (set : ℕ) (x : Send) → x.form ≡ 0 → (turn : Stepped State Packet) (m : ℕ) → ArePlain turn.out → ArePlain (send_one d at set x turn m).out
+  one-plain set x first turn m plain =
+      let draft : Draft = drafted d (with_it at m) turn.state x in
+      cond-plain (is_receiver at set m) (place_draft d at turn x m draft) turn
+      (λ _. place-plain (record { form = x.form; fields = draft.fields }) first (record { state = draft.state; out = turn.out }) m plain) plain
+
+  each-plain : (set : ℕ) (x : Send) → x.form ≡ 0 → (turn : Stepped State Packet) → ArePlain turn.out → ArePlain (send_each d at set x turn).out
+  each-plain set x first turn plain =
+      fold-keeps (λ (x : Stepped State Packet). ArePlain x.out) (send_one d at set x) (one-plain set x first) turn (range_with_len 0 at.nodes) plain
+
   send-plain : (scope : Scope) (turn : Stepped State Packet) (x : Send) → is_send d scope x ≡ true → ArePlain turn.out → ArePlain (send d at turn x).out
   send-plain scope turn x formed plain =
-      let draft = drafted d at turn.state x in
+      let draft : Draft = drafted d at turn.state x in
+      let set : ℕ = value_of d at turn.state x.to in
       let first : x.form ≡ 0 = form-found d scope d.notes x.form x.fields few (send-form d scope x formed) in
-      put_all-plain (value_of d at draft.state x.to) (record { form = x.form; fields = draft.fields }) first
-      (record { state = draft.state; out = turn.out }) plain
+      cond-plain x.each (send_each d at set x turn) (put_draft d at turn x draft) (λ _. each-plain set x first turn plain)
+      (put_all-plain (value_of d at draft.state x.to) (record { form = x.form; fields = draft.fields }) first
+      (record { state = draft.state; out = turn.out }) plain)
 
   rule-plain : (scope : Scope) (sends : ℕ) (turn : Stepped State Packet) (rule : Rule) → is_rule_in d scope sends rule ≡ true → ArePlain turn.out
       → ArePlain (do_rule d at turn rule).out
@@ -134,7 +146,7 @@ module _ (d : Definition) (few : length d.notes ≤ 1) (at : Moment) where
   pass-plain : (event : Event) (turn : Stepped State Packet) (chain : Chain) → is_chain d chain ≡ true → ArePlain turn.out
       → ArePlain (pass d at event turn chain).out
   pass-plain event turn chain formed plain =
-      cond-plain (is_passed at.nodes at.me at.given event chain) (take_first d at turn chain.rules) turn
+      cond-plain (is_passed at.nodes at.me (given_here at) event chain) (take_first d at turn chain.rules) turn
       (λ _. found-plain (scope_of chain.on) (sends_of chain.on) turn turn.state chain.rules (chain-rules d chain formed) plain) plain
 
   act-plain : is_well_formed d ≡ true → (event : Event) (turn : Stepped State Packet) → ArePlain turn.out → ArePlain (act d at event turn).out

@@ -1,6 +1,6 @@
 -- A packet as a list of notes.
-use Rattle.std.proofs.Common.{◌≡◌, ℕ, zero, suc, ◌+◌, ◌-◌, ◌<◌, ◌≤◌, Bool, true, false, cond, not, ◌&&◌, ◌||◌, List, [], ◌∷◌, ◌++◌, length, map, replicate}
-use Rattle.std.proofs.Common.{nat_eq, refl, sym, ap, ◌∙◌, subst, arith, nat_le, length-append}
+use Rattle.std.proofs.Common.{◌≡◌, ℕ, zero, suc, ◌+◌, ◌-◌, ◌≤◌, Bool, true, false, cond, not, ◌&&◌, ◌||◌, List, [], ◌∷◌, ◌++◌, length, map, replicate}
+use Rattle.std.proofs.Common.{nat_eq, refl, sym, ap, ◌∙◌, arith, length-append}
 use Rattle.std.specs.Prelude.{Option, None, Some, slice_get, slice_set, nat_lt}
 use Rattle.std.specs.List.{list_any}
 use Rattle.std.proofs.lemmas.List.{length-map}
@@ -8,7 +8,7 @@ use Rattle.std.proofs.lemmas.List.Folds.{list_any-append}
 use Rattle.std.proofs.lemmas.Bool.{and_parts, both_ways, eqb-true, eq-eqb, lt-ltb, le-ltb, ltb-true, ltb-false, not-true}
 use Rattle.lf_rule_machine.specs.declared.state.Note.{Note}
 use Rattle.lf_rule_machine.specs.declared.state.Packet.{Packet}
-use Rattle.lf_rule_machine.specs.States.{empty, is_lost, loses, notes_in, packed, packet_of, place_for, same_note}
+use Rattle.lf_rule_machine.specs.States.{is_lost, loses, notes_in, packed, packet_of, place_for, same_note}
 use Rattle.lf_rule_machine.specs.Packets.{IsPacket, among, are_of_other_forms, has_form, instead, is_lost_among, packet_with}
 
 -- places: those of some notes, and so many without one

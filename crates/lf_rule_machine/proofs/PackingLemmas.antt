@@ -1,5 +1,5 @@
 -- What a node sends another one in a step is a packet: nothing that a step does leaves anything else.
-use Rattle.std.proofs.Common.{◌≡◌, ◌≢◌, ℕ, ◌<◌, Bool, List, cond, nat_eq, refl, sym, ap, subst, ◌∙◌, arith, inl, inr}
+use Rattle.std.proofs.Common.{◌≡◌, ℕ, List, sym, ap, subst, ◌∙◌, inl, inr}
 use Rattle.std.specs.Prelude.{Option, None, Some}
 use Rattle.std.specs.List.{fold, range_with_len}
 use Rattle.std.specs.Option.{unwrap_or}
@@ -16,13 +16,14 @@ use Rattle.lf_rules.specs.declared.rule.Send.{Send}
 use Rattle.lf_rules.specs.declared.rule.Rule.{Rule}
 use Rattle.lf_rules.specs.declared.rule.Chain.{Chain}
 use Rattle.lf_rules.specs.declared.definition.Definition.{Definition}
-use Rattle.lf_rule_machine.specs.declared.moment.Moment.{Moment}
+use Rattle.lf_rule_machine.specs.Moments.{Moment, with_it, given_here}
 use Rattle.lf_rule_machine.specs.declared.state.State.{State}
 use Rattle.lf_rule_machine.specs.declared.state.Note.{Note}
 use Rattle.lf_rule_machine.specs.declared.state.Packet.{Packet}
 use Rattle.lf_rule_machine.specs.Values.{value_of}
 use Rattle.lf_rule_machine.specs.States.{packed, packet_of}
-use Rattle.lf_rule_machine.specs.Events.{is_passed, place, is_receiver, put, drafted, send, assign, first_true, do_found, take_first, pass, act}
+use Rattle.lf_rule_machine.specs.Events.{is_passed, place, is_receiver, put, drafted, put_draft, place_draft, send_one, send_each, send, assign}
+use Rattle.lf_rule_machine.specs.Events.{first_true, do_found, take_first, pass, act}
 use Rattle.lf_rule_machine.specs.Machines.{moment, hear_note, hear_of, begin_of, step_of, no_fields, opened}
 use Rattle.lf_rule_machine.specs.Packets.{IsPacket}
 use Rattle.lf_rule_machine.specs.RuledLemmas.{fold-keeps, cond-keeps}
@@ -54,12 +55,22 @@ module _ (d : Definition) (at : Moment) where
   put-packets set note turn m sent =
       cond-keeps ArePackets (is_receiver at set m) (place note turn m) turn (λ _. place-packets note turn m sent) sent
 
+  one-packets : (set : ℕ) (x : Send) (turn : Stepped State Packet) (m : ℕ) → ArePackets turn → ArePackets (send_one d at set x turn m)
+  one-packets set x turn m sent =
+      let draft = drafted d (with_it at m) turn.state x in
+      cond-keeps ArePackets (is_receiver at set m) (place_draft d at turn x m draft) turn
+      (λ _. place-packets (record { form = x.form; fields = draft.fields }) (record { state = draft.state; out = turn.out }) m
+      (record { each = sent.each })) sent
+
   send-packets : (turn : Stepped State Packet) (x : Send) → ArePackets turn → ArePackets (send d at turn x)
   send-packets turn x sent =
       let draft = drafted d at turn.state x in
-      fold-keeps ArePackets (put at (value_of d at draft.state x.to) (record { form = x.form; fields = draft.fields }))
-      (put-packets (value_of d at draft.state x.to) (record { form = x.form; fields = draft.fields }))
-      (record { state = draft.state; out = turn.out }) (range_with_len 0 at.nodes) (record { each = sent.each })
+      let note : Note = record { form = x.form; fields = draft.fields } in
+      let set = value_of d at turn.state x.to in
+      cond-keeps ArePackets x.each (send_each d at set x turn) (put_draft d at turn x draft)
+      (λ _. fold-keeps ArePackets (send_one d at set x) (one-packets set x) turn (range_with_len 0 at.nodes) sent)
+      (fold-keeps ArePackets (put at (value_of d at draft.state x.to) note) (put-packets (value_of d at draft.state x.to) note)
+      (record { state = draft.state; out = turn.out }) (range_with_len 0 at.nodes) (record { each = sent.each }))
 
   found-packets : (turn : Stepped State Packet) (found : Option Rule) → ArePackets turn → ArePackets (do_found d at turn found)
   found-packets turn None sent = sent
@@ -69,7 +80,7 @@ module _ (d : Definition) (at : Moment) where
 
   pass-packets : (event : Event) (turn : Stepped State Packet) (chain : Chain) → ArePackets turn → ArePackets (pass d at event turn chain)
   pass-packets event turn chain sent =
-      cond-keeps ArePackets (is_passed at.nodes at.me at.given event chain) (take_first d at turn chain.rules) turn
+      cond-keeps ArePackets (is_passed at.nodes at.me (given_here at) event chain) (take_first d at turn chain.rules) turn
       (λ _. found-packets turn (first_true d at turn.state chain.rules) sent) sent
 
   act-packets : (event : Event) (turn : Stepped State Packet) → ArePackets turn → ArePackets (act d at event turn)

@@ -24,7 +24,7 @@ use Rattle.lf_rules.specs.declared.rule.Chain.{Chain}
 use Rattle.lf_rules.specs.declared.sort.Scope.{Scope}
 use Rattle.lf_rules.specs.declared.definition.Definition.{Definition}
 use Rattle.lf_rules.specs.Forms.{is_well_formed, is_chain, is_rule_in, scope_of, sends_of}
-use Rattle.lf_rule_machine.specs.declared.moment.Moment.{Moment}
+use Rattle.lf_rule_machine.specs.Moments.{Moment, given_here}
 use Rattle.lf_rule_machine.specs.Instances.{Instance}
 use Rattle.lf_rule_machine.specs.declared.state.State.{State}
 use Rattle.lf_rule_machine.specs.declared.state.Note.{Note}
@@ -84,8 +84,8 @@ module _ (d : Definition) (at : Moment) (scope : Scope) (sends : ℕ) (none : se
 module _ (d : Definition) (at : Moment) (event : Event) (none : sends_of event ≡ 0) where
   pass-quiet : (turn : Stepped State Packet) (chain : Chain) → is_chain d chain ≡ true → (pass d at event turn chain).out ≡ turn.out
   pass-quiet turn chain formed =
-      cond-out (is_passed at.nodes at.me at.given event chain) (take_first d at turn chain.rules) turn (λ passed.
-      let same : same_event chain.on event ≡ true = passed-event at.nodes at.me at.given event chain passed in
+      cond-out (is_passed at.nodes at.me (given_here at) event chain) (take_first d at turn chain.rules) turn (λ passed.
+      let same : same_event chain.on event ≡ true = passed-event at.nodes at.me (given_here at) event chain passed in
       found-quiet d at (scope_of chain.on) (sends_of chain.on) (same-sends chain.on event same none) turn turn.state chain.rules
       (chain-rules d chain formed))
 

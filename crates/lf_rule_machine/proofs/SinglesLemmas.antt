@@ -13,22 +13,27 @@ use Rattle.lf_rules.specs.declared.kind.Kind.{Kind}
 use Rattle.lf_rules.specs.Terms.{Term}
 use Rattle.lf_rules.specs.declared.rule.Event.{Event}
 use Rattle.lf_rules.specs.declared.rule.Event.TheVariants as events
+use Rattle.lf_rules.specs.declared.table.Table.{Table}
+use Rattle.lf_rules.specs.declared.rule.Target.{Target}
+use Rattle.lf_rules.specs.declared.rule.Target.TheVariants as targets
 use Rattle.lf_rules.specs.declared.rule.Assignment.{Assignment}
 use Rattle.lf_rules.specs.declared.rule.Send.{Send}
 use Rattle.lf_rules.specs.declared.rule.Rule.{Rule}
 use Rattle.lf_rules.specs.declared.rule.Chain.{Chain}
 use Rattle.lf_rules.specs.declared.definition.Variable.{Variable}
 use Rattle.lf_rules.specs.declared.definition.Definition.{Definition}
-use Rattle.lf_rule_machine.specs.declared.moment.Moment.{Moment}
+use Rattle.lf_rule_machine.specs.Moments.{Moment, with_it, given_here}
+use Rattle.lf_rule_machine.specs.Places.{cell_at}
 use Rattle.lf_rule_machine.specs.declared.state.State.{State}
 use Rattle.lf_rule_machine.specs.declared.state.Note.{Note}
 use Rattle.lf_rule_machine.specs.declared.state.Packet.{Packet}
+use Rattle.lf_rule_machine.specs.Sets.{has}
 use Rattle.lf_rule_machine.specs.States.{same_numbers, same_note, place_for, is_lost, packed, packet_of}
 use Rattle.lf_rule_machine.specs.Values.{value_of}
-use Rattle.lf_rule_machine.specs.Events.{is_passed, is_receiver, place_in, place, put, put_all, kinds_of, assign_to, assign, fill_as, fill, drafted, send}
+use Rattle.lf_rule_machine.specs.Events.{is_passed, is_receiver, place_in, place, put, put_all, kinds_of, set_variable, set_found, set_cell}
+use Rattle.lf_rule_machine.specs.Events.{set_member, set_each, assign_to, assign, Draft, fill_as, fill, drafted, put_draft, place_draft, send_one, send_each, send}
 use Rattle.lf_rule_machine.specs.Events.{first_true, do_found, take_first, pass, act}
 use Rattle.lf_rule_machine.specs.Machines.{moment, no_fields, act_alone, hear_of, step_of}
-use Rattle.lf_rule_machine.specs.declared.sending.Draft.{Draft}
 use Rattle.lf_rule_machine.specs.RuledLemmas.{fold-keeps}
 use Rattle.lf_rule_machine.specs.Singles as singles
 use Rattle.lf_rule_machine.specs.SingleRuns.{single, IsSingle, AreSingles, letter_in_packet, out_in_packets, in_packets}
@@ -166,6 +171,19 @@ cond-follows true f g follows = record {
 }
 cond-follows false f g follows = record { kept = λ notes. inl refl; two = λ turn two. two; replaced = λ notes so. so }
 
+choice-follows : (b : Bool) (f h : Stepped State Packet → Stepped State Packet) (g k : Stepped State Note → Stepped State Note) → Follows f g → Follows h k
+    → Follows (λ turn. cond b (f turn) (h turn)) (λ notes. cond b (g notes) (k notes))
+choice-follows true f h g k this that = record {
+  kept = λ notes. this.kept notes;
+  two = λ turn two. this.two turn two;
+  replaced = λ notes so. this.replaced notes so;
+}
+choice-follows false f h g k this that = record {
+  kept = λ notes. that.kept notes;
+  two = λ turn two. that.two turn two;
+  replaced = λ notes so. that.replaced notes so;
+}
+
 or-left : (b c : Bool) → b ≡ true → (b || c) ≡ true
 or-left true c so = refl
 or-left false c so = absurd (cc)
@@ -233,6 +251,58 @@ place-follows note m = record {
   replaced = λ notes so. or-left notes.state.replaced (singles.is_another (note_to notes.out m) note) so;
 }
 
+-- that a note was replaced is remembered, whatever is set
+cond-replaced : (b : Bool) (one other : State) → one.replaced ≡ true → other.replaced ≡ true → (cond b one other).replaced ≡ true
+cond-replaced true one other this that = this
+cond-replaced false one other this that = that
+
+module _ (d : Definition) (at : Moment) where
+  field-replaced : (draft : Draft) (k : ℕ) (kind : Option Kind) (e : Term) → (fill_as d at draft k kind e).state.replaced ≡ draft.state.replaced
+  field-replaced draft k None e = refl
+  field-replaced draft k (Some kind) e = refl
+
+  fill-replaced : (kinds : List Kind) (draft : Draft) (k : ℕ) (es : List Term) → (fill d at kinds draft k es).state.replaced ≡ draft.state.replaced
+  fill-replaced kinds draft k [] = refl
+  fill-replaced kinds draft k (e ∷ es) =
+      fill-replaced kinds (fill_as d at draft k (slice_get kinds k) e) (k + 1) es ∙ field-replaced draft k (slice_get kinds k) e
+
+  draft-replaced : (state : State) (x : Send) → (drafted d at state x).state.replaced ≡ state.replaced
+  draft-replaced state x = fill-replaced (kinds_of (slice_get d.notes x.form)) (record { state = state; fields = replicate 7 0 }) 0 x.fields
+
+  variable-replaced : (state : State) (i : ℕ) (found : Option Variable) (e : Term) → state.replaced ≡ true
+      → (set_variable d at state i found e).replaced ≡ true
+  variable-replaced state i None e so = so
+  variable-replaced state i (Some x) e so = so
+
+  found-replaced : (state : State) (kind : Kind) (e : Term) (place : ℕ) (cell : Option ℕ) → state.replaced ≡ true
+      → (set_found d at state kind e place cell).replaced ≡ true
+  found-replaced state kind e place None so = so
+  found-replaced state kind e place (Some i) so = so
+
+  cell-replaced : (t : Table) (found : Option Variable) (e : Term) (state : State) (place : ℕ) → state.replaced ≡ true
+      → (set_cell d at t found e state place).replaced ≡ true
+  cell-replaced t None e state place so = so
+  cell-replaced t (Some x) e state place so = found-replaced state x.kind e place (cell_at at.nodes t place) so
+
+  member-replaced : (set : ℕ) (t : Table) (found : Option Variable) (e : Term) (state : State) (n : ℕ) → state.replaced ≡ true
+      → (set_member d at set t found e state n).replaced ≡ true
+  member-replaced set t found e state n so =
+      cond-replaced (has set n) (set_cell d at t found e state n) state (cell-replaced t found e state n so) so
+
+  cells-replaced : (set : ℕ) (t : Table) (found : Option Variable) (e : Term) (state : State) → state.replaced ≡ true
+      → (set_each d at set t found e state).replaced ≡ true
+  cells-replaced set t found e state so =
+      fold-keeps (λ (x : State). x.replaced ≡ true) (set_member d at set t found e) (member-replaced set t found e) state (range_with_len 0 at.nodes) so
+
+  assigned-replaced : (state : State) (target : Target) (e : Term) → state.replaced ≡ true → (assign_to d at state target e).replaced ≡ true
+  assigned-replaced state (targets.Variable i) e so = variable-replaced state i (slice_get d.variables i) e so
+  assigned-replaced state (targets.Cell t place) e so = cell-replaced t (slice_get d.variables t.of) e state (value_of d at state place) so
+  assigned-replaced state (targets.Cells t places) e so = cells-replaced (value_of d at state places) t (slice_get d.variables t.of) e state so
+
+  sets-replaced : (sets : List Assignment) (state : State) → state.replaced ≡ true → (fold (assign d at) state sets).replaced ≡ true
+  sets-replaced sets state so =
+      fold-keeps (λ (x : State). x.replaced ≡ true) (assign d at) (λ state a so. assigned-replaced state a.target a.value so) state sets so
+
 module _ (d : Definition) (at : Moment) where
   put-follows : (set : ℕ) (note : Note) (m : ℕ) → Follows (λ turn. put at set note turn m) (λ notes. singles.put at set note notes m)
   put-follows set note m =
@@ -247,35 +317,55 @@ module _ (d : Definition) (at : Moment) where
       (singles.put_all at (value_of d at (drafted d at state x).state x.to) (record { form = x.form; fields = (drafted d at state x).fields }))
   draft-follows state x = put_all-follows (value_of d at (drafted d at state x).state x.to) (record { form = x.form; fields = (drafted d at state x).fields })
 
-  -- that a note was replaced is remembered
-  field-replaced : (draft : Draft) (k : ℕ) (kind : Option Kind) (e : Term) → (fill_as d at draft k kind e).state.replaced ≡ draft.state.replaced
-  field-replaced draft k None e = refl
-  field-replaced draft k (Some kind) e = refl
-
-  fill-replaced : (kinds : List Kind) (draft : Draft) (k : ℕ) (es : List Term) → (fill d at kinds draft k es).state.replaced ≡ draft.state.replaced
-  fill-replaced kinds draft k [] = refl
-  fill-replaced kinds draft k (e ∷ es) =
-      fill-replaced kinds (fill_as d at draft k (slice_get kinds k) e) (k + 1) es ∙ field-replaced draft k (slice_get kinds k) e
-
-  draft-replaced : (state : State) (x : Send) → (drafted d at state x).state.replaced ≡ state.replaced
-  draft-replaced state x = fill-replaced (kinds_of (slice_get d.notes x.form)) (record { state = state; fields = replicate 7 0 }) 0 x.fields
-
-  assigned-replaced : (state : State) (i : ℕ) (found : Option Variable) (e : Term) → (assign_to d at state i found e).replaced ≡ state.replaced
-  assigned-replaced state i None e = refl
-  assigned-replaced state i (Some x) e = refl
-
-  sets-replaced : (sets : List Assignment) (state : State) → state.replaced ≡ true → (fold (assign d at) state sets).replaced ≡ true
-  sets-replaced sets state so =
-      fold-keeps (λ (x : State). x.replaced ≡ true) (assign d at)
-      (λ state a so. assigned-replaced state a.variable (slice_get d.variables a.variable) a.value ∙ so) state sets so
-
-  send-follows : (x : Send) → Follows (λ turn. send d at turn x) (λ notes. singles.send d at notes x)
-  send-follows x = record {
+  alike-follow : (x : Send)
+      → Follows (λ turn. put_draft d at turn x (drafted d at turn.state x)) (λ notes. singles.put_draft d at notes x (drafted d at notes.state x))
+  alike-follow x = record {
     kept = λ notes. (draft-follows notes.state x).kept (record { state = (drafted d at notes.state x).state; out = notes.out });
     two = λ turn two. (draft-follows turn.state x).two (record { state = (drafted d at turn.state x).state; out = turn.out }) two;
     replaced = λ notes so.
-        (draft-follows notes.state x).replaced (record { state = (drafted d at notes.state x).state; out = notes.out }) (draft-replaced notes.state x ∙ so);
+        (draft-follows notes.state x).replaced (record { state = (drafted d at notes.state x).state; out = notes.out })
+        (draft-replaced d at notes.state x ∙ so);
   }
+
+  -- a receiver's own draft
+  own-follows : (state : State) (x : Send) (m : ℕ)
+      → Follows (λ turn. place (record { form = x.form; fields = (drafted d (with_it at m) state x).fields }) turn m)
+      (λ notes. singles.place (record { form = x.form; fields = (drafted d (with_it at m) state x).fields }) notes m)
+  own-follows state x m = place-follows (record { form = x.form; fields = (drafted d (with_it at m) state x).fields }) m
+
+  placed-follow : (x : Send) (m : ℕ)
+      → Follows (λ turn. place_draft d at turn x m (drafted d (with_it at m) turn.state x))
+      (λ notes. singles.place_draft d at notes x m (drafted d (with_it at m) notes.state x))
+  placed-follow x m = record {
+    kept = λ notes. (own-follows notes.state x m).kept (record { state = (drafted d (with_it at m) notes.state x).state; out = notes.out });
+    two = λ turn two. (own-follows turn.state x m).two (record { state = (drafted d (with_it at m) turn.state x).state; out = turn.out }) two;
+    replaced = λ notes so.
+        (own-follows notes.state x m).replaced (record { state = (drafted d (with_it at m) notes.state x).state; out = notes.out })
+        (draft-replaced d (with_it at m) notes.state x ∙ so);
+  }
+
+  one-follows : (set : ℕ) (x : Send) (m : ℕ) → Follows (λ turn. send_one d at set x turn m) (λ notes. singles.send_one d at set x notes m)
+  one-follows set x m =
+      cond-follows (is_receiver at set m) (λ turn. place_draft d at turn x m (drafted d (with_it at m) turn.state x))
+      (λ notes. singles.place_draft d at notes x m (drafted d (with_it at m) notes.state x)) (placed-follow x m)
+
+  each-follows : (set : ℕ) (x : Send) → Follows (send_each d at set x) (singles.send_each d at set x)
+  each-follows set x = fold-follows (send_one d at set x) (singles.send_one d at set x) (one-follows set x) (range_with_len 0 at.nodes)
+
+  -- the set of nodes is that of the state
+  own-follow : (x : Send)
+      → Follows (λ turn. send_each d at (value_of d at turn.state x.to) x turn) (λ notes. singles.send_each d at (value_of d at notes.state x.to) x notes)
+  own-follow x = record {
+    kept = λ notes. (each-follows (value_of d at notes.state x.to) x).kept notes;
+    two = λ turn two. (each-follows (value_of d at turn.state x.to) x).two turn two;
+    replaced = λ notes so. (each-follows (value_of d at notes.state x.to) x).replaced notes so;
+  }
+
+  send-follows : (x : Send) → Follows (λ turn. send d at turn x) (λ notes. singles.send d at notes x)
+  send-follows x =
+      choice-follows x.each (λ turn. send_each d at (value_of d at turn.state x.to) x turn) (λ turn. put_draft d at turn x (drafted d at turn.state x))
+      (λ notes. singles.send_each d at (value_of d at notes.state x.to) x notes)
+      (λ notes. singles.put_draft d at notes x (drafted d at notes.state x)) (own-follow x) (alike-follow x)
 
   sends-follow : (xs : List Send) → Follows (λ turn. fold (send d at) turn xs) (λ notes. fold (singles.send d at) notes xs)
   sends-follow xs = fold-follows (send d at) (singles.send d at) send-follows xs
@@ -287,7 +377,7 @@ module _ (d : Definition) (at : Moment) where
     two = λ turn two. (sends-follow rule.sends).two (record { state = fold (assign d at) turn.state rule.sets; out = turn.out }) two;
     replaced = λ notes so.
         (sends-follow rule.sends).replaced (record { state = fold (assign d at) notes.state rule.sets; out = notes.out })
-        (sets-replaced rule.sets notes.state so);
+        (sets-replaced d at rule.sets notes.state so);
   }
 
   taken-follows : (rules : List Rule) → Follows (λ turn. take_first d at turn rules) (λ notes. singles.take_first d at notes rules)
@@ -299,7 +389,7 @@ module _ (d : Definition) (at : Moment) where
 
   pass-follows : (event : Event) (chain : Chain) → Follows (λ turn. pass d at event turn chain) (λ notes. singles.pass d at event notes chain)
   pass-follows event chain =
-      cond-follows (is_passed at.nodes at.me at.given event chain) (λ turn. take_first d at turn chain.rules)
+      cond-follows (is_passed at.nodes at.me (given_here at) event chain) (λ turn. take_first d at turn chain.rules)
       (λ notes. singles.take_first d at notes chain.rules) (taken-follows chain.rules)
 
   pub act-follows : (event : Event) → Follows (act d at event) (singles.act d at event)

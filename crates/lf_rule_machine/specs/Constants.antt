@@ -37,11 +37,6 @@ given_at nodes given n = map (λ i. given_value nodes n (slice_get given i)) (ra
 abbrev pub given_table : ℕ → List Given → List (List ℕ)
 given_table nodes given = map (given_at nodes given) (range_with_len 0 8)
 
--- the constants at a node
-abbrev pub row_of : Option (List ℕ) → List ℕ
-row_of None = replicate 16 0
-row_of (Some row) = row
-
 -- a list has an item for each node
 abbrev pub is_for : ℕ → Given → Bool
 is_for nodes (givens.One v) = true

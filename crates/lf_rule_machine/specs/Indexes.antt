@@ -5,7 +5,7 @@ use Rattle.lf_rules.specs.declared.rule.Event.{Event}
 use Rattle.lf_rules.specs.declared.rule.Event.TheVariants as events
 use Rattle.lf_rules.specs.declared.definition.Definition.{Definition}
 use Rattle.lf_rule_machine.specs.Choices.{chosen}
-use Rattle.lf_rule_machine.specs.Constants.{row_of}
+use Rattle.lf_rule_machine.specs.Moments.{row_of}
 
 -- events by their numbers
 abbrev pub number_of : Event → ℕ

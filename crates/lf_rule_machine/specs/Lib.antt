@@ -1,6 +1,9 @@
 pub mod Sets
 pub mod States
 pub mod Operators
+pub mod Moments
+pub mod Places
+pub mod Bodies
 pub mod Values
 pub mod Events
 pub mod Readings

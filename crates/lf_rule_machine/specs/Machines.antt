@@ -10,7 +10,7 @@ use Rattle.lf_rules.specs.declared.rule.Event.TheVariants as events
 use Rattle.lf_rules.specs.declared.definition.Given.{Given}
 use Rattle.lf_rules.specs.declared.definition.Definition.{Definition}
 use Rattle.lf_rules.specs.Forms.{is_from}
-use Rattle.lf_rule_machine.specs.declared.moment.Moment.{Moment}
+use Rattle.lf_rule_machine.specs.Moments.{Moment}
 use Rattle.lf_rule_machine.specs.declared.state.State.{State}
 use Rattle.lf_rule_machine.specs.declared.state.Note.{Note}
 use Rattle.lf_rule_machine.specs.declared.state.Packet.{Packet}
@@ -21,7 +21,7 @@ use Rattle.lf_rule_machine.specs.Sets.{is_true}
 use Rattle.lf_rule_machine.specs.States.{zeros}
 use Rattle.lf_rule_machine.specs.Values.{zero_or, value_of_fact}
 use Rattle.lf_rule_machine.specs.Events.{act}
-use Rattle.lf_rule_machine.specs.Constants.{row_of, are_given}
+use Rattle.lf_rule_machine.specs.Constants.{are_given}
 
 -- a protocol of rules with so many nodes and these values is a machine
 abbrev pub is_machine : Definition → ℕ → List Given → Bool
@@ -34,10 +34,10 @@ no_fields = replicate 7 0
 abbrev pub opened : State → Stepped State Packet
 opened s = record { state = s; out = nothing }
 
--- a moment of node n's step t
+-- a moment of node n's step t, in which it is no node's
 abbrev pub moment : ℕ → List (List ℕ) → ℕ → ℕ → ℕ → List ℕ → Moment
 moment nodes given n t sender fields =
-    record { nodes = nodes; me = n; given = row_of (slice_get given n); step = t; sender = sender; fields = fields }
+    record { nodes = nodes; me = n; given = given; step = t; sender = sender; fields = fields; it = 0 }
 
 module _ (d : Definition) (nodes : ℕ) (given : List (List ℕ)) where
   -- an event without a letter

@@ -3,7 +3,7 @@ use Rattle.std.specs.Prelude.{Bool, true, false, not, ◌&&◌, if◌then◌else
 use Rattle.lf_sim.specs.declared.out.Stepped.{Stepped}
 use Rattle.lf_rules.specs.declared.rule.Rule.{Rule}
 use Rattle.lf_rules.specs.declared.definition.Definition.{Definition}
-use Rattle.lf_rule_machine.specs.declared.moment.Moment.{Moment}
+use Rattle.lf_rule_machine.specs.Moments.{Moment}
 use Rattle.lf_rule_machine.specs.declared.state.State.{State}
 use Rattle.lf_rule_machine.specs.declared.state.Packet.{Packet}
 use Rattle.lf_rule_machine.specs.Sets.{is_true}

@@ -13,7 +13,7 @@ use Rattle.lf_rules.specs.declared.rule.Send.{Send}
 use Rattle.lf_rules.specs.declared.rule.Rule.{Rule}
 use Rattle.lf_rules.specs.declared.rule.Chain.{Chain}
 use Rattle.lf_rules.specs.declared.definition.Definition.{Definition}
-use Rattle.lf_rule_machine.specs.declared.moment.Moment.{Moment}
+use Rattle.lf_rule_machine.specs.Moments.{Moment, with_it, given_here}
 use Rattle.lf_rule_machine.specs.Instances.{Instance}
 use Rattle.lf_rule_machine.specs.declared.state.State.{State}
 use Rattle.lf_rule_machine.specs.declared.state.Note.{Note}
@@ -21,7 +21,7 @@ use Rattle.lf_rule_machine.specs.declared.state.Packet.{Packet}
 use Rattle.lf_rule_machine.specs.Sets.{has}
 use Rattle.lf_rule_machine.specs.States.{packed, packet_of}
 use Rattle.lf_rule_machine.specs.Values.{value_of}
-use Rattle.lf_rule_machine.specs.Events.{is_passed, place, is_receiver, put, put_all, drafted, send, do_rule}
+use Rattle.lf_rule_machine.specs.Events.{is_passed, place, is_receiver, put, put_all, drafted, put_draft, place_draft, send_one, send_each, send, do_rule}
 use Rattle.lf_rule_machine.specs.Events.{assign, first_true, do_found, take_first, pass, act}
 use Rattle.lf_rule_machine.specs.Machines.{moment, hear_note, hear_of, begin_of, end_of, step_of, no_fields, opened}
 use Rattle.lf_rule_machine.specs.Ruleds.{rules_of}
@@ -49,27 +49,40 @@ module _ (d : Definition) (at : Moment) where
   abbrev IsStill : Stepped State Packet → Type 0
   IsStill = IsQuiet at.nodes at.me
 
-  put-still : (set : ℕ) (note : Note) (turn : Stepped State Packet) (m : ℕ) → m < at.nodes → IsStill turn → IsStill (put at set note turn m)
-  put-still set note turn m low quiet =
-      cond-keeps IsStill (is_receiver at set m) (place note turn m) turn
-      (λ taken. record {
-        none = λ to nobody.
-            let other : to ≢ m = apart to nobody (and_parts (has set m) (not (nat_eq m at.me)) taken).1 in
-            with_note-others turn.out m (packed (packet_of (note_to turn.out m)) note) to other ∙ quiet.none to nobody;
-      }) quiet
+  place-still : (set : ℕ) (note : Note) (turn : Stepped State Packet) (m : ℕ) → m < at.nodes → is_receiver at set m ≡ true → IsStill turn
+      → IsStill (place note turn m)
+  place-still set note turn m low taken quiet = record {
+    none = λ to nobody.
+        let other : to ≢ m = apart to nobody (and_parts (has set m) (not (nat_eq m at.me)) taken).1 in
+        with_note-others turn.out m (packed (packet_of (note_to turn.out m)) note) to other ∙ quiet.none to nobody;
+  }
     where
       apart : (to : ℕ) → (to ≡ at.me) ⊎ (at.nodes ≤ to) → not (nat_eq m at.me) ≡ true → to ≢ m
       apart to (inl me) away same = both_ways (nat_eq m at.me) (not-true (nat_eq m at.me) away) (eq-eqb m at.me (sym same ∙ me))
       apart to (inr far) away same = omega (arith, same, far)
 
+  put-still : (set : ℕ) (note : Note) (turn : Stepped State Packet) (m : ℕ) → m < at.nodes → IsStill turn → IsStill (put at set note turn m)
+  put-still set note turn m low quiet =
+      cond-keeps IsStill (is_receiver at set m) (place note turn m) turn (λ taken. place-still set note turn m low taken quiet) quiet
+
   put_all-still : (set : ℕ) (note : Note) (turn : Stepped State Packet) → IsStill turn → IsStill (put_all at set note turn)
   put_all-still set note turn quiet = range-keeps IsStill (put at set note) 0 at.nodes (λ b m low h. put-still set note b m (omega arith) h) turn quiet
+
+  one-still : (set : ℕ) (x : Send) (turn : Stepped State Packet) (m : ℕ) → m < at.nodes → IsStill turn → IsStill (send_one d at set x turn m)
+  one-still set x turn m low quiet =
+      let draft = drafted d (with_it at m) turn.state x in
+      cond-keeps IsStill (is_receiver at set m) (place_draft d at turn x m draft) turn
+      (λ taken. place-still set (record { form = x.form; fields = draft.fields }) (record { state = draft.state; out = turn.out }) m low taken
+      (record { none = quiet.none })) quiet
 
   send-still : (turn : Stepped State Packet) (x : Send) → IsStill turn → IsStill (send d at turn x)
   send-still turn x quiet =
       let draft = drafted d at turn.state x in
-      put_all-still (value_of d at draft.state x.to) (record { form = x.form; fields = draft.fields }) (record { state = draft.state; out = turn.out })
-      (record { none = quiet.none })
+      let set = value_of d at turn.state x.to in
+      cond-keeps IsStill x.each (send_each d at set x turn) (put_draft d at turn x draft)
+      (λ _. range-keeps IsStill (send_one d at set x) 0 at.nodes (λ b m low h. one-still set x b m (omega arith) h) turn quiet)
+      (put_all-still (value_of d at draft.state x.to) (record { form = x.form; fields = draft.fields }) (record { state = draft.state; out = turn.out })
+      (record { none = quiet.none }))
 
   rule-still : (turn : Stepped State Packet) (rule : Rule) → IsStill turn → IsStill (do_rule d at turn rule)
   rule-still turn rule quiet =
@@ -82,7 +95,7 @@ module _ (d : Definition) (at : Moment) where
 
   pass-still : (event : Event) (turn : Stepped State Packet) (chain : Chain) → IsStill turn → IsStill (pass d at event turn chain)
   pass-still event turn chain quiet =
-      cond-keeps IsStill (is_passed at.nodes at.me at.given event chain) (take_first d at turn chain.rules) turn
+      cond-keeps IsStill (is_passed at.nodes at.me (given_here at) event chain) (take_first d at turn chain.rules) turn
       (λ _. found-still turn (first_true d at turn.state chain.rules) quiet) quiet
 
   act-still : (event : Event) (turn : Stepped State Packet) → IsStill turn → IsStill (act d at event turn)

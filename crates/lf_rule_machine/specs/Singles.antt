@@ -12,14 +12,13 @@ use Rattle.lf_rules.specs.declared.rule.Send.{Send}
 use Rattle.lf_rules.specs.declared.rule.Rule.{Rule}
 use Rattle.lf_rules.specs.declared.rule.Chain.{Chain}
 use Rattle.lf_rules.specs.declared.definition.Definition.{Definition}
-use Rattle.lf_rule_machine.specs.declared.moment.Moment.{Moment}
+use Rattle.lf_rule_machine.specs.Moments.{Moment, with_it, given_here}
 use Rattle.lf_rule_machine.specs.declared.state.State.{State}
 use Rattle.lf_rule_machine.specs.declared.state.Note.{Note}
 use Rattle.lf_rule_machine.specs.declared.fact.Fact.{Fact}
-use Rattle.lf_rule_machine.specs.declared.sending.Draft.{Draft}
 use Rattle.lf_rule_machine.specs.States.{zeros, same_note}
 use Rattle.lf_rule_machine.specs.Values.{value_of}
-use Rattle.lf_rule_machine.specs.Events.{is_passed, is_receiver, assign, drafted, first_true}
+use Rattle.lf_rule_machine.specs.Events.{is_passed, is_receiver, Draft, assign, drafted, first_true}
 use Rattle.lf_rule_machine.specs.Machines.{moment, no_fields, shows_of}
 use Rattle.lf_rule_machine.specs.Instances.{Instance}
 
@@ -48,13 +47,23 @@ module _ (at : Moment) where
   put_all set note turn = fold (put set note) turn (range_with_len 0 at.nodes)
 
 module _ (d : Definition) (at : Moment) where
-  -- a send works out its fields, then its set of nodes, and then puts the note
+  -- where no field names the receiver, a send works out its fields, then its set of nodes, and then puts the note
   abbrev pub put_draft : Stepped State Note → Send → Draft → Stepped State Note
   put_draft turn x draft =
       put_all at (value_of d at draft.state x.to) (record { form = x.form; fields = draft.fields }) (record { state = draft.state; out = turn.out })
 
+  -- where one does, it works out its set of nodes, and then for each of them but this one the fields, with it that node, and puts the note
+  abbrev pub place_draft : Stepped State Note → Send → ℕ → Draft → Stepped State Note
+  place_draft turn x m draft = place (record { form = x.form; fields = draft.fields }) (record { state = draft.state; out = turn.out }) m
+
+  abbrev pub send_one : ℕ → Send → Stepped State Note → ℕ → Stepped State Note
+  send_one set x turn m = if is_receiver at set m then place_draft turn x m (drafted d (with_it at m) turn.state x) else turn
+
+  abbrev pub send_each : ℕ → Send → Stepped State Note → Stepped State Note
+  send_each set x turn = fold (send_one set x) turn (range_with_len 0 at.nodes)
+
   abbrev pub send : Stepped State Note → Send → Stepped State Note
-  send turn x = put_draft turn x (drafted d at turn.state x)
+  send turn x = if x.each then send_each (value_of d at turn.state x.to) x turn else put_draft turn x (drafted d at turn.state x)
 
   -- a rule that is taken makes its assignments from the left, and then its sends from the left
   abbrev pub do_rule : Stepped State Note → Rule → Stepped State Note
@@ -70,7 +79,7 @@ module _ (d : Definition) (at : Moment) where
 
   -- a chain that isn't gone through does nothing
   abbrev pub pass : Event → Stepped State Note → Chain → Stepped State Note
-  pass event turn chain = if is_passed at.nodes at.me at.given event chain then take_first turn chain.rules else turn
+  pass event turn chain = if is_passed at.nodes at.me (given_here at) event chain then take_first turn chain.rules else turn
 
   -- an event goes through the chains in order
   unfoldable pub act : Event → Stepped State Note → Stepped State Note

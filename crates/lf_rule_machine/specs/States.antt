@@ -1,13 +1,13 @@
 -- States and notes.
-use Rattle.std.specs.Prelude.{ℕ, zero, suc, Bool, true, false, not, ◌&&◌, ◌==◌, if◌then◌else◌}
+use Rattle.std.specs.Prelude.{ℕ, suc, Bool, true, false, not, ◌&&◌, ◌==◌, if◌then◌else◌}
 use Rattle.std.specs.Prelude.{List, [], ◌∷◌, Option, None, Some, replicate, slice_get, slice_set}
 use Rattle.lf_rule_machine.specs.declared.state.State.{State}
 use Rattle.lf_rule_machine.specs.declared.state.Note.{Note}
 use Rattle.lf_rule_machine.specs.declared.state.Packet.{Packet}
 
--- every variable is 0
+-- every cell is 0
 abbrev pub zeros : State
-zeros = record { values = replicate 16 0; clamped = false; replaced = false }
+zeros = record { values = replicate 64 0; clamped = false; replaced = false }
 
 -- two lists have the same numbers in the same order
 abbrev pub same_numbers : List ℕ → List ℕ → Bool

@@ -5,23 +5,24 @@ ghost use Rattle.std.specs.List.{fold};
 ghost use Rattle.std.specs.Option.{option_map};
 ghost use Rattle.lf_rule_machine.specs.Sets.{is_true};
 ghost use Rattle.lf_rule_machine.specs.Values.{value_of};
-ghost use Rattle.lf_rule_machine.specs.Events.{assign, do_rule, first_true, take_first};
+ghost use Rattle.lf_rule_machine.specs.Moments.{seen};
+ghost use Rattle.lf_rule_machine.specs.Events.{do_rule, first_true, take_first};
 ghost use Rattle.lf_rule_machine.specs.Choices.{take_at};
 
-use crate::fitting::{fitted, put_item, remember};
+use crate::assigning::assign_all;
 use crate::sending::send_all;
 use crate::{Moment, Packet, State, value_of};
-use lf_rules::{Assignment, Definition, Rule};
+use lf_rules::{Definition, Rule};
 use lf_sim::Stepped;
 
 /// Takes a node through the chains that have these numbers, in order.
 pub fn go_through(
     definition: &Definition,
-    at: &Moment,
+    at: &Moment<'_>,
     turn: &mut Stepped<State, Packet>,
     numbers: &[usize],
 )
-    ensures { turn.new ≡ fold (take_at definition.now at.now) turn.old numbers.now }
+    ensures { turn.new ≡ fold (take_at definition.now (seen at.now)) turn.old numbers.now }
 {
     for number in numbers {
         take_at(definition, at, turn, *number);
@@ -29,8 +30,13 @@ pub fn go_through(
 }
 
 /// Takes it through the chain that has a number.
-fn take_at(definition: &Definition, at: &Moment, turn: &mut Stepped<State, Packet>, number: usize)
-    ensures { turn.new ≡ take_at definition.now at.now turn.old number }
+fn take_at(
+    definition: &Definition,
+    at: &Moment<'_>,
+    turn: &mut Stepped<State, Packet>,
+    number: usize,
+)
+    ensures { turn.new ≡ take_at definition.now (seen at.now) turn.old number }
 {
     match definition.chains.as_slice().get(number) {
         Some(chain) => take_first(definition, at, turn, chain.rules.as_slice()),
@@ -41,11 +47,11 @@ fn take_at(definition: &Definition, at: &Moment, turn: &mut Stepped<State, Packe
 /// Takes the first rule whose guard is true.
 fn take_first(
     definition: &Definition,
-    at: &Moment,
+    at: &Moment<'_>,
     turn: &mut Stepped<State, Packet>,
     rules: &[Rule],
 )
-    ensures { turn.new ≡ take_first definition.now at.now turn.old rules.now }
+    ensures { turn.new ≡ take_first definition.now (seen at.now) turn.old rules.now }
 {
     match first_true(definition, at, &turn.state, rules) {
         Some(rule) => do_rule(definition, at, turn, rule),
@@ -56,11 +62,11 @@ fn take_first(
 /// The first rule whose guard is true.
 fn first_true<'a>(
     definition: &Definition,
-    at: &Moment,
+    at: &Moment<'_>,
     state: &State,
     rules: &'a [Rule],
 ) -> Option<&'a Rule>
-    ensures { option_map (λ rule. rule.now) result ≡ first_true definition.now at.now state.now rules.now }
+    ensures { option_map (λ rule. rule.now) result ≡ first_true definition.now (seen at.now) state.now rules.now }
 {
     for rule in rules {
         if is_guarded(definition, at, state, rule) {
@@ -71,47 +77,16 @@ fn first_true<'a>(
 }
 
 /// Whether a rule's guard is true.
-fn is_guarded(definition: &Definition, at: &Moment, state: &State, rule: &Rule) -> bool
-    ensures { result ≡ is_true (value_of definition.now at.now state.now rule.now.guard) }
+fn is_guarded(definition: &Definition, at: &Moment<'_>, state: &State, rule: &Rule) -> bool
+    ensures { result ≡ is_true (value_of definition.now (seen at.now) state.now rule.now.guard) }
 {
     value_of(definition, at, state, &rule.guard) != 0
 }
 
 /// Does what a rule says: its assignments, and then its sends.
-fn do_rule(definition: &Definition, at: &Moment, turn: &mut Stepped<State, Packet>, rule: &Rule)
-    ensures { turn.new ≡ do_rule definition.now at.now turn.old rule.now }
+fn do_rule(definition: &Definition, at: &Moment<'_>, turn: &mut Stepped<State, Packet>, rule: &Rule)
+    ensures { turn.new ≡ do_rule definition.now (seen at.now) turn.old rule.now }
 {
     assign_all(definition, at, &mut turn.state, rule.sets.as_slice());
     send_all(definition, at, turn, rule.sends.as_slice());
-}
-
-/// Makes a rule's assignments, from the left.
-fn assign_all(definition: &Definition, at: &Moment, state: &mut State, sets: &[Assignment])
-    ensures { state.new ≡ fold (assign definition.now at.now) state.old sets.now }
-{
-    for set in sets {
-        assign(definition, at, state, set);
-    }
-}
-
-/// Makes one assignment.
-fn assign(definition: &Definition, at: &Moment, state: &mut State, set: &Assignment)
-    ensures { state.new ≡ assign definition.now at.now state.old set.now }
-{
-    match definition
-        .variables
-        .as_slice()
-        .get(usize::from(set.variable))
-    {
-        Some(variable) => {
-            let value = value_of(definition, at, state, &set.value);
-            remember(variable.kind, value, state);
-            put_item(
-                &mut state.values,
-                usize::from(set.variable),
-                fitted(variable.kind, value),
-            );
-        }
-        None => {}
-    }
 }

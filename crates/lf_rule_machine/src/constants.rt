@@ -1,7 +1,8 @@
 //! The values of constants.
 
 ghost use Rattle.std.specs.Prelude.{◌≡◌, slice_get};
-ghost use Rattle.lf_rule_machine.specs.Constants.{constant_value, value_at, given_value, given_at, given_table, row_of, is_for, are_given};
+ghost use Rattle.lf_rule_machine.specs.Constants.{constant_value, value_at, given_value, given_at, given_table, is_for, are_given};
+ghost use Rattle.lf_rule_machine.specs.Moments.{row_of};
 
 use crate::{fixed_value, sets, truth};
 use lf_rules::{Constant, Definition, Given, Value};

@@ -1,12 +1,13 @@
 //! What the definitions mean in other words: laws, each the contract of a call that computes nothing.
 
-ghost use Rattle.std.specs.Prelude.{◌≡◌, List};
+ghost use Rattle.std.specs.Prelude.{◌≡◌, List, true};
 ghost use Rattle.std.specs.List.{fold};
 ghost use Rattle.lf_sim.specs.declared.out.Stepped.{Stepped};
 ghost use Rattle.lf_rules.specs.declared.rule.Rule.{Rule};
 ghost use Rattle.lf_rules.specs.declared.rule.Event.{Event};
 ghost use Rattle.lf_rules.specs.declared.definition.Definition.{Definition};
-ghost use Rattle.lf_rule_machine.specs.declared.moment.Moment.{Moment};
+ghost use Rattle.lf_rules.specs.Forms.{is_well_formed};
+ghost use Rattle.lf_rule_machine.specs.Moments.{Moment, given_here};
 ghost use Rattle.lf_rule_machine.specs.declared.state.State.{State};
 ghost use Rattle.lf_rule_machine.specs.declared.state.Packet.{Packet};
 ghost use Rattle.lf_rule_machine.specs.Events.{take_first, act};
@@ -23,11 +24,11 @@ pub fn chains_by_what_was_taken()
 /// What a node does at an event is what it does with the chains that it goes through at it.
 pub fn chosen_chains_are_all()
     ensures { (d : Definition) (at : Moment) (event : Event) (turn : Stepped State Packet) →
-        fold (take_at d at) turn (chosen d at.nodes at.me at.given event) ≡ act d at event turn }
+        fold (take_at d at) turn (chosen d at.nodes at.me (given_here at) event) ≡ act d at event turn }
 {}
 
-/// No event takes a variable's value past the greatest of its kind.
+/// Where a definition is well formed, no event takes a cell's value past the greatest of its kind.
 pub fn events_keep_ranges()
-    ensures { (d : Definition) (at : Moment) (event : Event) (turn : Stepped State Packet) →
+    ensures { (d : Definition) (at : Moment) (event : Event) (turn : Stepped State Packet) → is_well_formed d ≡ true →
         IsInRange d turn.state → IsInRange d (act d at event turn).state }
 {}

@@ -2,7 +2,7 @@
 
 ghost use Rattle.std.specs.Prelude.{◌≡◌, ◌||◌, nat_lt, slice_set};
 ghost use Rattle.lf_rules.specs.Kinds.{most_of};
-ghost use Rattle.lf_rule_machine.specs.Events.{fitted, remembered};
+ghost use Rattle.lf_rule_machine.specs.Events.{fitted, remembered, set_fitted};
 
 use crate::State;
 use lf_rules::Kind;
@@ -28,6 +28,14 @@ pub(crate) fn remember(kind: Kind, value: u64, state: &mut State)
     ensures { state.new ≡ remembered kind value state.old }
 {
     state.clamped = is_clamped(state.clamped, kind, value);
+}
+
+/// Gives a cell a value, as it is stored, and remembers whether it went past the greatest of its kind.
+pub(crate) fn set_fitted(state: &mut State, kind: Kind, cell: usize, value: u64)
+    ensures { state.new ≡ set_fitted state.old kind cell value }
+{
+    remember(kind, value, state);
+    put_item(&mut state.values, cell, fitted(kind, value));
 }
 
 /// Whether a value went past the greatest of its kind, now or before.

@@ -1,15 +1,15 @@
 //! A protocol of rules with what is worked out of it once, and what a node does by it.
 
-ghost use Rattle.std.specs.Prelude.{◌≡◌, ◌≤◌, map, slice_get};
+ghost use Rattle.std.specs.Prelude.{◌≡◌, ◌≤◌, map};
 ghost use Rattle.std.specs.Arc.{arc_value};
 ghost use Rattle.std.specs.List.{fold};
-ghost use Rattle.lf_rule_machine.specs.Constants.{row_of};
+ghost use Rattle.lf_rule_machine.specs.Moments.{seen};
 ghost use Rattle.lf_rule_machine.specs.Indexes.{rows_of};
 ghost use Rattle.lf_rule_machine.specs.Events.{act};
 ghost use Rattle.lf_rule_machine.specs.Machines.{moment, act_alone, hear_note, hear_of, is_told, shows_of};
 
-use crate::constants::constants_at;
-use crate::{Fact, Moment, Note, Packet, State, Told, fact_value, go_through, index, item};
+use crate::places::item;
+use crate::{Fact, Moment, Note, Packet, State, Told, fact_value, go_through, index};
 use lf_rules::{Event, Rules};
 use lf_sim::{Letter, Stepped};
 use std::sync::Arc;
@@ -100,26 +100,27 @@ impl Indexed {
     }
 
     /// Acts at an event.
-    fn act(&self, at: &Moment, event: Event, turn: &mut Stepped<State, Packet>)
+    fn act(&self, at: &Moment<'_>, event: Event, turn: &mut Stepped<State, Packet>)
         requires nodes { at.now.nodes ≡ self.now.nodes }
-        requires given { at.now.given ≡ row_of (slice_get self.now.given at.now.me) }
-        ensures { turn.new ≡ act (arc_value self.now.rules) at.now event turn.old }
+        requires given { at.now.given.now ≡ self.now.given }
+        ensures { turn.new ≡ act (arc_value self.now.rules) (seen at.now) event turn.old }
     {
         let numbers = index::row_for(self.rows.as_slice(), at.me, event);
         go_through(self.rules.definition(), at, turn, numbers);
     }
 
     /// A moment of a node's step.
-    fn moment(&self, node: u32, t: u32, sender: u32, fields: [u8; 7]) -> Moment
-        ensures { result ≡ moment self.now.nodes self.now.given node t sender fields }
+    pub fn moment(&self, node: u32, t: u32, sender: u32, fields: [u8; 7]) -> Moment<'_>
+        ensures { seen result ≡ moment self.now.nodes self.now.given node t sender fields }
     {
         Moment {
             nodes: self.nodes,
             me: node,
-            given: constants_at(&self.given, node),
+            given: &self.given,
             step: t,
             sender,
             fields,
+            it: 0,
         }
     }
 

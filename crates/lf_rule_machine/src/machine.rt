@@ -3,12 +3,13 @@
 ghost use Rattle.std.specs.Prelude.{◌≡◌, ◌↔◌, true, IsSome, IsTrue, IfSome, IfOk, slice_get};
 ghost use Rattle.lf_rules.specs.Forms.{is_well_formed};
 ghost use Rattle.std.specs.Arc.{arc_value};
-ghost use Rattle.lf_rule_machine.specs.Constants.{given_table, row_of};
-ghost use Rattle.lf_rule_machine.specs.Machines.{is_machine, opened, begin_of, hear_of, end_of};
+ghost use Rattle.lf_rule_machine.specs.Constants.{given_table};
+ghost use Rattle.lf_rule_machine.specs.Moments.{row_of, seen};
+ghost use Rattle.lf_rule_machine.specs.Machines.{is_machine, moment, opened, begin_of, hear_of, end_of};
 
 use crate::constants::{are_given, constants_at, given_table};
 use crate::indexed::Indexed;
-use crate::{Fact, Packet, State, index};
+use crate::{Fact, Moment, Packet, State, index};
 use lf_rules::{Definition, Event, Given, Rules};
 use lf_sim::{Letter, Machine, Out, Stepped};
 use std::alloc::{AllocError, Global};
@@ -92,6 +93,13 @@ impl Ruled {
         ensures { result ≡ row_of (slice_get self.now.given node) }
     {
         constants_at(&self.indexed.given, node)
+    }
+
+    /// A moment of a node's step `t` at which a letter by a sender is heard, whose note has these fields. All of these are 0 where none is heard.
+    pub fn moment(&self, node: u32, t: u32, sender: u32, fields: [u8; 7]) -> Moment<'_>
+        ensures { seen result ≡ moment self.now.nodes self.now.given node t sender fields }
+    {
+        self.indexed.moment(node, t, sender, fields)
     }
 
     /// What a node does at step `t` before its inbox: the state and the notes that it comes to.

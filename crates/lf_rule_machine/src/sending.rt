@@ -1,59 +1,107 @@
 //! How notes are sent.
 
-ghost use Rattle.std.specs.Prelude.{◌≡◌, Some, slice_get};
+ghost use Rattle.std.specs.Prelude.{◌≡◌, Some, slice_get, replicate};
 ghost use Rattle.std.specs.List.{fold};
-ghost use Rattle.lf_rule_machine.specs.Events.{fill_as, fill, drafted, kinds_of, is_receiver, place, put, put_all, send};
+ghost use Rattle.lf_rule_machine.specs.Moments.{seen, with_it};
+ghost use Rattle.lf_rule_machine.specs.Events.{fill_as, fill, drafted, kinds_of, is_receiver, place, put, put_all, send, send_one, send_each, put_draft};
 
 use crate::fitting::{fitted, put_item, remember};
 use crate::{Moment, Note, Packet, State, sets, value_of};
 use lf_rules::{Definition, Expr, Kind, Send};
 use lf_sim::Stepped;
 
-/// A note's fields as they are worked out, with the state that this leaves.
-#[derive(Clone, Copy)]
-pub(crate) struct Draft {
-    state: State,
-    fields: [u8; 7],
-}
-
 /// Sends a rule's notes, from the left.
 pub(crate) fn send_all(
     definition: &Definition,
-    at: &Moment,
+    at: &Moment<'_>,
     turn: &mut Stepped<State, Packet>,
     sends: &[Send],
 )
-    ensures { turn.new ≡ fold (send definition.now at.now) turn.old sends.now }
+    ensures { turn.new ≡ fold (send definition.now (seen at.now)) turn.old sends.now }
 {
     for message in sends {
         send(definition, at, turn, message);
     }
 }
 
-/// Sends a note: works out its fields, then its set of nodes, and then puts it.
-fn send(definition: &Definition, at: &Moment, turn: &mut Stepped<State, Packet>, message: &Send)
-    ensures { turn.new ≡ send definition.now at.now turn.old message.now }
+/// Sends a note.
+fn send(definition: &Definition, at: &Moment<'_>, turn: &mut Stepped<State, Packet>, message: &Send)
+    ensures { turn.new ≡ send definition.now (seen at.now) turn.old message.now }
 {
-    let draft = drafted(definition, at, turn.state, message);
-    let note = Note {
-        form: message.form,
-        fields: draft.fields,
-    };
-    let set = value_of(definition, at, &draft.state, &message.to);
-    turn.state = draft.state;
+    if message.each {
+        let set = value_of(definition, at, &turn.state, &message.to);
+        send_each(definition, at, set, message, turn);
+    } else {
+        send_alike(definition, at, turn, message);
+    }
+}
+
+/// Sends a note with the same fields to each node: works out its fields, then its set of nodes, and then puts it.
+fn send_alike(
+    definition: &Definition,
+    at: &Moment<'_>,
+    turn: &mut Stepped<State, Packet>,
+    message: &Send,
+)
+    ensures { turn.new
+        ≡ put_draft definition.now (seen at.now) turn.old message.now (drafted definition.now (seen at.now) turn.old.state message.now) }
+{
+    let note = drafted(definition, at, &mut turn.state, message);
+    let set = value_of(definition, at, &turn.state, &message.to);
     put_all(at, set, note, turn);
 }
 
-/// A note's fields.
-fn drafted(definition: &Definition, at: &Moment, state: State, message: &Send) -> Draft
-    ensures { result ≡ drafted definition.now at.now state message.now }
+/// Sends each node of a set but the sender a note with fields of its own.
+fn send_each(
+    definition: &Definition,
+    at: &Moment<'_>,
+    set: u64,
+    message: &Send,
+    turn: &mut Stepped<State, Packet>,
+)
+    ensures { turn.new ≡ send_each definition.now (seen at.now) set message.now turn.old }
 {
-    let draft = Draft {
-        state,
-        fields: [0; 7],
-    };
+    for to in 0..at.nodes {
+        send_one(definition, at, set, message, turn, to);
+    }
+}
+
+/// Sends one node a note, if that is another one of the set: works out the fields with that node for `It`, and puts the note.
+fn send_one(
+    definition: &Definition,
+    at: &Moment<'_>,
+    set: u64,
+    message: &Send,
+    turn: &mut Stepped<State, Packet>,
+    to: u32,
+)
+    ensures { turn.new ≡ send_one definition.now (seen at.now) set message.now turn.old to }
+{
+    if is_receiver(at, set, to) {
+        let note = drafted(definition, &at.with_it(to), &mut turn.state, message);
+        place(note, turn, to);
+    }
+}
+
+/// A note, whose fields are worked out.
+fn drafted(definition: &Definition, at: &Moment<'_>, state: &mut State, message: &Send) -> Note
+    ensures state { state.new ≡ (drafted definition.now (seen at.now) state.old message.now).state }
+    ensures note { result ≡ record { form = message.now.form; fields = (drafted definition.now (seen at.now) state.old message.now).fields } }
+{
+    let mut fields = [0; 7];
     let kinds = kinds_of(definition, message.form);
-    fill(definition, at, kinds, draft, message.fields.as_slice())
+    fill(
+        definition,
+        at,
+        kinds,
+        state,
+        &mut fields,
+        message.fields.as_slice(),
+    );
+    Note {
+        form: message.form,
+        fields,
+    }
 }
 
 /// The kinds of a note's fields, and none where there is no such form.
@@ -66,63 +114,65 @@ fn kinds_of(definition: &Definition, form: u8) -> &[Kind]
     }
 }
 
-/// The fields of these kinds, from the left.
+/// Works out the fields of these kinds, from the left.
 fn fill(
     definition: &Definition,
-    at: &Moment,
+    at: &Moment<'_>,
     kinds: &[Kind],
-    draft: Draft,
+    state: &mut State,
+    fields: &mut [u8; 7],
     values: &[Expr],
-) -> Draft
-    ensures { result ≡ fill definition.now at.now kinds.now draft 0 values.now }
+)
+    ensures { record { state = state.new; fields = fields.new }
+        ≡ fill definition.now (seen at.now) kinds.now (record { state = state.old; fields = fields.old }) 0 values.now }
 {
-    let mut draft = draft;
     for (k, value) in values.iter().enumerate() {
-        draft = fill_one(definition, at, kinds, draft, k, value);
+        fill_one(definition, at, kinds, state, fields, k, value);
     }
-    draft
 }
 
 /// The k-th field, where the form has it.
 fn fill_one(
     definition: &Definition,
-    at: &Moment,
+    at: &Moment<'_>,
     kinds: &[Kind],
-    draft: Draft,
+    state: &mut State,
+    fields: &mut [u8; 7],
     k: usize,
     value: &Expr,
-) -> Draft
-    ensures { result ≡ fill_as definition.now at.now draft k (slice_get kinds.now k) value.now }
+)
+    ensures { record { state = state.new; fields = fields.new }
+        ≡ fill_as definition.now (seen at.now) (record { state = state.old; fields = fields.old }) k (slice_get kinds.now k) value.now }
 {
     match kinds.get(k) {
-        Some(kind) => fill_as(definition, at, draft, k, *kind, value),
-        None => draft,
+        Some(kind) => fill_as(definition, at, state, fields, k, *kind, value),
+        None => {}
     }
 }
 
-/// A field that is worked out.
+/// Works out a field.
 fn fill_as(
     definition: &Definition,
-    at: &Moment,
-    draft: Draft,
+    at: &Moment<'_>,
+    state: &mut State,
+    fields: &mut [u8; 7],
     k: usize,
     kind: Kind,
     value: &Expr,
-) -> Draft
-    ensures { result ≡ fill_as definition.now at.now draft k (Some kind) value.now }
+)
+    ensures { record { state = state.new; fields = fields.new }
+        ≡ fill_as definition.now (seen at.now) (record { state = state.old; fields = fields.old }) k (Some kind) value.now }
 {
-    let value = value_of(definition, at, &draft.state, value);
-    let mut draft = draft;
-    remember(kind, value, &mut draft.state);
-    put_item(&mut draft.fields, k, fitted(kind, value));
-    draft
+    let value = value_of(definition, at, state, value);
+    remember(kind, value, state);
+    put_item(fields, k, fitted(kind, value));
 }
 
 /// Puts a note for each node of a set but the sender.
 // Never inlined: a loop over rules would be entered with the place of each note at hand, though few rules send.
 #[inline(never)]
-fn put_all(at: &Moment, set: u64, note: Note, turn: &mut Stepped<State, Packet>)
-    ensures { turn.new ≡ put_all at.now set note turn.old }
+fn put_all(at: &Moment<'_>, set: u64, note: Note, turn: &mut Stepped<State, Packet>)
+    ensures { turn.new ≡ put_all (seen at.now) set note turn.old }
 {
     for to in 0..at.nodes {
         put(at, set, note, turn, to);
@@ -130,8 +180,8 @@ fn put_all(at: &Moment, set: u64, note: Note, turn: &mut Stepped<State, Packet>)
 }
 
 /// Puts a note for one node, if that is another one of the set.
-fn put(at: &Moment, set: u64, note: Note, turn: &mut Stepped<State, Packet>, to: u32)
-    ensures { turn.new ≡ put at.now set note turn.old to }
+fn put(at: &Moment<'_>, set: u64, note: Note, turn: &mut Stepped<State, Packet>, to: u32)
+    ensures { turn.new ≡ put (seen at.now) set note turn.old to }
 {
     if is_receiver(at, set, to) {
         place(note, turn, to);
@@ -139,8 +189,8 @@ fn put(at: &Moment, set: u64, note: Note, turn: &mut Stepped<State, Packet>, to:
 }
 
 /// Whether a node is another one of the set.
-fn is_receiver(at: &Moment, set: u64, to: u32) -> bool
-    ensures { result ≡ is_receiver at.now set to }
+fn is_receiver(at: &Moment<'_>, set: u64, to: u32) -> bool
+    ensures { result ≡ is_receiver (seen at.now) set to }
 {
     sets::has(set, u64::from(to)) && to != at.me
 }

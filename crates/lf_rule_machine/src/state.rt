@@ -6,8 +6,8 @@ ghost use Rattle.lf_rule_machine.specs.States.{empty, is_lost, loses, packed, pl
 /// What a node keeps from one step to the next.
 #[derive(Clone, Copy, Debug, PartialEq, Eq, PartialOrd, Ord)]
 pub struct State {
-    /// The value of each variable, by its number; 0 from the last variable on.
-    pub values: [u8; 16],
+    /// The value of each cell, by its number; 0 from the last cell on.
+    pub values: [u8; 64],
     /// Whether a value once went past the greatest of its kind, and became that one.
     pub clamped: bool,
     /// Whether a note of this node once took the place of another one of its form, for the same node at the same step, or wasn't put, since the packet had
@@ -31,12 +31,12 @@ pub struct Packet {
 }
 
 impl State {
-    /// The state in which every variable is 0.
+    /// The state in which every cell is 0.
     pub fn zeros() -> State
         ensures { result ≡ zeros }
     {
         State {
-            values: [0; 16],
+            values: [0; 64],
             clamped: false,
             replaced: false,
         }

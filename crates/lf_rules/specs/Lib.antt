@@ -1,5 +1,6 @@
 pub mod Terms
 pub mod Trees
 pub mod Kinds
+pub mod Tables
 pub mod Sorts
 pub mod Forms

@@ -5,13 +5,16 @@ use crate::kind::Kind;
 use crate::name::Name;
 use crate::rule::Chain;
 use crate::sort::Sort;
+use crate::table::Cells;
 use lf_list::Listed;
 
-/// A variable of a node's state. It is 0 at first: false, no nodes, the number 0, or the first word.
+/// A variable of a node's state. Each of its cells is 0 at first: false, no nodes, the number 0, or the first word.
 #[derive(Debug, Drop)]
 pub struct Variable {
     pub name: Name,
+    /// The kind of each cell.
     pub kind: Kind,
+    pub cells: Cells,
     /// The words, in order, where it has words of its own.
     pub words: Listed<Name>,
 }

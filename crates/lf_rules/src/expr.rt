@@ -2,8 +2,9 @@
 
 ghost use Rattle.std.specs.Prelude.{◌≡◌, ◌≤◌, ◌↔◌, IsSome, IfSome, min};
 ghost use Rattle.lf_rules.specs.Terms.{term_of};
-ghost use Rattle.lf_rules.specs.Trees.{parts};
+ghost use Rattle.lf_rules.specs.Trees.{parts, has_it, is_it};
 
+use crate::table::Table;
 use std::marker::Model;
 
 /// The most parts that an expression has.
@@ -44,6 +45,8 @@ pub enum Leaf {
     Let(u8),
     /// A named guard, by its number, as if it stood here.
     Fact(u8),
+    /// The node for which a body is worked out, or the receiver of a note, or the node whose cell is set.
+    It,
 }
 
 /// An expression as a tree. It has a value at each moment of a node's step, and nothing fails or changes where it is worked out.
@@ -59,6 +62,10 @@ pub enum Tree {
     Unary(Unary, Box<Tree>),
     /// What comes of two values.
     Binary(Binary, Box<Tree>, Box<Tree>),
+    /// What stands at a place: 0 where there is none.
+    At(Row, Box<Tree>),
+    /// What comes of a set of nodes and a body, which is worked out with `It` each of the nodes.
+    Over(Over, Box<Tree>, Box<Tree>),
 }
 
 /// What comes of one value.
@@ -109,6 +116,26 @@ pub enum Binary {
     Between,
     /// Whether more than half of the nodes of the second set are in the first.
     Majority,
+}
+
+/// What has an item for each of some places.
+#[derive(Clone, Copy, Debug, PartialEq, Eq)]
+pub enum Row {
+    /// A table: its cells.
+    Table(Table),
+    /// A constant, by its number: its value at each node.
+    Given(u8),
+}
+
+/// What comes of a set of nodes and a body.
+#[derive(Clone, Copy, Debug, PartialEq, Eq)]
+pub enum Over {
+    /// The nodes of the set for which the body is true.
+    Those,
+    /// The least value of the body for a node of the set, and 255 where the set has none.
+    Least,
+    /// The greatest value of the body for a node of the set, and 0 where the set has none.
+    Greatest,
 }
 
 /// An expression of at most 256 parts: so small that no value of it, of what it names, or on the way passes 64 bits.
@@ -164,5 +191,29 @@ fn count_parts(tree: &Tree) -> u32
         Tree::Binary(_, a, b) => count_parts(a)
             .saturating_add(count_parts(b))
             .saturating_add(1),
+        Tree::At(_, place) => count_parts(place).saturating_add(1),
+        Tree::Over(_, set, body) => count_parts(set)
+            .saturating_add(count_parts(body))
+            .saturating_add(1),
     }
+}
+
+/// Whether `It` stands in a tree, outside of bodies of its own.
+pub(crate) fn has_it(tree: &Tree) -> bool
+    ensures { result ≡ has_it (term_of tree.now) }
+{
+    match tree {
+        Tree::Leaf(leaf) => is_it(*leaf),
+        Tree::Unary(_, a) => has_it(a),
+        Tree::Binary(_, a, b) => has_it(a) || has_it(b),
+        Tree::At(_, place) => has_it(place),
+        Tree::Over(_, set, _) => has_it(set),
+    }
+}
+
+/// Whether an expression begins with `It`.
+fn is_it(leaf: Leaf) -> bool
+    ensures { result ≡ is_it leaf }
+{
+    matches!(leaf, Leaf::It)
 }

@@ -3,14 +3,12 @@
 ghost use Rattle.std.specs.Prelude.{◌≡◌, slice_get, min};
 ghost use Rattle.std.specs.List.{list_all};
 ghost use Rattle.lf_rules.specs.Forms.{is_from, has_words, is_kind, is_word_of, is_variable, are_variables, is_form, is_value, is_given};
-ghost use Rattle.lf_rules.specs.Forms.{is_constant, is_let, is_fact, is_assigned, is_assignment, are_fields, are_sent, is_send, is_rule_in};
-ghost use Rattle.lf_rules.specs.Forms.{is_event, scope_of, sends_of, is_chain, rules_in, is_shown, is_in_limits, is_well_formed};
+ghost use Rattle.lf_rules.specs.Forms.{is_constant, is_let, is_fact, is_chain, rules_in, is_shown, is_in_limits, is_well_formed};
 
 use crate::definition::{Constant, Definition, Given, Guard, Named, NoteForm, Value, Variable};
-use crate::expr::Expr;
 use crate::kind::Kind;
-use crate::rule::{Assignment, Chain, Event, Rule, Send};
-use crate::sort::{Scope, Sort};
+use crate::rule::Chain;
+use crate::sort::{Scope, Sort, Within};
 
 impl Definition {
     /// Whether the definition is well formed: all that has a number is there, each expression is of the sort that its place wants, and nothing passes its
@@ -124,53 +122,18 @@ impl Definition {
         true
     }
 
-    /// Whether all rules are well formed that send at most so often.
-    fn are_rules(&self, scope: Scope, sends: usize, rules: &[Rule]) -> bool
-        ensures { result ≡ list_all (is_rule_in self.now scope sends) rules.now }
-    {
-        for rule in rules {
-            if !self.is_rule(scope, sends, rule) {
-                return false;
-            }
-        }
-        true
-    }
-
-    /// Whether variables may get all these values.
-    fn are_assignments(&self, scope: Scope, sets: &[Assignment]) -> bool
-        ensures { result ≡ list_all (is_assignment self.now scope) sets.now }
-    {
-        for set in sets {
-            if !self.is_assignment(scope, set) {
-                return false;
-            }
-        }
-        true
-    }
-
-    /// Whether all these notes may be sent.
-    fn are_sends(&self, scope: Scope, sends: &[Send]) -> bool
-        ensures { result ≡ list_all (is_send self.now scope) sends.now }
-    {
-        for send in sends {
-            if !self.is_send(scope, send) {
-                return false;
-            }
-        }
-        true
-    }
-
     /// Whether there is no more of anything than its limit.
     fn is_in_limits(&self) -> bool
         ensures { result ≡ is_in_limits self.now }
     {
-        is_from(1, 16, self.variables.len())
+        is_from(1, 32, self.variables.len())
+            && self.cells_in() <= 64
             && self.notes.len() <= 16
             && self.given.len() <= 16
             && self.lets.len() <= 16
             && self.facts.len() <= 32
             && rules_in(self.chains.as_slice()) <= 128
-            && is_from(1, 16, self.trace.len())
+            && is_from(1, 32, self.trace.len())
     }
 
     /// Whether the values of a kind are there.
@@ -212,14 +175,16 @@ impl Definition {
     fn is_variable(&self, i: usize, variable: &Variable) -> bool
         ensures { result ≡ is_variable self.now i variable.now }
     {
-        self.is_kind(variable.kind) && (variable.words.len() == 0 || is_word_of(i, variable.kind))
+        self.is_kind(variable.kind)
+            && variable.cells.is_cells()
+            && (variable.words.len() == 0 || is_word_of(i, variable.kind))
     }
 
     /// Whether a form of notes is well formed.
     fn is_form(&self, form: &NoteForm) -> bool
         ensures { result ≡ is_form self.now form.now }
     {
-        form.fields.len() <= 6 && self.are_kinds(form.fields.as_slice())
+        form.fields.len() <= 7 && self.are_kinds(form.fields.as_slice())
     }
 
     /// Whether a constant is well formed.
@@ -249,7 +214,8 @@ impl Definition {
             Value::Number(_) => sort.same(Sort::Number),
             Value::Truth(_) => sort.same(Sort::Truth),
             Value::Nodes(expr) => {
-                sort.same(Sort::Nodes) && self.is_a(Scope::Given, Sort::Nodes, expr)
+                sort.same(Sort::Nodes)
+                    && self.is_a(Scope::Given, Within::Nothing, Sort::Nodes, expr)
             }
         }
     }
@@ -258,90 +224,14 @@ impl Definition {
     fn is_let(&self, named: &Named) -> bool
         ensures { result ≡ is_let self.now named.now }
     {
-        self.is_a(Scope::Let, named.sort, &named.value)
+        self.is_a(Scope::Let, Within::Nothing, named.sort, &named.value)
     }
 
     /// Whether a named guard is well formed.
     fn is_fact(&self, guard: &Guard) -> bool
         ensures { result ≡ is_fact self.now guard.now }
     {
-        self.is_a(Scope::Fact, Sort::Truth, &guard.value)
-    }
-
-    /// Whether a chain of rules is well formed.
-    fn is_chain(&self, chain: &Chain) -> bool
-        ensures { result ≡ is_chain self.now chain.now }
-    {
-        let scope = scope_of(chain.on);
-        let sends = sends_of(chain.on);
-        self.is_a(Scope::Who, Sort::Nodes, &chain.who)
-            && self.is_event(chain.on)
-            && 1 <= chain.rules.len()
-            && self.are_rules(scope, sends, chain.rules.as_slice())
-    }
-
-    /// Whether the note of an event is there.
-    fn is_event(&self, event: Event) -> bool
-        ensures { result ≡ is_event self.now event }
-    {
-        match event {
-            Event::Note(form) => usize::from(form) < self.notes.len(),
-            _ => true,
-        }
-    }
-
-    /// Whether a rule is well formed that sends at most so often.
-    fn is_rule(&self, scope: Scope, sends: usize, rule: &Rule) -> bool
-        ensures { result ≡ is_rule_in self.now scope sends rule.now }
-    {
-        self.is_a(scope, Sort::Truth, &rule.guard)
-            && rule.sets.len() <= 8
-            && self.are_assignments(scope, rule.sets.as_slice())
-            && rule.sends.len() <= sends
-            && self.are_sends(scope, rule.sends.as_slice())
-    }
-
-    /// Whether a variable may get this value.
-    fn is_assignment(&self, scope: Scope, set: &Assignment) -> bool
-        ensures { result ≡ is_assignment self.now scope set.now }
-    {
-        match self.variables.as_slice().get(usize::from(set.variable)) {
-            Some(variable) => self.is_a(scope, variable.kind.sort(), &set.value),
-            None => false,
-        }
-    }
-
-    /// Whether a note may be sent with these values.
-    fn is_send(&self, scope: Scope, send: &Send) -> bool
-        ensures { result ≡ is_send self.now scope send.now }
-    {
-        self.are_sent(scope, send.form, send.fields.as_slice())
-            && self.is_a(scope, Sort::Nodes, &send.to)
-    }
-
-    /// Whether a note of this form may have these values.
-    fn are_sent(&self, scope: Scope, form: u8, values: &[Expr]) -> bool
-        ensures { result ≡ are_sent self.now scope (slice_get self.now.notes form) values.now }
-    {
-        match self.notes.as_slice().get(usize::from(form)) {
-            Some(form) => self.are_fields(scope, form.fields.as_slice(), values),
-            None => false,
-        }
-    }
-
-    /// Whether fields of these kinds may have these values.
-    fn are_fields(&self, scope: Scope, kinds: &[Kind], values: &[Expr]) -> bool
-        ensures { result ≡ are_fields self.now scope kinds.now values.now }
-    {
-        match kinds {
-            [] => values.is_empty(),
-            [kind, kinds @ ..] => match values {
-                [] => false,
-                [value, values @ ..] => {
-                    self.is_a(scope, kind.sort(), value) && self.are_fields(scope, kinds, values)
-                }
-            },
-        }
+        self.is_a(Scope::Fact, Within::Nothing, Sort::Truth, &guard.value)
     }
 
     /// Whether there is a variable with this number.
@@ -366,26 +256,6 @@ fn is_word_of(i: usize, kind: Kind) -> bool
     match kind {
         Kind::Word { of, .. } => usize::from(of) == i,
         _ => false,
-    }
-}
-
-/// Where the expressions of rules on an event stand.
-fn scope_of(event: Event) -> Scope
-    ensures { result ≡ scope_of event }
-{
-    match event {
-        Event::Note(form) => Scope::Note(form),
-        _ => Scope::Plain,
-    }
-}
-
-/// How often a rule on an event sends at most.
-fn sends_of(event: Event) -> usize
-    ensures { result ≡ sends_of event }
-{
-    match event {
-        Event::Start | Event::Wake => 0,
-        _ => 8,
     }
 }
 

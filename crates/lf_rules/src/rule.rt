@@ -1,6 +1,7 @@
 //! Rules.
 
 use crate::expr::Expr;
+use crate::table::Table;
 use lf_list::Listed;
 
 /// What a rule is on.
@@ -18,11 +19,21 @@ pub enum Event {
     End,
 }
 
-/// A variable that gets a value.
+/// What gets a value.
+#[derive(Debug, Drop)]
+pub enum Target {
+    /// The variable with a number, which is no table.
+    Variable(u8),
+    /// The cell of a table at a place.
+    Cell(Table, Expr),
+    /// The cells of a set of nodes, one after another, ascending: of a table with a cell for each node.
+    Cells(Table, Expr),
+}
+
+/// A target and the value that it gets. For a cell of a node `It` is that node.
 #[derive(Debug, Drop)]
 pub struct Assignment {
-    /// The variable's number.
-    pub variable: u8,
+    pub target: Target,
     pub value: Expr,
 }
 
@@ -35,6 +46,8 @@ pub struct Send {
     pub fields: Listed<Expr>,
     /// The set of nodes.
     pub to: Expr,
+    /// Whether `It` stands in a field, outside of bodies of its own: then the set of nodes is worked out first, and the fields for each of them.
+    pub each: bool,
 }
 
 /// What a node does where a guard is true.

@@ -4,11 +4,12 @@ ghost use Rattle.std.specs.Prelude.{◌≡◌, ◌↔◌, IsTrue};
 ghost use Rattle.lf_rules.specs.Terms.{term_of};
 
 use crate::definition::{Constant, Definition, Given, Guard, Named, NoteForm, Value, Variable};
-use crate::expr::{Binary, Expr, Leaf, Tree, Unary};
+use crate::expr::{Binary, Expr, Leaf, Over, Row, Tree, Unary};
 use crate::kind::Kind;
 use crate::name::Name;
-use crate::rule::{Assignment, Chain, Event, Rule, Send};
+use crate::rule::{Assignment, Chain, Event, Rule, Send, Target};
 use crate::sort::Sort;
+use crate::table::{Cells, Table};
 use lf_list::Listed;
 
 /// What can be told to be the same: contracts know of it that it is equal.
@@ -56,6 +57,30 @@ impl Same for Unary {
 
 impl Same for Binary {
     fn is_same(&self, other: &Binary) -> bool {
+        self == other
+    }
+}
+
+impl Same for Row {
+    fn is_same(&self, other: &Row) -> bool {
+        self == other
+    }
+}
+
+impl Same for Over {
+    fn is_same(&self, other: &Over) -> bool {
+        self == other
+    }
+}
+
+impl Same for Cells {
+    fn is_same(&self, other: &Cells) -> bool {
+        self == other
+    }
+}
+
+impl Same for Table {
+    fn is_same(&self, other: &Table) -> bool {
         self == other
     }
 }
@@ -110,6 +135,16 @@ fn same_tree(one: &Tree, other: &Tree) -> bool
             }
             _ => false,
         },
+        Tree::At(row, a) => match other {
+            Tree::At(another, b) => row.is_same(another) && same_tree(a, b),
+            _ => false,
+        },
+        Tree::Over(over, a, b) => match other {
+            Tree::Over(another, c, d) => {
+                over.is_same(another) && same_tree(a, c) && same_tree(b, d)
+            }
+            _ => false,
+        },
     }
 }
 
@@ -138,6 +173,7 @@ impl Same for Variable {
     fn is_same(&self, other: &Variable) -> bool {
         self.name.is_same(&other.name)
             && self.kind.is_same(&other.kind)
+            && self.cells.is_same(&other.cells)
             && self.words.is_same(&other.words)
     }
 }
@@ -170,15 +206,33 @@ impl Same for Guard {
     }
 }
 
+impl Same for Target {
+    fn is_same(&self, other: &Target) -> bool {
+        match (self, other) {
+            (Target::Variable(one), Target::Variable(other)) => one == other,
+            (Target::Cell(table, place), Target::Cell(another, other)) => {
+                table.is_same(another) && place.is_same(other)
+            }
+            (Target::Cells(table, places), Target::Cells(another, others)) => {
+                table.is_same(another) && places.is_same(others)
+            }
+            _ => false,
+        }
+    }
+}
+
 impl Same for Assignment {
     fn is_same(&self, other: &Assignment) -> bool {
-        self.variable == other.variable && self.value.is_same(&other.value)
+        self.target.is_same(&other.target) && self.value.is_same(&other.value)
     }
 }
 
 impl Same for Send {
     fn is_same(&self, other: &Send) -> bool {
-        self.form == other.form && self.fields.is_same(&other.fields) && self.to.is_same(&other.to)
+        self.form == other.form
+            && self.fields.is_same(&other.fields)
+            && self.to.is_same(&other.to)
+            && self.each == other.each
     }
 }
 

@@ -3,8 +3,9 @@
 ghost use Rattle.std.specs.Prelude.{◌≡◌};
 ghost use Rattle.lf_rules.specs.Sorts.{same_sort, is_of, where_so, names_constants, names_state, names_lets};
 ghost use Rattle.lf_rules.specs.Sorts.{is_rule, taken, gives, takes, made, alike, unary_sort, binary_sort};
+ghost use Rattle.lf_rules.specs.Sorts.{names_it, has_bodies, at_sort, body_of, comes_of, over_sort};
 
-use crate::expr::{Binary, Unary};
+use crate::expr::{Binary, Over, Unary};
 
 /// What an expression is.
 #[derive(Clone, Copy, Debug, PartialEq, Eq)]
@@ -33,6 +34,17 @@ pub enum Scope {
     Plain,
     /// A rule on the note that has the form with this number: it names the sender and the note's fields too.
     Note(u8),
+}
+
+/// What `It` is where an expression stands.
+#[derive(Clone, Copy, Debug, PartialEq, Eq)]
+pub enum Within {
+    /// It is nothing here.
+    Nothing,
+    /// It is the receiver of a note, or the node whose cell is set. Bodies may stand here.
+    Receiver,
+    /// It is the node of a body, in which no other body may stand.
+    Body,
 }
 
 impl Sort {
@@ -80,6 +92,22 @@ impl Scope {
     }
 }
 
+impl Within {
+    /// Whether `It` may be named.
+    pub(crate) fn names_it(self) -> bool
+        ensures { result ≡ names_it self }
+    {
+        !matches!(self, Within::Nothing)
+    }
+
+    /// Whether bodies may stand here.
+    pub(crate) fn has_bodies(self) -> bool
+        ensures { result ≡ has_bodies self }
+    {
+        !matches!(self, Within::Body)
+    }
+}
+
 /// Whether what was found is this sort.
 pub fn is_of(found: Option<Sort>, sort: Sort) -> bool
     ensures { result ≡ is_of found sort }
@@ -109,6 +137,43 @@ pub fn binary_sort(operator: Binary, one: Option<Sort>, other: Option<Sort>) -> 
     ensures { result ≡ binary_sort operator one other }
 {
     where_so(takes(operator, one, other), Some(made(operator)))
+}
+
+/// What stands at a place of what has such items.
+pub fn at_sort(items: Option<Sort>, place: Option<Sort>) -> Option<Sort>
+    ensures { result ≡ at_sort items place }
+{
+    where_so(is_of(place, Sort::Number), items)
+}
+
+/// What comes of a set and a body.
+pub fn over_sort(over: Over, set: Option<Sort>, body: Option<Sort>) -> Option<Sort>
+    ensures { result ≡ over_sort over set body }
+{
+    where_so(
+        is_of(set, Sort::Nodes) && is_of(body, body_of(over)),
+        Some(comes_of(over)),
+    )
+}
+
+/// What a body is.
+fn body_of(over: Over) -> Sort
+    ensures { result ≡ body_of over }
+{
+    match over {
+        Over::Those => Sort::Truth,
+        Over::Least | Over::Greatest => Sort::Number,
+    }
+}
+
+/// What comes of a set and a body, where they are what they have to be.
+fn comes_of(over: Over) -> Sort
+    ensures { result ≡ comes_of over }
+{
+    match over {
+        Over::Those => Sort::Nodes,
+        Over::Least | Over::Greatest => Sort::Number,
+    }
 }
 
 /// What an operator on one value takes.

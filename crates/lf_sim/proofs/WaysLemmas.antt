@@ -19,10 +19,6 @@ use Rattle.lf_sim.specs.Changes.{AreMarked, Covers, Ignores, IsOnItsWay, IsSpare
 use Rattle.lf_sim.proofs.ChangesLemmas.{did-kept}
 use Rattle.lf_sim.proofs.MarksLemmas.{unmarked-before}
 
--- what stands in one cell is one thing
-pub told-cell : {A : Type 0} {x y : A} → Some x ≡ Some y → x ≡ y
-told-cell h = cc
-
 module _ {State Note Fact : Type 0} (w : World State Note Fact) (from to : List Parts) where
   touched : (m u : ℕ) (f : Parts) → Stops w m u f → Touches w m u f
   touched m u (Omit node other step) says = absurd says

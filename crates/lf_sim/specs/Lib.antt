@@ -8,4 +8,5 @@ pub mod Schedules
 pub mod Settings
 pub mod Tables
 pub mod Changes
+pub mod Differences
 pub mod Marks

@@ -1,5 +1,5 @@
 -- Marked points.
-use Rattle.std.specs.Prelude.{◌≡◌, ℕ, ◌+◌, ◌*◌, ◌<◌, Bool, true, false, List, length, slice_index_or}
+use Rattle.std.specs.Prelude.{◌≡◌, ℕ, ◌+◌, ◌*◌, ◌<◌, Bool, true, false, List, slice_index_or}
 
 -- the point of n and t is among the marked ones; they stand by step and then by node, 8 to a step
 abbrev pub is_marked : List Bool → ℕ → ℕ → Bool

@@ -1,13 +1,15 @@
 //! A point of a run, worked again.
 
-ghost use Rattle.std.specs.Prelude.{◌≡◌, ℕ, ◌<◌, ◌≤◌, Some};
+ghost use Rattle.std.specs.Prelude.{◌≡◌, ◌≢◌, ℕ, ◌+◌, ◌-◌, ◌<◌, ◌≤◌, Some, slice_index_or, vec_len, vec_capacity};
+ghost use Rattle.lf_sim.specs.Differences.{IsTold};
 ghost use Rattle.lf_sim.specs.Runs.{did};
 ghost use Rattle.lf_sim.specs.Settings.{HasSize, IsRunBefore, cell_of, set_of, world_of};
 
 use crate::runs::put_turn;
-use crate::{Effects, Machine, Run, Setting, Stepped};
+use crate::{Difference, Effects, Machine, Run, Setting, Stepped};
 
-/// Works again what a node does at a step, in a run that up to that step is as the set of faults has it. Gives what stood there.
+/// Works again what a node does at a step, in a run that up to that step is as the set of faults has it. Tells where that may differ
+/// from what stood there.
 ///
 /// All else stays as it is. It takes no memory.
 pub fn play_again<M: Machine>(
@@ -16,7 +18,7 @@ pub fn play_again<M: Machine>(
     run: &mut Run<M>,
     node: u32,
     step: u32,
-) -> Stepped<M::State, M::Note>
+) -> Difference
     requires size { HasSize (world_of setting.now) run.old }
     requires node { node < (world_of setting.now).rules.nodes }
     requires first { 1 ≤ step }
@@ -24,7 +26,8 @@ pub fn play_again<M: Machine>(
     requires before { IsRunBefore (world_of setting.now) effects.now.set run.old step }
     ensures size { HasSize (world_of setting.now) run.new }
     ensures set { set_of run.new ≡ set_of run.old }
-    ensures stood { cell_of run.old node step ≡ Some result }
+    ensures told { (stood : Stepped M.State M.Note) → cell_of run.old node step ≡ Some stood →
+        IsTold result stood (did (world_of setting.now) effects.now.set node step) }
     ensures there { cell_of run.new node step ≡ Some (did (world_of setting.now) effects.now.set node step) }
     ensures others { (n t : ℕ) → n < (world_of setting.now).rules.nodes → t ≤ (world_of setting.now).horizon →
         (n ≡ node → t ≡ step → ⊥) → cell_of run.new n t ≡ cell_of run.old n t }
@@ -39,5 +42,32 @@ pub fn play_again<M: Machine>(
         step - 1,
         node,
     );
-    grid.cells.swap_remove((step * grid.nodes + node) as usize)
+    let place = (step * grid.nodes + node) as usize;
+    put_last(&setting.machine, &mut grid.cells, place)
+}
+
+/// Puts the last turn in the place of another one, and tells where they may differ. A turn that is known to be the same isn't copied.
+fn put_last<M: Machine>(
+    machine: &M,
+    cells: &mut Vec<Stepped<M::State, M::Note>>,
+    place: usize,
+) -> Difference
+    requires { place + 1 < vec_len cells.old }
+    ensures told { (d : Stepped M.State M.Note) →
+        IsTold result (slice_index_or cells.old.items place d) (slice_index_or cells.old.items (vec_len cells.old - 1) d) }
+    ensures len { vec_len cells.new + 1 ≡ vec_len cells.old }
+    ensures capacity { vec_capacity cells.new ≡ vec_capacity cells.old }
+    ensures there { (d : Stepped M.State M.Note) →
+        slice_index_or cells.new.items place d ≡ slice_index_or cells.old.items (vec_len cells.old - 1) d }
+    ensures others { (k : ℕ) (d : Stepped M.State M.Note) → k ≢ place → k + 1 < vec_len cells.old →
+        slice_index_or cells.new.items k d ≡ slice_index_or cells.old.items k d }
+{
+    let last = cells.len() - 1;
+    let difference = Difference::between(machine, &cells[place], &cells[last]);
+    if difference.is_none() {
+        let _last = cells.pop();
+    } else {
+        let _stood = cells.swap_remove(place);
+    }
+    difference
 }

@@ -1,15 +1,15 @@
 //! The change of a run into that of another set of faults.
 
-ghost use Rattle.std.specs.Prelude.{◌≡◌, ◌≢◌, ◌⊎◌, ℕ, ◌+◌, ◌<◌, ◌≤◌, true, false, IsTrue};
+ghost use Rattle.std.specs.Prelude.{◌≡◌, ◌≢◌, ◌⊎◌, ℕ, ◌+◌, ◌<◌, ◌≤◌, true, false};
 ghost use Rattle.lf_faults.specs.Faults.{IsFault};
 ghost use Rattle.lf_latency.specs.Arrivals.{arrival_of};
 ghost use Rattle.lf_sim.specs.Changes.{AreMarked, Covers, Ignores, IsMarked, IsOnItsWay};
+ghost use Rattle.lf_sim.specs.Differences.{differs};
 ghost use Rattle.lf_sim.specs.Marks.{is_marked};
-ghost use Rattle.lf_sim.specs.Outs.{note_to};
 ghost use Rattle.lf_sim.specs.Settings.{HasSize, IsRun, set_of, world_of};
 
 use crate::marks::Marks;
-use crate::{Effects, Machine, Out, Run, Setting, play_again};
+use crate::{Difference, Effects, Machine, Run, Setting, play_again};
 use lf_faults::{FaultSet, Parts};
 
 /// Makes the run of a set of faults that of another set: it works the points again in which the sets differ, and those to which that
@@ -174,51 +174,41 @@ impl<M: Machine> Change<'_, M> {
         ensures way { IsOnItsWay (world_of self.now.setting.now) self.now.from.now self.now.to.now.set run.new step (node + 1) }
         ensures marks { Covers (world_of self.now.setting.now) self.now.from.now self.now.to.now.set run.new marks.new.points }
     {
-        let stood = play_again(self.setting, self.to, run, node, step);
-        let turn = run.turn(node, step);
-        if !self.setting.machine.same_state(&stood.state, &turn.state) {
+        let told = play_again(self.setting, self.to, run, node, step);
+        if told.state {
             marks.mark(node, step + 1);
         }
-        self.mark_notes(marks, run, &stood.out, &turn.out, node, step);
+        self.mark_notes(marks, run, &told, node, step);
     }
 
-    /// Marks where those notes of a node arrive that differ.
-    fn mark_notes(
-        &self,
-        marks: &mut Marks,
-        run: &Run<M>,
-        stood: &Out<M::Note>,
-        out: &Out<M::Note>,
-        node: u32,
-        step: u32,
-    )
+    /// Marks where those notes of a node arrive that may differ.
+    fn mark_notes(&self, marks: &mut Marks, run: &Run<M>, told: &Difference, node: u32, step: u32)
         requires size { HasSize (world_of self.now.setting.now) run.now }
         requires node { node < (world_of self.now.setting.now).rules.nodes }
         requires first { 1 ≤ step }
         requires last { step ≤ (world_of self.now.setting.now).horizon }
         ensures same { let w = world_of self.now.setting.now in (m : ℕ) → m < w.rules.nodes → node ≢ m →
             w.arrival node m step ≤ w.horizon → is_marked marks.new.points m (w.arrival node m step) ≡ false →
-            Ignores w self.now.to.now.set m (w.arrival node m step) run.now ⊎ (note_to stood.now m ≡ note_to out.now m) }
+            Ignores w self.now.to.now.set m (w.arrival node m step) run.now ⊎ (differs told.now m ≡ false) }
         ensures kept { (n t : ℕ) → is_marked marks.old.points n t ≡ true → is_marked marks.new.points n t ≡ true }
     {
         let _nodes = self.setting.spec.nodes();
-        self.mark_note(marks, run, &stood.to0, &out.to0, node, 0, step);
-        self.mark_note(marks, run, &stood.to1, &out.to1, node, 1, step);
-        self.mark_note(marks, run, &stood.to2, &out.to2, node, 2, step);
-        self.mark_note(marks, run, &stood.to3, &out.to3, node, 3, step);
-        self.mark_note(marks, run, &stood.to4, &out.to4, node, 4, step);
-        self.mark_note(marks, run, &stood.to5, &out.to5, node, 5, step);
-        self.mark_note(marks, run, &stood.to6, &out.to6, node, 6, step);
-        self.mark_note(marks, run, &stood.to7, &out.to7, node, 7, step);
+        self.mark_note(marks, run, told.to0, node, 0, step);
+        self.mark_note(marks, run, told.to1, node, 1, step);
+        self.mark_note(marks, run, told.to2, node, 2, step);
+        self.mark_note(marks, run, told.to3, node, 3, step);
+        self.mark_note(marks, run, told.to4, node, 4, step);
+        self.mark_note(marks, run, told.to5, node, 5, step);
+        self.mark_note(marks, run, told.to6, node, 6, step);
+        self.mark_note(marks, run, told.to7, node, 7, step);
     }
 
-    /// Marks where a note arrives that differs.
+    /// Marks where a note arrives that may differ.
     fn mark_note(
         &self,
         marks: &mut Marks,
         run: &Run<M>,
-        stood: &Option<M::Note>,
-        note: &Option<M::Note>,
+        differs: bool,
         from: u32,
         to: u32,
         step: u32,
@@ -227,22 +217,11 @@ impl<M: Machine> Change<'_, M> {
         requires first { 1 ≤ step }
         ensures same { let w = world_of self.now.setting.now in from < w.rules.nodes → to < w.rules.nodes → from ≢ to →
             step ≤ w.horizon → w.arrival from to step ≤ w.horizon → is_marked marks.new.points to (w.arrival from to step) ≡ false →
-            Ignores w self.now.to.now.set to (w.arrival from to step) run.now ⊎ (stood.now ≡ note.now) }
+            Ignores w self.now.to.now.set to (w.arrival from to step) run.now ⊎ (differs ≡ false) }
         ensures kept { (n t : ℕ) → is_marked marks.old.points n t ≡ true → is_marked marks.new.points n t ≡ true }
     {
-        if from != to && !self.is_same(stood, note) {
+        if from != to && differs {
             self.mark_arrival(marks, run, from, to, step);
-        }
-    }
-
-    /// Whether two notes are known to be the same, or none is there.
-    fn is_same(&self, one: &Option<M::Note>, other: &Option<M::Note>) -> bool
-        ensures { IsTrue result → one.now ≡ other.now }
-    {
-        match (one, other) {
-            (Some(one), Some(other)) => self.setting.machine.same_note(one, other),
-            (None, None) => true,
-            _ => false,
         }
     }
 }

@@ -8,6 +8,7 @@
 
 mod again;
 mod change;
+mod difference;
 mod effects;
 mod grid;
 mod letter;
@@ -23,6 +24,7 @@ mod setting;
 
 pub use again::play_again;
 pub use change::rerun;
+pub use difference::Difference;
 pub use effects::Effects;
 pub use letter::Letter;
 pub use machine::Machine;

@@ -10,8 +10,9 @@ use Rattle.std.proofs.lemmas.Option.{slice_get_within, get_or_from_slice_get}
 use Rattle.lf_sim.specs.declared.out.Stepped.{Stepped}
 use Rattle.lf_rules.specs.declared.rule.Chain.{Chain}
 use Rattle.lf_rules.specs.declared.definition.Definition.{Definition}
+use Rattle.lf_rules.specs.Tables.{cells_in}
 use Rattle.lf_rules.specs.Forms.{rules_in, is_from, is_in_limits, is_well_formed}
-use Rattle.lf_rule_machine.specs.declared.moment.Moment.{Moment}
+use Rattle.lf_rule_machine.specs.Moments.{Moment}
 use Rattle.lf_rule_machine.specs.declared.state.State.{State}
 use Rattle.lf_rule_machine.specs.declared.state.Packet.{Packet}
 use Rattle.lf_rule_machine.specs.Choices.{take_at}
@@ -57,14 +58,15 @@ first a b all = (and_parts a b all).0
 rest : (a b : Bool) → (a && b) ≡ true → b ≡ true
 rest a b all = (and_parts a b all).1
 
-sixth : (a b c e f g h : Bool) → (a && (b && (c && (e && (f && (g && h)))))) ≡ true → g ≡ true
-sixth a b c e f g h all = first g h (rest f _ (rest e _ (rest c _ (rest b _ (rest a _ all)))))
+seventh : (a b c e f g h i : Bool) → (a && (b && (c && (e && (f && (g && (h && i))))))) ≡ true → h ≡ true
+seventh a b c e f g h i all = first h i (rest g _ (rest f _ (rest e _ (rest c _ (rest b _ (rest a _ all))))))
 
 pub few_rules : (d : Definition) → is_well_formed d ≡ true → rules_in d.chains ≤ 128
 few_rules d formed =
     leb-true (rules_in d.chains) 128
-    (sixth (is_from 1 16 (length d.variables)) (nat_le (length d.notes) 16) (nat_le (length d.given) 16) (nat_le (length d.lets) 16)
-    (nat_le (length d.facts) 32) (nat_le (rules_in d.chains) 128) (is_from 1 16 (length d.trace)) (first (is_in_limits d) _ formed))
+    (seventh (is_from 1 32 (length d.variables)) (nat_le (cells_in d) 64) (nat_le (length d.notes) 16) (nat_le (length d.given) 16)
+    (nat_le (length d.lets) 16) (nat_le (length d.facts) 32) (nat_le (rules_in d.chains) 128) (is_from 1 32 (length d.trace))
+    (first (is_in_limits d) _ formed))
 
 -- a chain more is gone through
 module _ (d : Definition) (at : Moment) where

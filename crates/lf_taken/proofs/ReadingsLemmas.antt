@@ -10,7 +10,7 @@ use Rattle.lf_rules.specs.declared.rule.Rule.{Rule}
 use Rattle.lf_rules.specs.declared.rule.Chain.{Chain}
 use Rattle.lf_rules.specs.declared.definition.Definition.{Definition}
 use Rattle.lf_rules.specs.Forms.{rules_in}
-use Rattle.lf_rule_machine.specs.declared.moment.Moment.{Moment}
+use Rattle.lf_rule_machine.specs.Moments.{Moment, given_here}
 use Rattle.lf_rule_machine.specs.declared.state.State.{State}
 use Rattle.lf_rule_machine.specs.declared.state.Packet.{Packet}
 use Rattle.lf_rule_machine.specs.Sets.{is_true}
@@ -77,4 +77,4 @@ module _ (d : Definition) (at : Moment) where
 
   pub told-acts : (event : Event) (turn : Stepped State Packet) → fold (do_number d at) turn (taken_in d at event turn) ≡ act d at event turn
   unfolding taken_in
-  told-acts event turn = done-through (chosen d at.nodes at.me at.given event) turn ∙ chosen-acts d at event turn
+  told-acts event turn = done-through (chosen d at.nodes at.me (given_here at) event) turn ∙ chosen-acts d at event turn

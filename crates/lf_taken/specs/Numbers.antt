@@ -7,7 +7,7 @@ use Rattle.lf_rules.specs.declared.rule.Rule.{Rule}
 use Rattle.lf_rules.specs.declared.rule.Chain.{Chain}
 use Rattle.lf_rules.specs.declared.definition.Definition.{Definition}
 use Rattle.lf_rules.specs.Forms.{rules_in}
-use Rattle.lf_rule_machine.specs.declared.moment.Moment.{Moment}
+use Rattle.lf_rule_machine.specs.Moments.{Moment, given_here}
 use Rattle.lf_rule_machine.specs.declared.state.State.{State}
 use Rattle.lf_rule_machine.specs.declared.state.Packet.{Packet}
 use Rattle.lf_rule_machine.specs.Sets.{is_true}
@@ -39,4 +39,4 @@ module _ (d : Definition) (at : Moment) where
 
   -- the rules that are taken at an event
   unfoldable pub taken_in : Event → Stepped State Packet → List ℕ
-  taken_in event turn = taken_through turn (chosen d at.nodes at.me at.given event)
+  taken_in event turn = taken_through turn (chosen d at.nodes at.me (given_here at) event)

@@ -52,7 +52,6 @@ fn taken_up(alloc: Global, point: &Point) -> Result<Vec<usize>, AllocError>
         (Kind::Ruled(ruled), State::Ruled(own)) => {
             let acting = Acting {
                 ruled,
-                given: ruled.constants_at(point.node),
                 node: point.node,
                 t: point.past + 1,
             };

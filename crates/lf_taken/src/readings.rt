@@ -5,7 +5,7 @@ ghost use Rattle.std.specs.List.{fold};
 ghost use Rattle.lf_sim.specs.declared.out.Stepped.{Stepped};
 ghost use Rattle.lf_rules.specs.declared.rule.Event.{Event};
 ghost use Rattle.lf_rules.specs.declared.definition.Definition.{Definition};
-ghost use Rattle.lf_rule_machine.specs.declared.moment.Moment.{Moment};
+ghost use Rattle.lf_rule_machine.specs.Moments.{Moment};
 ghost use Rattle.lf_rule_machine.specs.declared.state.State.{State};
 ghost use Rattle.lf_rule_machine.specs.declared.state.Packet.{Packet};
 ghost use Rattle.lf_rule_machine.specs.Events.{act};

@@ -1,9 +1,9 @@
 //! Which rules a node of a protocol of rules takes at a step.
 
-ghost use Rattle.std.specs.Prelude.{◌≡◌, ◌++◌, IfOk, slice_get};
+ghost use Rattle.std.specs.Prelude.{◌≡◌, ◌++◌, IfOk};
 ghost use Rattle.std.specs.List.{fold};
 ghost use Rattle.lf_rule_machine.specs.Events.{act};
-ghost use Rattle.lf_rule_machine.specs.Constants.{row_of};
+ghost use Rattle.lf_rule_machine.specs.Moments.{seen};
 ghost use Rattle.lf_rule_machine.specs.Machines.{moment, opened, act_alone, hear_note, wake_of};
 ghost use Rattle.lf_protocols.specs.RuledTurns.{hear_by_rules};
 ghost use Rattle.lf_taken.specs.Numbers.{taken_in};
@@ -20,11 +20,8 @@ use std::alloc::{AllocError, Global};
 #[derive(Clone, Copy)]
 pub(crate) struct Acting<'a> {
     pub ruled: &'a Ruled,
-    /// The values of the constants at this node.
-    pub given: [u8; 16],
     pub node: u32,
     pub t: u32,
-    ghost values: { given ≡ row_of (slice_get ruled.now.given node) },
 }
 
 impl Acting<'_> {
@@ -201,29 +198,22 @@ impl Acting<'_> {
     fn push(
         &self,
         alloc: Global,
-        at: &Moment,
+        at: &Moment<'_>,
         event: Event,
         turn: &mut Turn,
         taken: &mut Vec<usize>,
     ) -> Result<(), AllocError>
-        ensures turn { IfOk result (λ _. turn.new ≡ act self.now.ruled.now.definition at.now event turn.old) }
-        ensures taken { IfOk result (λ _. taken.new.items ≡ taken.old.items ++ taken_in self.now.ruled.now.definition at.now event turn.old) }
+        ensures turn { IfOk result (λ _. turn.new ≡ act self.now.ruled.now.definition (seen at.now) event turn.old) }
+        ensures taken { IfOk result (λ _. taken.new.items ≡ taken.old.items ++ taken_in self.now.ruled.now.definition (seen at.now) event turn.old) }
     {
         numbers::act(alloc, self.ruled.definition(), at, event, turn, taken)
     }
 
     /// A moment of the step.
-    fn moment(&self, sender: u32, fields: [u8; 7]) -> Moment
-        ensures { result ≡ moment self.now.ruled.now.nodes self.now.ruled.now.given self.now.node self.now.t sender fields }
+    fn moment(&self, sender: u32, fields: [u8; 7]) -> Moment<'_>
+        ensures { seen result ≡ moment self.now.ruled.now.nodes self.now.ruled.now.given self.now.node self.now.t sender fields }
     {
-        Moment {
-            nodes: self.ruled.nodes(),
-            me: self.node,
-            given: self.given,
-            step: self.t,
-            sender,
-            fields,
-        }
+        self.ruled.moment(self.node, self.t, sender, fields)
     }
 }
 

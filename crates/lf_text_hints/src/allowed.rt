@@ -21,7 +21,7 @@ pub fn wanted(place: &Place<'_>) -> &'static str {
             "a number from 0 to 255, true or false, a set of nodes such as \"{1..}\", or a list of 1 to 8 of one of these"
         }
         Spot::State => {
-            "\"flag\", \"nodes\", \"step\", a range such as \"0..3\", words such as \"idle | busy\", or another variable's name"
+            "\"flag\", \"nodes\", \"step\", a range such as \"0..3\", words such as \"idle | busy\", or another variable's name; behind [nodes] or [1..3] too"
         }
         Spot::Note => {
             "a name in capitals, with fields where it has any, such as \"PREPARE\" or \"VOTE(yes: flag, round: 0..9)\""

@@ -5,14 +5,15 @@ use crate::named::{Class, first_named};
 use crate::reader::Reader;
 use crate::slips::instead_of;
 use crate::stop::{Near, Stop, behind};
+use lf_rules::Sort;
 
 /// Values that have a name in the language.
-pub(crate) const VALUES: [&str; 9] = [
-    "t", "me", "sender", "nodes", "all", "true", "false", "clamped", "replaced",
+pub(crate) const VALUES: [&str; 10] = [
+    "t", "me", "sender", "nodes", "all", "true", "false", "clamped", "replaced", "it",
 ];
 
 /// Words of the language that are no values.
-const JOINTS: [&str; 7] = ["and", "or", "not", "in", "mod", "to", "else"];
+const JOINTS: [&str; 8] = ["and", "or", "not", "in", "mod", "to", "else", "where"];
 
 /// Why a word is no value.
 pub(crate) fn no_name(reader: &Reader<'_>, at: usize) -> Stop {
@@ -73,7 +74,7 @@ pub(crate) fn unknown_here(reader: &Reader<'_>, word: &str) -> Option<&'static s
 fn where_named(class: Class) -> &'static str {
     match class {
         Class::Constant => "a text of `given` names no constants",
-        Class::Variable | Class::Flag | Class::Word => {
+        Class::Variable | Class::Flag | Class::Table | Class::Word => {
             "no node's state is known here: only constants and numbers of nodes are"
         }
         Class::Let => "lets are named in rules and facts alone",
@@ -81,6 +82,71 @@ fn where_named(class: Class) -> &'static str {
         Class::Note => "notes are named in `on` and `send` alone",
         Class::Field => "fields are named in `when`, `set` and `send` alone",
     }
+}
+
+/// Why a name can't have brackets behind it.
+pub(crate) fn no_items(reader: &Reader<'_>, at: usize) -> Stop {
+    let name = reader.piece(at);
+    let what = match first_named(reader.names, name) {
+        Some(known) => known.words(),
+        None => Words::of("a single value"),
+    };
+    let more = if reader.sort_of(name) == Some(Sort::Nodes) {
+        Words::of(format_args!("; whether a set has a node is written `me in {name}`"))
+    } else {
+        Words::of("")
+    };
+    Stop::at(
+        at,
+        Words::of(format_args!(
+            "{}, and brackets stand behind tables and constants alone: `log[1]`{}",
+            what.as_str(),
+            more.as_str()
+        )),
+    )
+}
+
+/// Why a table can't stand without brackets.
+pub(crate) fn no_cell(reader: &Reader<'_>, at: usize) -> Stop {
+    if !reader.spot.knows_state() {
+        return no_name(reader, at);
+    }
+    let name = reader.piece(at);
+    Stop::at(
+        at,
+        Words::of(format_args!(
+            "a table, and what is asked is one of its cells: `{name}[{}]`",
+            reader.place_in(name)
+        )),
+    )
+}
+
+/// Why no item of a name is known at a place, which stands in brackets behind it.
+pub(crate) fn no_item(reader: &Reader<'_>, at: usize) -> Stop {
+    match first_named(reader.names, reader.piece(at)) {
+        Some(known) if known.class == Class::Constant => Stop::at(
+            at,
+            Words::of("a constant has no brackets here: it is this node's"),
+        ),
+        _ => no_name(reader, at),
+    }
+}
+
+/// Why `it` is no value.
+pub(crate) fn no_it(at: usize) -> Stop {
+    let words =
+        "no node here: it is the node of a body, as in `{all where x[it] > 0}`, the receiver in the fields of `send`, and the node whose cell is set";
+    Stop::at(at, Words::of(words))
+}
+
+/// Why no body can stand behind a piece.
+pub(crate) fn no_body(reader: &Reader<'_>, at: usize) -> Stop {
+    let words = if reader.spot.knows_state() {
+        "no body stands within another one: what is within has to be a let, a fact or a variable"
+    } else {
+        "no node's state is known here, so nothing is worked out for each node"
+    };
+    Stop::at(at, Words::of(words))
 }
 
 /// That no number may be divided by a piece.

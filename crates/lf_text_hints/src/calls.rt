@@ -23,8 +23,8 @@ pub(crate) fn form_of(call: &str) -> &'static str {
         "highest" => "takes one set of nodes: `highest(s)`",
         "majority" =>
             "takes a set, or a set and the group that it is counted in: `majority(s)`, `majority(s, g)`",
-        "min" => "takes two numbers: `min(a, b)`",
-        _ => "takes two numbers: `max(a, b)`",
+        "min" => "takes two numbers, or a number for each node of a set: `min(a, b)`, `min(s: x)`",
+        _ => "takes two numbers, or a number for each node of a set: `max(a, b)`, `max(s: x)`",
     }
 }
 

@@ -1,6 +1,7 @@
 //! Where the proved reader refuses an expression, and why.
 
-use crate::atoms::{no_divisor, no_name};
+use crate::atoms::{no_body, no_cell, no_divisor, no_it, no_item, no_items, no_name};
+use crate::bodies::{is_body, misfit_body};
 use crate::calls::{form_of, is_call, misfit, unclosed};
 use crate::hint::Words;
 use crate::reader::{Part, Reader, Taken};
@@ -47,10 +48,15 @@ pub(crate) fn stop_at(reader: &Reader<'_>, slip: Slip) -> Stop {
     let closed = match slip.why {
         Why::Name => return no_name(reader, at),
         Why::Divisor => return no_divisor(at),
+        Why::Items => return no_items(reader, at),
+        Why::Table => return no_cell(reader, at),
+        Why::It => return no_it(at),
+        Why::Body => return no_body(reader, at),
         Why::Sign(Sign::OpenRound) => {
             return Stop::at(from, Words::of(form_of(reader.piece(from))));
         }
         Why::Sign(Sign::CloseCurly) => reader.closed_list(from, at, "}"),
+        Why::Sign(Sign::CloseSquare) => reader.closed_place(from, at),
         Why::Sign(_) if is_call(reader.before(from)) => unclosed(reader, from, at),
         Why::Sign(_) => reader.closed(from, at, ")"),
         Why::Sort => unfit(reader, slip),
@@ -68,10 +74,16 @@ pub(crate) fn stop_at(reader: &Reader<'_>, slip: Slip) -> Stop {
 /// What has to stand in a set.
 const IN_SET: &str = "in a set stand the numbers of nodes";
 
+/// What has to stand in square brackets.
+pub(crate) const IN_BRACKETS: &str = "in the brackets stands the number of a place";
+
 /// Refuses a value, or one of two, or one of a call's, that is of another kind than it has to be. Each of them is read once more, for what it is.
 fn unfit(reader: &Reader<'_>, slip: Slip) -> Result<usize, Stop> {
     let (from, at) = (reader.piece_at(slip.from), reader.piece_at(slip.at));
     let is_alone = slip.at == slip.from;
+    if !is_alone && is_body(reader.piece(at)) {
+        return misfit_body(reader, slip);
+    }
     let end = if is_alone { slip.to } else { slip.at };
     let Some(one) = reader.value(slip.from, end)? else {
         return misfit(reader, from, slip);
@@ -80,6 +92,10 @@ fn unfit(reader: &Reader<'_>, slip: Slip) -> Result<usize, Stop> {
         match reader.before(from) {
             "not" => reader.wants(&one, Sort::Truth, "`not` stands before a truth value")?,
             "of" => reader.wants_nodes(&one, "behind `of` stands a set of nodes")?,
+            "[" => {
+                reader.wants(&one, Sort::Number, IN_BRACKETS)?;
+                return Err(no_item(reader, from.saturating_sub(2)));
+            }
             _ => reader.wants(&one, Sort::Number, IN_SET)?,
         }
         return Ok(at);

@@ -14,20 +14,25 @@ pub(crate) const KINDS: [&str; 3] = ["flag", "nodes", "step"];
 /// What a kind is.
 const KIND: &str = "flag, nodes, step, a range such as 0..3, or the name of a variable";
 
-/// Reads what a variable with a name holds: a kind, another variable's name, or words of its own.
+/// Reads what a variable with a name holds, or each cell of a table: a kind, another variable's name, or words of its own.
 pub(crate) fn read_state(reader: &Reader<'_>, variable: &str) -> Result<(), Stop> {
-    if reader.piece(1) == "|" || reader.piece(0) == "|" {
-        return read_words(reader, variable);
+    let at = if reader.piece(0) == "[" {
+        read_places(reader)?
+    } else {
+        0
+    };
+    let (first, next) = (reader.piece(at), behind(at));
+    if reader.piece(next) == "|" || first == "|" {
+        return read_words(reader, at, variable);
     }
-    let first = reader.piece(0);
     if is_name(first) && !KINDS.contains(&first) {
-        if reader.is_end(1) {
-            return read_other(reader, 0);
+        if reader.is_end(next) {
+            return read_other(reader, at);
         }
         let words = "words of a variable are parted by `|`: `idle | busy`";
-        return Err(Stop::at(1, Words::of(words)));
+        return Err(Stop::at(next, Words::of(words)));
     }
-    let end = read_kind(reader, 0)?;
+    let end = read_kind(reader, at)?;
     if reader.is_end(end) {
         return Ok(());
     }
@@ -35,9 +40,40 @@ pub(crate) fn read_state(reader: &Reader<'_>, variable: &str) -> Result<(), Stop
     Err(Stop::at(end, Words::of(words)))
 }
 
-/// Reads words with `|` between.
-fn read_words(reader: &Reader<'_>, variable: &str) -> Result<(), Stop> {
-    let mut at = 0;
+/// Reads the places of a table in its brackets, and gives the number of the piece behind.
+fn read_places(reader: &Reader<'_>) -> Result<usize, Stop> {
+    let end = if reader.piece(1) == "nodes" {
+        2
+    } else {
+        read_last(reader)?
+    };
+    reader.closed_place(0, end)
+}
+
+/// What stands in the brackets of a table.
+const PLACES: &str =
+    "in the brackets stands `nodes`, for a cell for each node, or `1..` and how many cells there are: `[1..3] 0..9`";
+
+/// Reads the places of a table that are numbers from 1 on, and gives the number of the piece behind.
+fn read_last(reader: &Reader<'_>) -> Result<usize, Stop> {
+    if reader.is_end(1) {
+        return Err(Stop::at(0, Words::of(PLACES)));
+    }
+    if !is_number(reader.piece(1)) || reader.piece(2) != ".." || !is_number(reader.piece(3)) {
+        return Err(Stop::at(1, Words::of(PLACES)));
+    }
+    if reader.piece(1).trim_start_matches('0') != "1" {
+        return Err(Stop::at(1, Words::of("the places of a table begin with 1")));
+    }
+    if reader.piece(3).trim_start_matches('0') == "" {
+        return Err(Stop::at(3, Words::of("a table has 1 cell at least, and at most 32")));
+    }
+    Ok(4)
+}
+
+/// Reads words from a piece on, with `|` between.
+fn read_words(reader: &Reader<'_>, first: usize, variable: &str) -> Result<(), Stop> {
+    let mut at = first;
     for _ in 0..=reader.pieces.len() {
         read_own_word(reader, at, variable)?;
         at = behind(at);

@@ -23,22 +23,40 @@ fn put_state<'a>(names: &mut Vec<Known<'a>>, table: &'a Table) -> Result<(), All
     };
     for (key, value) in entries.iter() {
         let text = text_of(value);
-        let class = if is_flag(entries, text) {
+        let class = if is_table(text) {
+            Class::Table
+        } else if is_flag(entries, text) {
             Class::Flag
         } else {
             Class::Variable
         };
         names.push(Known::new(key.as_str(), class, ""))?;
-        put_words(names, key.as_str(), text)?;
+        put_words(names, key.as_str(), kind_in(text))?;
     }
     Ok(())
 }
 
-/// Whether a variable is a flag, by its text or that of the variable whose name it is.
+/// Whether a variable is a table, by its text.
+pub(crate) fn is_table(text: &str) -> bool {
+    text.trim_start().starts_with('[')
+}
+
+/// What the text of a variable says of each of its cells: what stands behind its square brackets, where it has some.
+fn kind_in(text: &str) -> &str {
+    if !is_table(text) {
+        return text;
+    }
+    match text.split_once(']') {
+        Some((_places, kind)) => kind,
+        None => "",
+    }
+}
+
+/// Whether a variable that is no table is a flag, by its text or that of the variable whose name it is.
 fn is_flag(entries: &Table, text: &str) -> bool {
     let text = text.trim();
     match entries.get(text) {
-        Some(other) => text_of(other).trim() == FLAG,
+        Some(other) => kind_in(text_of(other)).trim() == FLAG,
         None => text == FLAG,
     }
 }

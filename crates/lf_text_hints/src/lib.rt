@@ -7,6 +7,7 @@
 
 mod allowed;
 mod atoms;
+mod bodies;
 mod calls;
 mod events;
 mod expressions;

@@ -1,16 +1,17 @@
 //! What rules set and send.
 
-use crate::atoms::is_fixed;
-use crate::expressions::{read_number_or_set, read_truth};
+use crate::atoms::{is_fixed, no_items};
+use crate::expressions::{IN_BRACKETS, read_number_or_set, read_truth};
 use crate::hint::{Words, in_quotes, is_of_word};
 use crate::known::{fields_in, inside_of};
 use crate::named::{Class, first_named};
 use crate::reader::Reader;
 use crate::slips::instead_of;
 use crate::stop::{Near, Stop, behind};
-use lf_rules::Sort;
+use lf_rules::{Cells, Sort, Within};
+use lf_texts::with_it;
 
-/// Reads what a rule sets: variables with values, and commas between.
+/// Reads what a rule sets: variables and cells with values, and commas between.
 pub(crate) fn read_sets(reader: &Reader<'_>) -> Result<(), Stop> {
     let mut at = 0;
     for _ in 0..=reader.pieces.len() {
@@ -49,28 +50,84 @@ fn read_set(reader: &Reader<'_>, at: usize) -> Result<usize, Stop> {
     if reader.is_end(at) {
         return Err(nothing(reader, at, "an assignment has to, such as `x = 1`"));
     }
-    let sort = match first_named(reader.names, name) {
-        Some(known) if known.class.is_variable() => reader.sort_of(name),
+    match first_named(reader.names, name) {
+        Some(known) if known.class == Class::Table => set_cell(reader, at),
+        Some(known) if known.class.is_variable() => set_whole(reader, at),
         Some(known) => {
             let words = known.words();
             let words = Words::of(format_args!("{}, and only variables are set", words.as_str()));
-            return Err(Stop::at(at, words));
+            Err(Stop::at(at, words))
         }
-        None => return Err(no_variable(reader, at)),
-    };
+        None => Err(no_variable(reader, at)),
+    }
+}
+
+/// Reads the assignment to a variable that is no table.
+fn set_whole(reader: &Reader<'_>, at: usize) -> Result<usize, Stop> {
+    let name = reader.piece(at);
+    if reader.piece(behind(at)) == "[" {
+        return Err(no_items(reader, at));
+    }
     if is_set_before(reader, at) {
         return Err(Stop::at(
             at,
             Words::of("it is set before: a rule sets a variable once"),
         ));
     }
-    if reader.piece(behind(at)) == "==" {
-        return Err(Stop::at(behind(at), Words::of("an assignment is written `=`")));
+    let what = Words::of(format_args!("`{name}`"));
+    set_to(reader, behind(at), reader.sort_of(name), what.as_str())
+}
+
+/// Reads the assignment to a cell of a table, or to those of a set of nodes.
+fn set_cell(reader: &Reader<'_>, at: usize) -> Result<usize, Stop> {
+    let name = reader.piece(at);
+    let opened = behind(at);
+    let is_each = reader.cells_of(name) == Some(Cells::EachNode);
+    if reader.piece(opened) != "[" {
+        let more = if is_each {
+            Words::of(format_args!(", or `{name}[all] = ..`"))
+        } else {
+            Words::of("")
+        };
+        let words = Words::of(format_args!(
+            "a table, whose cells are set: `{name}[{}] = ..`{}",
+            reader.place_in(name),
+            more.as_str()
+        ));
+        return Err(Stop::at(at, words));
     }
-    let first = reader.past(behind(at), "=")?;
+    let place = read_number_or_set(reader, behind(opened))?;
+    if is_each {
+        reader.wants_nodes(&place, "in the brackets stands a node or a set of nodes")?;
+    } else {
+        reader.wants(&place, Sort::Number, IN_BRACKETS)?;
+    }
+    let end = reader.closed_place(opened, place.to)?;
+    let inside = with_it(
+        reader.place,
+        if is_each {
+            Within::Receiver
+        } else {
+            Within::Nothing
+        },
+    );
+    let inner = Reader {
+        place: &inside,
+        ..*reader
+    };
+    let what = Words::of(format_args!("a cell of `{name}`"));
+    set_to(&inner, end, reader.cell_sort(name), what.as_str())
+}
+
+/// Reads a sign and the value that something gets which takes values of this sort.
+fn set_to(reader: &Reader<'_>, at: usize, sort: Option<Sort>, what: &str) -> Result<usize, Stop> {
+    if reader.piece(at) == "==" {
+        return Err(Stop::at(at, Words::of("an assignment is written `=`")));
+    }
+    let first = reader.past(at, "=")?;
     let value = read_truth(reader, first)?;
     if let Some(sort) = sort {
-        let why = Words::of(format_args!("`{name}` is {}", kind_words(reader, sort).as_str()));
+        let why = Words::of(format_args!("{what} is {}", kind_words(reader, sort).as_str()));
         reader.wants(&value, sort, why.as_str())?;
     }
     Ok(value.to)
@@ -116,8 +173,8 @@ fn is_set_before(reader: &Reader<'_>, at: usize) -> bool {
             return true;
         }
         match piece.text {
-            "(" | "{" => depth = depth.saturating_add(1),
-            ")" | "}" => depth = depth.saturating_sub(1),
+            "(" | "{" | "[" => depth = depth.saturating_add(1),
+            ")" | "}" | "]" => depth = depth.saturating_sub(1),
             _ => {}
         }
         begins = depth == 0 && piece.text == ",";
@@ -166,7 +223,12 @@ fn read_send(reader: &Reader<'_>, at: usize) -> Result<usize, Stop> {
         }
         None => return Err(Stop::at(at, Words::of("no note of this name")).near(Near::Notes)),
     };
-    let to = read_values(reader, note.of, at)?;
+    let receiver = with_it(reader.place, Within::Receiver);
+    let inner = Reader {
+        place: &receiver,
+        ..*reader
+    };
+    let to = read_values(&inner, note.of, at)?;
     let piece = reader.piece(to);
     if piece != "to" && !reader.is_end(to) && piece.starts_with(is_of_word) {
         return Err(no_to(reader, to));

@@ -9,6 +9,8 @@ pub enum Class {
     Variable,
     /// A variable that is a flag.
     Flag,
+    /// A variable that is a table.
+    Table,
     /// A word of a variable.
     Word,
     Let,
@@ -48,6 +50,7 @@ impl Class {
         match self {
             Class::Constant => "a constant",
             Class::Variable | Class::Flag => "a variable",
+            Class::Table => "a table",
             Class::Word => "a word of a variable",
             Class::Let => "a let",
             Class::Fact => "a fact",
@@ -58,10 +61,10 @@ impl Class {
 
     /// Whether names of the class are variables.
     pub fn is_variable(self) -> bool {
-        matches!(self, Class::Variable | Class::Flag)
+        matches!(self, Class::Variable | Class::Flag | Class::Table)
     }
 
-    /// Whether names of the class are facts.
+    /// Whether names of the class are facts, but for words of tables.
     pub fn is_fact(self) -> bool {
         matches!(self, Class::Fact | Class::Word | Class::Flag)
     }

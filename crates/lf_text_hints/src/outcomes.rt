@@ -120,6 +120,17 @@ fn no_fact_words(reader: &Reader<'_>, known: Known<'_>) -> Words {
             };
             Words::of(format_args!("a variable, and no fact{}", more.as_str()))
         }
+        Class::Table => Words::of(format_args!(
+            "a table, and no fact; what is asked of a cell stands in `facts` under a name: `{}[{}] = ..`",
+            known.name,
+            reader.place_in(known.name)
+        )),
+        Class::Word if !reader.is_fact(&known) => Words::of(format_args!(
+            "a word of a table, and no fact; what is asked of a cell stands in `facts` under a name: `{}[{}] = {}`",
+            known.of,
+            reader.place_in(known.of),
+            known.name
+        )),
         _ => Words::of(format_args!(
             "{}, and no fact; a fact of it stands in `facts` under a name",
             words.as_str()
@@ -193,7 +204,7 @@ fn left_there(reader: &Reader<'_>, at: usize) -> Stop {
         return Stop::at(at, Words::of(words));
     }
     let words = match piece {
-        ")" | "}" => "it closes no bracket that is open",
+        ")" | "}" | "]" => "it closes no bracket that is open",
         "at" =>
             "a node is named where nothing else says of which nodes: `done at 2`, and not `each done at 2`",
         "," => "one outcome stands there; join two with `and` or `or`",

@@ -4,9 +4,9 @@ use crate::hint::Words;
 use crate::named::{Class, Known, first_named};
 use crate::pieces::{Piece, is_digit};
 use crate::spot::Spot;
-use crate::stop::Stop;
+use crate::stop::{Stop, behind};
 use lf_grammar::{Place, Token, Unread, read_truth};
-use lf_rules::Sort;
+use lf_rules::{Cells, Row, Sort};
 use std::alloc::Global;
 
 /// A text that is read, and what may be named in it.
@@ -113,7 +113,50 @@ impl<'a> Reader<'a> {
     /// What the value is that has a name here. None where none does.
     pub(crate) fn sort_of(&self, name: &str) -> Option<Sort> {
         let leaf = self.place.leaf(name)?;
-        self.place.definition.leaf_sort(self.place.scope, leaf)
+        self.place
+            .definition
+            .leaf_sort(self.place.scope, self.place.within, leaf)
+    }
+
+    /// What a cell is of the table with a name.
+    pub(crate) fn cell_sort(&self, name: &str) -> Option<Sort> {
+        let row = self.place.row(self.place.leaf(name)?)?;
+        self.place.definition.row_sort(self.place.scope, row)
+    }
+
+    /// How many cells the table with a name has. None where there is no such table.
+    pub(crate) fn cells_of(&self, name: &str) -> Option<Cells> {
+        match self.place.row(self.place.leaf(name)?)? {
+            Row::Table(table) => Some(table.cells),
+            Row::Given(_) => None,
+        }
+    }
+
+    /// A place that the table with a name has, as it is written.
+    pub(crate) fn place_in(&self, name: &str) -> &'static str {
+        match self.cells_of(name) {
+            Some(Cells::EachNode) => "me",
+            _ => "1",
+        }
+    }
+
+    /// Whether a name is a fact. A word of a table is none.
+    pub(crate) fn is_fact(&self, known: &Known<'_>) -> bool {
+        let is_of_table = match first_named(self.names, known.of) {
+            Some(of) => of.class == Class::Table,
+            None => false,
+        };
+        known.class.is_fact() && !(known.class == Class::Word && is_of_table)
+    }
+
+    /// Whether a piece stands somewhere behind one and before another.
+    pub(crate) fn has_between(&self, from: usize, to: usize, wanted: &str) -> bool {
+        for at in behind(from)..to {
+            if self.piece(at) == wanted {
+                return true;
+            }
+        }
+        false
     }
 
     /// What the field with a number is of the note with a name.

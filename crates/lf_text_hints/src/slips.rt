@@ -1,7 +1,7 @@
 //! What is written as in other languages.
 
 /// Signs of other languages, and what is written instead.
-const SIGNS: [(&str, &str); 56] = [
+const SIGNS: [(&str, &str); 55] = [
     ("==", "equality is written `=`"),
     ("===", "equality is written `=`"),
     (":=", "an assignment is written `=`"),
@@ -64,8 +64,10 @@ const SIGNS: [(&str, &str); 56] = [
         ".",
         "numbers are whole, and nothing has parts; a range of nodes is `{0..2}`",
     ),
-    ("[", "there are no lists; a set of nodes is `{0, 2}`"),
-    ("]", "there are no lists; a set of nodes is `{0, 2}`"),
+    (
+        "[",
+        "brackets stand behind tables and constants alone: `log[1]`; a set of nodes is `{0, 2}`",
+    ),
     (
         "?",
         "there is no choice in an expression: write two rules, the second with `else`",

@@ -1,5 +1,6 @@
 //! Why a piece can't stand where it stands.
 
+use crate::atoms::no_divisor;
 use crate::hint::{Words, in_quotes};
 use crate::named::first_named;
 use crate::reader::{Reader, is_number};
@@ -37,14 +38,15 @@ impl<'a> Reader<'a> {
                 "a value has to stand before it; it stands between a note and its receivers alone",
             "-" => "there are no numbers below 0; a difference stands between two values",
             ".." => "it stands between numbers in a set alone, such as `{0..2}` or `{1..}`",
-            ":" => "it stands in notes alone, between a field and its kind",
+            ":" => COLON,
+            "where" => WHERE,
             _ if piece.starts_with('\'') || piece.starts_with('"') || piece.starts_with('`') => {
                 "words stand without quotes, such as `phase = idle`"
             }
             _ if OPERATORS.contains(&piece) && before.is_empty() => {
                 "nothing stands before it; a value has to"
             }
-            ")" | "}" | "," => "a value has to stand before it",
+            ")" | "}" | "]" | "," => "a value has to stand before it",
             _ if OPERATORS.contains(&piece) => "a value has to stand before it",
             _ =>
                 "a value has to stand there: a number, a name, a set, or brackets with an expression",
@@ -55,25 +57,39 @@ impl<'a> Reader<'a> {
     /// That a piece stands behind a whole expression.
     pub fn left(&self, at: usize) -> Stop {
         let piece = self.piece(at);
+        if piece == "[" && self.before(at.saturating_sub(1)) == "mod" {
+            return no_divisor(at.saturating_sub(1));
+        }
         if let Some(words) = instead_of(piece) {
             return Stop::at(at, Words::of(words));
         }
-        let words = match piece {
-            ")" | "}" => "it closes no bracket that is open",
-            ".." => "it stands between numbers in a set alone, such as `{0..2}` or `{1..}`",
-            ":" => "it stands in notes alone, between a field and its kind",
-            "else" => "it stands at the beginning of `when` alone",
-            "to" => "it stands in `send` alone, between a note and its receivers",
+        match self.words_left(at) {
+            Some(words) => Stop::at(at, Words::of(words)),
+            None => self.unjoined(at),
+        }
+    }
+
+    /// What a piece behind a whole expression is taken for, where it can be told by itself.
+    fn words_left(&self, at: usize) -> Option<&'static str> {
+        let piece = self.piece(at);
+        match piece {
+            ")" | "}" | "]" => Some("it closes no bracket that is open"),
+            ".." => Some("it stands between numbers in a set alone, such as `{0..2}` or `{1..}`"),
+            ":" => Some(COLON),
+            "where" => Some(WHERE),
+            "else" => Some("it stands at the beginning of `when` alone"),
+            "to" => Some("it stands in `send` alone, between a note and its receivers"),
             "not" if self.piece(behind(at)) == "in" => {
-                "\"not in\" is written `not` before the whole: `not x in s`"
+                Some("\"not in\" is written `not` before the whole: `not x in s`")
             }
-            "," | ";" => comma_words(self.spot),
+            "," | ";" => Some(comma_words(self.spot)),
             _ if COMPARISONS.contains(&piece) => {
-                "what is compared can't be compared again; join two comparisons with `and`: `a < b and b < c`"
+                Some(
+                    "what is compared can't be compared again; join two comparisons with `and`: `a < b and b < c`",
+                )
             }
-            _ => return self.unjoined(at),
-        };
-        Stop::at(at, Words::of(words))
+            _ => None,
+        }
     }
 
     /// That nothing joins a piece to what stands before it.
@@ -123,11 +139,24 @@ impl<'a> Reader<'a> {
         wanted: &'static str,
     ) -> Result<usize, Stop> {
         let piece = self.piece(at);
-        if piece == wanted || self.is_end(at) || instead_of(piece).is_some() {
+        if piece == wanted
+            || piece == "where"
+            || self.is_end(at)
+            || instead_of(piece).is_some()
+            || self.has_between(opened, at, "where")
+        {
             return self.closed(opened, at, wanted);
         }
         let words = Words::of(format_args!("`,` or `{wanted}` has to stand before it"));
         Err(Stop::at(at, words))
+    }
+
+    /// Goes on behind a square bracket that has to close there one that was opened at an earlier piece.
+    pub fn closed_place(&self, opened: usize, at: usize) -> Result<usize, Stop> {
+        if self.is_end(at) {
+            return self.closed(opened, at, "]");
+        }
+        self.past(at, "]")
     }
 
     /// Goes on behind a bracket that has to close there one that was opened at an earlier piece.
@@ -140,7 +169,7 @@ impl<'a> Reader<'a> {
             return Err(Stop::at(opened, words));
         }
         match self.piece(at) {
-            ")" | "}" => {
+            ")" | "}" | "]" => {
                 let words = Words::of(format_args!("`{wanted}` has to stand there, or before it"));
                 Err(Stop::at(at, words))
             }
@@ -148,6 +177,13 @@ impl<'a> Reader<'a> {
         }
     }
 }
+
+/// Where a colon stands.
+const COLON: &str =
+    "it stands in notes, between a field and its kind, and in `min(s: x)` and `max(s: x)`, behind a set of nodes";
+
+/// Where `where` stands.
+const WHERE: &str = "it stands in a set, behind another one: `{all where x[it] = 1}`";
 
 /// Why a comma can't stand behind an expression at such a place.
 fn comma_words(spot: Spot) -> &'static str {

@@ -172,10 +172,14 @@ fn put<'a>(names: &mut Vec<&'a str>, words: &[&'static str]) -> Result<(), Alloc
 fn may_be(reader: &Reader<'_>, near: Near, known: &Known<'_>) -> bool {
     match near {
         Near::Values => {
-            let is_word = known.class == Class::Word;
-            reader.sort_of(known.name).is_some() && (!is_word || reader.spot.knows_state())
+            let knows_state = reader.spot.knows_state();
+            match known.class {
+                Class::Word => knows_state && reader.sort_of(known.name).is_some(),
+                Class::Table => knows_state,
+                _ => reader.sort_of(known.name).is_some(),
+            }
         }
-        Near::Facts => known.class.is_fact(),
+        Near::Facts => reader.is_fact(known),
         Near::Notes | Near::Events => known.class == Class::Note,
         Near::Variables | Near::Kinds => known.class.is_variable(),
         _ => false,

@@ -1,12 +1,15 @@
 -- What is read of the texts of notes and variables is what may stand there.
 use Rattle.std.proofs.Common.{◌≡◌, ℕ, zero, suc, ◌≤◌, ◌==◌, ◌&&◌, Bool, true, false, not, cond, List, [], ◌∷◌}
-use Rattle.std.proofs.Common.{length, Option, Some, None, Ok, refl, sym, ap, subst, ◌∙◌, map, arith}
+use Rattle.std.proofs.Common.{length, Option, Some, None, Ok, Err, refl, sym, ap, subst, ◌∙◌, map, arith, inl, inr}
 use Rattle.std.specs.Prelude.{codes, nat_le}
 use Rattle.std.specs.List.{list_all}
 use Rattle.std.specs.Str.{bytes_eq}
 use Rattle.std.proofs.lemmas.Bool.{and_from, and_parts, le-leb}
 use Rattle.std.proofs.lemmas.List.Folds.{list_all-map}
 use Rattle.lf_rules.specs.Forms.{is_kind, is_form}
+use Rattle.lf_rules.specs.Tables.{is_cells}
+use Rattle.lf_rules.specs.declared.table.Cells.{Cells}
+use Rattle.lf_rules.specs.declared.table.Cells.TheVariants as cells
 use Rattle.lf_rules.specs.declared.kind.Kind.{Kind}
 use Rattle.lf_rules.specs.declared.kind.Kind.TheVariants as kinds
 use Rattle.lf_rules.specs.declared.definition.Definition.{Definition}
@@ -15,7 +18,9 @@ use Rattle.lf_rules.specs.declared.definition.Variable.{Variable}
 use Rattle.lf_grammar.specs.declared.sign.Sign.TheVariants as signs
 use Rattle.lf_grammar.specs.declared.token.Token.{Token}
 use Rattle.lf_grammar.specs.declared.token.Token.TheVariants as tokens
+use Rattle.lf_grammar.specs.Fronts.{behind_sign, behind_word}
 use Rattle.lf_grammar.specs.Places.{Context}
+use Rattle.lf_texts.specs.declared.error.TextError.TheVariants as faults
 use Rattle.lf_texts.specs.declared.forms.Field.{Field}
 use Rattle.lf_texts.specs.declared.variables.VariableText.{VariableText}
 use Rattle.lf_texts.specs.declared.variables.VariableText.TheVariants as texts
@@ -26,9 +31,10 @@ use Rattle.lf_texts.specs.Kinds.{kind_named, first_range, kind_of, kind_or, firs
 use Rattle.lf_texts.specs.Lists.{listed}
 use Rattle.lf_texts.specs.Names.{is_name, is_note_name}
 use Rattle.lf_texts.specs.Reading.{Reading, ◌>>=◌, checked, Read}
-use Rattle.lf_texts.specs.Variables.{first_free, words_in, own_in, kind_alone, held_by, variable_in, HasWords}
+use Rattle.lf_texts.specs.Variables.{first_free, words_in, own_in, kind_alone, held_by, held_in, variable_in, HasWords}
+use Rattle.lf_texts.specs.Tables.{places_to, first_numbered, first_places, cells_inside, first_cells}
 use Rattle.lf_texts.proofs.ListLemmas.{listed_count}
-use Rattle.lf_texts.proofs.SortLemmas.{step-inv, checked-inv, listed-all}
+use Rattle.lf_texts.proofs.SortLemmas.{step-inv, checked-inv, some-inv, listed-all}
 
 -- ---- kinds
 
@@ -120,7 +126,7 @@ module _ (d : Definition) where
   -- kinds of fields, of which there are few
   record AreKinds (ks : List Kind) : Type 0 where
     pub all : list_all (is_kind d) ks ≡ true
-    pub few : length ks ≤ 6
+    pub few : length ks ≤ 7
 
   kept-length : (xs : List Field) → length (map (λ field. field.kind) xs) ≡ length xs
   kept-length [] = refl
@@ -130,15 +136,15 @@ module _ (d : Definition) where
   unfolding kinds_inside
   kinds-few ts ks are h =
       let inner = step-inv (past signs.OpenRound ts)
-      (λ inner. listed (first_field d.variables) signs.Comma 6 [] inner >>= λ x. past signs.CloseRound x.rest >>= λ rest. ended rest
+      (λ inner. listed (first_field d.variables) signs.Comma 7 [] inner >>= λ x. past signs.CloseRound x.rest >>= λ rest. ended rest
       >>= λ end. Ok (map (λ field. field.kind) x.value)) h in
-      let x = step-inv (listed (first_field d.variables) signs.Comma 6 [] inner.0)
+      let x = step-inv (listed (first_field d.variables) signs.Comma 7 [] inner.0)
       (λ x. past signs.CloseRound x.rest >>= λ rest. ended rest >>= λ end. Ok (map (λ field. field.kind) x.value)) inner.2 in
       let rest = step-inv (past signs.CloseRound x.0.rest) (λ rest. ended rest >>= λ end. Ok (map (λ field. field.kind) x.0.value)) x.2 in
       let end = step-inv (ended rest.0) (λ end. Ok (map (λ field. field.kind) x.0.value)) rest.2 in
       let made : map (λ field. field.kind) x.0.value ≡ ks = cc in
-      let all = listed-all (first_field d.variables) signs.Comma is_kind_of (λ before ts r is. field-first before ts r are is) 6 [] inner.0 x.0 refl x.1 in
-      let count = listed_count (first_field d.variables) signs.Comma 6 [] inner.0 x.0 x.1 in
+      let all = listed-all (first_field d.variables) signs.Comma is_kind_of (λ before ts r is. field-first before ts r are is) 7 [] inner.0 x.0 refl x.1 in
+      let count = listed_count (first_field d.variables) signs.Comma 7 [] inner.0 x.0 x.1 in
       record {
         all = ap (list_all (is_kind d)) (sym made) ∙ list_all-map (is_kind d) (λ (field : Field). field.kind) x.0.value ∙ all;
         few = omega (arith, ap length made, kept-length x.0.value, count.1);
@@ -162,7 +168,7 @@ module _ (d : Definition) where
       let kinds = step-inv (kinds_in d.variables x.0.rest) (λ kinds. Ok (record { name = x.0.value; fields = kinds })) fit.2 in
       let made : record { name = x.0.value; fields = kinds.0 } ≡ form = cc in
       let found = kinds-all x.0.rest kinds.0 are kinds.1 in
-      ap (is_form d) (sym made) ∙ and_from (nat_le (length kinds.0) 6) (list_all (is_kind d) kinds.0) (le-leb (length kinds.0) 6 found.few) found.all
+      ap (is_form d) (sym made) ∙ and_from (nat_le (length kinds.0) 7) (list_all (is_kind d) kinds.0) (le-leb (length kinds.0) 7 found.few) found.all
 
 -- ---- what a variable holds
 
@@ -211,18 +217,97 @@ module _ (at : Context) where
       let x = step-inv (first_range ts) (λ x. kind_alone x) h in
       held-by-kind x.0 text (λ d. range-kind d ts x.0 x.1) x.2
 
-  variable-held : (ts : List Token) (text : VariableText) → variable_in at ts ≡ Ok text → IsHeld text
-  unfolding variable_in
-  variable-held [] text h = ranged-held [] text h
-  variable-held (tokens.Number n ∷ rest) text h = ranged-held (tokens.Number n ∷ rest) text h
-  variable-held (tokens.Sign sign ∷ rest) text h = ranged-held (tokens.Sign sign ∷ rest) text h
-  variable-held (tokens.Word word ∷ rest) text h =
+  cell-held : (ts : List Token) (text : VariableText) → held_in at ts ≡ Ok text → IsHeld text
+  unfolding held_in
+  cell-held [] text h = ranged-held [] text h
+  cell-held (tokens.Number n ∷ rest) text h = ranged-held (tokens.Number n ∷ rest) text h
+  cell-held (tokens.Sign sign ∷ rest) text h = ranged-held (tokens.Sign sign ∷ rest) text h
+  cell-held (tokens.Word word ∷ rest) text h =
       by-held (tokens.Word word ∷ rest) word rest (kind_named word) text (λ k is d. named-kind d word k is) h
 
-  pub kind-holds : (ts : List Token) (kind : Kind) → variable_in at ts ≡ Ok (texts.Kind kind) → (d : Definition) → is_kind d kind ≡ true
-  kind-holds ts kind h = variable-held ts (texts.Kind kind) h
+  -- ---- how many cells it has
 
-  pub words-hold : (ts : List Token) (text : VariableText) → variable_in at ts ≡ Ok text → HasWords text
-  words-hold ts (texts.Kind kind) h = tt
-  words-hold ts (texts.Like name) h = tt
-  words-hold ts (texts.Words words) h = variable-held ts (texts.Words words) h
+  places-by : (none few : Bool) (n : ℕ) (found : Cells) → (n == 0) ≡ none → nat_le n 32 ≡ few
+      → cond none (Err faults.Unfit) (cond few (Ok (cells.UpTo n)) (Err faults.PastLimit)) ≡ Ok found → is_cells found ≡ true
+  places-by true few n found none small h = absurd cc
+  places-by false true n found none small h =
+      let made : cells.UpTo n ≡ found = cc in
+      ap is_cells (sym made) ∙ and_from (nat_le 1 n) (nat_le n 32) (positive n (ap not none)) small
+  places-by false false n found none small h = absurd cc
+
+  numbered-fit : (ts : List Token) (r : Read Cells) → first_numbered ts ≡ Ok r → is_cells r.value ≡ true
+  unfolding first_numbered
+  numbered-fit ts r h =
+      let first = step-inv (first_number ts)
+      (λ first. checked (first.value == 1) >>= λ fit. past signs.To first.rest >>= λ inner. first_number inner >>= λ last. places_to last.value
+      >>= λ found. Ok (record { value = found; rest = last.rest })) h in
+      let fit = step-inv (checked (first.0.value == 1))
+      (λ fit. past signs.To first.0.rest >>= λ inner. first_number inner >>= λ last. places_to last.value
+      >>= λ found. Ok (record { value = found; rest = last.rest })) first.2 in
+      let inner = step-inv (past signs.To first.0.rest)
+      (λ inner. first_number inner >>= λ last. places_to last.value >>= λ found. Ok (record { value = found; rest = last.rest })) fit.2 in
+      let last = step-inv (first_number inner.0)
+      (λ last. places_to last.value >>= λ found. Ok (record { value = found; rest = last.rest })) inner.2 in
+      let found = step-inv (places_to last.0.value) (λ found. Ok (record { value = found; rest = last.0.rest })) last.2 in
+      let made : record { value = found.0; rest = last.0.rest } ≡ r = cc in
+      ap (λ (z : Read Cells). is_cells z.value) (sym made) ∙ places-by (last.0.value == 0) (nat_le last.0.value 32) last.0.value found.0 refl refl found.1
+
+  places-fit : (ts : List Token) (r : Read Cells) → first_places ts ≡ Ok r → is_cells r.value ≡ true
+  unfolding first_places
+  places-fit ts r h =
+      elim (some-inv (behind_word (codes "nodes") ts) (first_numbered ts) (λ rest. Ok (record { value = cells.EachNode; rest = rest })) h) [
+        | inl numbered ↦ numbered-fit ts r numbered
+        | inr nodes ↦
+            let made : record { value = cells.EachNode; rest = nodes.0 } ≡ r = cc (nodes.1) in
+            ap (λ (z : Read Cells). is_cells z.value) (sym made)
+      ]
+
+  inside-fits : (ts : List Token) (r : Read Cells) → cells_inside ts ≡ Ok r → is_cells r.value ≡ true
+  unfolding cells_inside
+  inside-fits ts r h =
+      let x = step-inv (first_places ts) (λ x. past signs.CloseSquare x.rest >>= λ rest. Ok (record { value = x.value; rest = rest })) h in
+      let rest = step-inv (past signs.CloseSquare x.0.rest) (λ rest. Ok (record { value = x.0.value; rest = rest })) x.2 in
+      let made : record { value = x.0.value; rest = rest.0 } ≡ r = cc in
+      ap (λ (z : Read Cells). is_cells z.value) (sym made) ∙ places-fit ts x.0 x.1
+
+  cells-fit : (ts : List Token) (r : Read Cells) → first_cells ts ≡ Ok r → is_cells r.value ≡ true
+  unfolding first_cells
+  cells-fit ts r h =
+      elim (some-inv (behind_sign signs.OpenSquare ts) (Ok (record { value = cells.One; rest = ts })) (λ inner. cells_inside inner) h) [
+        | inl one ↦
+            let made : record { value = cells.One; rest = ts } ≡ r = cc (one) in
+            ap (λ (z : Read Cells). is_cells z.value) (sym made)
+        | inr more ↦ inside-fits more.0 r more.1
+      ]
+
+  -- ---- both
+
+  record IsVariable (v : Cells × VariableText) : Type 0 where
+    pub cells : is_cells v.0 ≡ true
+    pub held : IsHeld v.1
+
+  variable-held : (ts : List Token) (v : Cells × VariableText) → variable_in at ts ≡ Ok v → IsVariable v
+  unfolding variable_in
+  variable-held ts v h =
+      let x = step-inv (first_cells ts) (λ x. held_in at x.rest >>= λ text. Ok (x.value, text)) h in
+      let text = step-inv (held_in at x.0.rest) (λ text. Ok (x.0.value, text)) x.2 in
+      let made : (x.0.value, text.0) ≡ v = cc in
+      record {
+        cells = ap (λ (z : Cells × VariableText). is_cells z.0) (sym made) ∙ cells-fit ts x.0 x.1;
+        held = subst (λ (z : Cells × VariableText). IsHeld z.1) made (cell-held x.0.rest text.0 text.1);
+      }
+
+  pub cells-hold : (ts : List Token) (v : Cells × VariableText) → variable_in at ts ≡ Ok v → is_cells v.0 ≡ true
+  cells-hold ts v h = (variable-held ts v h).cells
+
+  pub kind-holds : (ts : List Token) (found : Cells) (kind : Kind) → variable_in at ts ≡ Ok (found, texts.Kind kind)
+      → (d : Definition) → is_kind d kind ≡ true
+  kind-holds ts found kind h = (variable-held ts (found, texts.Kind kind) h).held
+
+  words-in : (text : VariableText) → IsHeld text → HasWords text
+  words-in (texts.Kind kind) held = tt
+  words-in (texts.Like name) held = tt
+  words-in (texts.Words words) held = held
+
+  pub words-hold : (ts : List Token) (v : Cells × VariableText) → variable_in at ts ≡ Ok v → HasWords v.1
+  words-hold ts v h = words-in v.1 (variable-held ts v h).held

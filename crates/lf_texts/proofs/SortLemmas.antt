@@ -9,7 +9,7 @@ use Rattle.lf_rules.specs.declared.expr.Leaf.TheVariants as leaves
 use Rattle.lf_rules.specs.declared.sort.Sort.{Sort}
 use Rattle.lf_rules.specs.declared.sort.Sort.TheVariants as sorts
 use Rattle.lf_grammar.specs.declared.token.Token.{Token}
-use Rattle.lf_grammar.specs.Expressions.{first_sum, first_truth}
+use Rattle.lf_grammar.specs.Expressions.{Found, first_sum, first_truth}
 use Rattle.lf_grammar.specs.Fronts.{behind_word}
 use Rattle.lf_grammar.specs.Places.{Context}
 use Rattle.lf_grammar.specs.Typing.{Said, as_set}
@@ -103,9 +103,9 @@ of_sort-inv sort a e h = wanted-by (same_sort a.sort sort) sort a e refl h
 module _ (at : Context) where
   -- a value of a sort where it stands
   abbrev is_here : Sort → Term → Bool
-  is_here sort e = is_a at.definition at.scope sort e
+  is_here sort e = is_a at.definition at.scope at.within sort e
 
-  typed : (sort : Sort) (a : Said) (e : Term) → tree_sort at.definition at.scope a.term ≡ Some a.sort → IsWanted sort a e → is_here sort e ≡ true
+  typed : (sort : Sort) (a : Said) (e : Term) → tree_sort at.definition at.scope at.within a.term ≡ Some a.sort → IsWanted sort a e → is_here sort e ≡ true
   typed sort a e sorted found = ap (is_here sort) (sym found.same) ∙ ap (λ o. is_of o sort) sorted ∙ found.sort
 
   pub first-sorted : (sort : Sort) (ts : List Token) (r : Read Term) → first_of_sort at sort ts ≡ Ok r → is_here sort r.value ≡ true
@@ -117,6 +117,13 @@ module _ (at : Context) where
       let value : e.0 ≡ r.value = ap (λ (z : Read Term). z.value) made in
       ap (is_here sort) (sym value)
       ∙ typed sort x.0.said e.0 (truth-sorted at ts x.0 (wanted-inv (first_truth at ts) x.1)) (of_sort-inv sort x.0.said e.0 e.1)
+
+  -- a sum is of its own sort
+  pub sum-here : (ts : List Token) (x : Found) (e : Term) → wanted (first_sum at ts) ≡ Ok x → expression x.said.term ≡ Ok e
+      → is_here x.said.sort e ≡ true
+  sum-here ts x e h is =
+      typed x.said.sort x.said e (sum-sorted at ts x (wanted-inv (first_sum at ts) h))
+      (record { same = expression-inv x.said.term e is; sort = same-self x.said.sort })
 
   pub nodes-first : (ts : List Token) (r : Read Term) → first_nodes at ts ≡ Ok r → is_here sorts.Nodes r.value ≡ true
   unfolding first_nodes

@@ -45,7 +45,7 @@ first_field variables before ts = do
 unfoldable pub kinds_inside : List Variable → List Token → Reading (List Kind)
 kinds_inside variables ts = do
   inner ← past signs.OpenRound ts
-  x ← listed (first_field variables) signs.Comma 6 [] inner
+  x ← listed (first_field variables) signs.Comma 7 [] inner
   rest ← past signs.CloseRound x.rest
   end ← ended rest
   Ok (map (λ field. field.kind) x.value)

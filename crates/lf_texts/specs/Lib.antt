@@ -8,5 +8,6 @@ pub mod Lists
 pub mod Names
 pub mod Reading
 pub mod Sends
+pub mod Tables
 pub mod Values
 pub mod Variables

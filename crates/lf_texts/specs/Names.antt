@@ -35,14 +35,15 @@ is_note_name (b ∷ bs) = is_ascii_uppercase b && is_note_name_behind bs
 -- the words of the language: values, what stands between or before them, and what belongs to outcomes, kinds and the parts of a rule
 unfoldable pub is_value : List ℕ → Bool
 is_value w =
-    bytes_eq w (codes "t") || (bytes_eq w (codes "me") || (bytes_eq w (codes "sender") || (bytes_eq w (codes "nodes") || (bytes_eq w (codes "all")
-    || (bytes_eq w (codes "true") || (bytes_eq w (codes "false") || (bytes_eq w (codes "clamped") || bytes_eq w (codes "replaced"))))))))
+    bytes_eq w (codes "t") || (bytes_eq w (codes "me") || (bytes_eq w (codes "sender") || (bytes_eq w (codes "it")
+    || (bytes_eq w (codes "nodes") || (bytes_eq w (codes "all") || (bytes_eq w (codes "true") || (bytes_eq w (codes "false")
+    || (bytes_eq w (codes "clamped") || bytes_eq w (codes "replaced")))))))))
 
 unfoldable pub is_operator : List ℕ → Bool
 is_operator w =
-    bytes_eq w (codes "and") || (bytes_eq w (codes "or") || (bytes_eq w (codes "not") || (bytes_eq w (codes "in") || (bytes_eq w (codes "mod")
-    || (bytes_eq w (codes "count") || (bytes_eq w (codes "lowest") || (bytes_eq w (codes "highest") || (bytes_eq w (codes "majority")
-    || (bytes_eq w (codes "min") || bytes_eq w (codes "max"))))))))))
+    bytes_eq w (codes "and") || (bytes_eq w (codes "or") || (bytes_eq w (codes "not") || (bytes_eq w (codes "in")
+    || (bytes_eq w (codes "where") || (bytes_eq w (codes "mod") || (bytes_eq w (codes "count") || (bytes_eq w (codes "lowest")
+    || (bytes_eq w (codes "highest") || (bytes_eq w (codes "majority") || (bytes_eq w (codes "min") || bytes_eq w (codes "max")))))))))))
 
 unfoldable pub is_of_outcomes : List ℕ → Bool
 is_of_outcomes w =

@@ -7,6 +7,7 @@ use Rattle.lf_rules.specs.Trees.{parts}
 use Rattle.lf_rules.specs.declared.expr.Leaf.TheVariants as leaves
 use Rattle.lf_rules.specs.declared.sort.Sort.{Sort}
 use Rattle.lf_rules.specs.declared.sort.Sort.TheVariants as sorts
+use Rattle.lf_rules.specs.declared.sort.Within.{Within}
 use Rattle.lf_grammar.specs.declared.token.Token.{Token}
 use Rattle.lf_grammar.specs.Expressions.{first_truth, first_sum}
 use Rattle.lf_grammar.specs.Fronts.{behind_word}
@@ -17,6 +18,10 @@ use Rattle.lf_texts.specs.declared.values.When.{When}
 use Rattle.lf_texts.specs.Fronts.{ended}
 use Rattle.lf_texts.specs.Lists.{where_some}
 use Rattle.lf_texts.specs.Reading.{Reading, ◌>>=◌, wanted, Read}
+
+-- the same place, where `it` is something else
+abbrev pub with_it : Within → Context → Context
+with_it within at = record at { within = within }
 
 -- an expression of no more than 256 parts
 abbrev pub expression : Term → Reading Term

@@ -1,6 +1,7 @@
 -- What variables hold.
 use Rattle.std.specs.Prelude.{ℕ, ◌≤◌, List, [], ◌∷◌, length, Option, Some, None, Ok}
 use Rattle.lf_rules.specs.declared.kind.Kind.{Kind}
+use Rattle.lf_rules.specs.declared.table.Cells.{Cells}
 use Rattle.lf_grammar.specs.declared.sign.Sign.TheVariants as signs
 use Rattle.lf_grammar.specs.declared.token.Token.{Token}
 use Rattle.lf_grammar.specs.declared.token.Token.TheVariants as tokens
@@ -13,6 +14,7 @@ use Rattle.lf_texts.specs.Kinds.{first_range, kind_named}
 use Rattle.lf_texts.specs.Lists.{listed}
 use Rattle.lf_texts.specs.Names.{is_free, is_name}
 use Rattle.lf_texts.specs.Reading.{Reading, ◌>>=◌, Read, checked}
+use Rattle.lf_texts.specs.Tables.{first_cells}
 
 -- a word behind others: one that is free
 unfoldable pub first_free : List Meaning → List (List ℕ) → List Token → Reading (Read (List ℕ))
@@ -42,10 +44,17 @@ abbrev pub held_by : Context → List Token → List ℕ → List Token → Opti
 held_by at ts word rest None = own_in at ts word rest
 held_by at ts word rest (Some kind) = kind_alone (record { value = kind; rest = rest })
 
--- what a variable holds
-unfoldable pub variable_in : Context → List Token → Reading VariableText
-variable_in at (tokens.Word word ∷ rest) = held_by at (tokens.Word word ∷ rest) word rest (kind_named word)
-variable_in at other = first_range other >>= λ x. kind_alone x
+-- what a cell holds
+unfoldable pub held_in : Context → List Token → Reading VariableText
+held_in at (tokens.Word word ∷ rest) = held_by at (tokens.Word word ∷ rest) word rest (kind_named word)
+held_in at other = first_range other >>= λ x. kind_alone x
+
+-- how many cells a variable has, and what each of them holds
+unfoldable pub variable_in : Context → List Token → Reading (Cells × VariableText)
+variable_in at ts = do
+  x ← first_cells ts
+  text ← held_in at x.rest
+  Ok (x.value, text)
 
 -- words of its own are 2 at least and 16 at most
 abbrev pub HasWords : VariableText → Type 0

@@ -16,7 +16,7 @@ use lf_rules::{Definition, Kind, Name, NoteForm, Variable};
 use std::alloc::Global;
 
 /// The most fields that a note has.
-const MOST_FIELDS: u8 = 6;
+const MOST_FIELDS: u8 = 7;
 
 /// A field of a note.
 #[derive(Debug, Drop)]
@@ -25,7 +25,7 @@ struct Field {
     kind: Kind,
 }
 
-/// Reads a text that says which form notes have: a new name, and in brackets at most 6 fields, each with a name of its own and the kind of its values, and no
+/// Reads a text that says which form notes have: a new name, and in brackets at most 7 fields, each with a name of its own and the kind of its values, and no
 /// brackets where it has none.
 #[tactic(auto, unfolding(crate::specs::Forms::note_in))]
 pub fn read_note(
@@ -34,7 +34,7 @@ pub fn read_note(
     tokens: &[Token],
 ) -> Result<NoteForm, TextError>
     ensures read { Gives (λ form. form) (note_in definition.now tokens.now) result }
-    ensures few { IfOk result (λ form. length form.fields ≤ 6) }
+    ensures few { IfOk result (λ form. length form.fields ≤ 7) }
 {
     let (word, rest) = first_word(tokens)?;
     if !is_note_name(word.as_str()) || is_form(definition.notes.as_slice(), word.as_str()) {
@@ -81,7 +81,7 @@ fn read_kinds(
     tokens: &[Token],
 ) -> Result<Vec<Kind>, TextError>
     ensures read { Gives (λ kinds. kinds.items) (kinds_in variables.now tokens.now) result }
-    ensures few { IfOk result (λ kinds. length kinds.items ≤ 6) }
+    ensures few { IfOk result (λ kinds. length kinds.items ≤ 7) }
 {
     if tokens.is_empty() {
         Ok(Vec::new(alloc))
@@ -98,7 +98,7 @@ fn read_inside(
     tokens: &[Token],
 ) -> Result<Vec<Kind>, TextError>
     ensures read { Gives (λ kinds. kinds.items) (kinds_inside variables.now tokens.now) result }
-    ensures few { IfOk result (λ kinds. length kinds.items ≤ 6) }
+    ensures few { IfOk result (λ kinds. length kinds.items ≤ 7) }
 {
     let inner = past(tokens, Sign::OpenRound)?;
     let (fields, rest) = read_fields(alloc, variables, inner)?;
@@ -114,7 +114,7 @@ fn read_fields<'t>(
     variables: &[Variable],
     tokens: &'t [Token],
 ) -> Result<(Vec<Field>, &'t [Token]), TextError>
-    ensures { Gives (λ r. record { value = r.0.items; rest = r.1.now }) (listed (first_field variables.now) Sign.Comma 6 [] tokens.now) result }
+    ensures { Gives (λ r. record { value = r.0.items; rest = r.1.now }) (listed (first_field variables.now) Sign.Comma 7 [] tokens.now) result }
 {
     let mut fields = Vec::new(alloc);
     let mut rest = tokens;

@@ -58,7 +58,7 @@ pub(crate) fn first_range(tokens: &[Token]) -> Result<(Kind, &[Token]), TextErro
 }
 
 /// The number that comes first, and the tokens behind it.
-fn first_number(tokens: &[Token]) -> Result<(u8, &[Token]), TextError>
+pub(crate) fn first_number(tokens: &[Token]) -> Result<(u8, &[Token]), TextError>
     ensures { Says read_by (first_number tokens.now) result }
 {
     match tokens.split_first() {

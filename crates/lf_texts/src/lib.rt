@@ -13,6 +13,7 @@ mod kinds;
 mod lists;
 mod names;
 mod sends;
+mod tables;
 mod values;
 mod variables;
 
@@ -23,5 +24,5 @@ pub use forms::read_note;
 pub use fronts::{same_tokens, text_tokens};
 pub use names::{is_name, is_note_name, is_reserved};
 pub use sends::read_sends;
-pub use values::{When, read_guard, read_nodes, read_value, read_when};
+pub use values::{When, read_guard, read_nodes, read_value, read_when, with_it};
 pub use variables::{VariableText, read_variable};

@@ -98,7 +98,7 @@ fn is_value(word: &str) -> bool
 {
     matches!(
         word,
-        "t" | "me" | "sender" | "nodes" | "all" | "true" | "false" | "clamped" | "replaced"
+        "t" | "me" | "sender" | "it" | "nodes" | "all" | "true" | "false" | "clamped" | "replaced"
     )
 }
 
@@ -113,6 +113,7 @@ fn is_operator(word: &str) -> bool
             | "or"
             | "not"
             | "in"
+            | "where"
             | "mod"
             | "count"
             | "lowest"

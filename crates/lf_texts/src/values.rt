@@ -1,18 +1,18 @@
 //! Texts that are expressions.
 
-ghost use Rattle.std.specs.Prelude.{Ok, Err};
+ghost use Rattle.std.specs.Prelude.{◌≡◌, Ok, Err};
 ghost use Rattle.lf_rules.specs.Terms.{term_of};
 ghost use Rattle.lf_grammar.specs.Expressions.{first_truth, first_sum};
 ghost use Rattle.lf_grammar.specs.Places.{context_of};
 ghost use Rattle.lf_grammar.specs.Readings.{said, found_by};
 ghost use Rattle.lf_grammar.specs.Typing.{as_set};
 ghost use Rattle.lf_texts.specs.Reading.{Says, Gives, wanted, read_by};
-ghost use Rattle.lf_texts.specs.Values.{expression, of_sort, first_of_sort, first_nodes, nodes_in, value_in, guard_in, else_in, when_in};
+ghost use Rattle.lf_texts.specs.Values.{with_it, expression, of_sort, first_of_sort, first_nodes, nodes_in, value_in, guard_in, else_in, when_in};
 
 use crate::TextError;
 use crate::fronts::ended;
 use lf_grammar::{Place, Token, Typed, Unread, as_set, behind_word, read_sum, read_truth};
-use lf_rules::{Expr, Leaf, Sort, Tree};
+use lf_rules::{Expr, Leaf, Sort, Tree, Within};
 use std::alloc::Global;
 
 /// When a rule is taken.
@@ -92,6 +92,19 @@ fn read_else(alloc: Global, place: &Place<'_>, tokens: &[Token]) -> Result<Expr,
     }
 }
 
+/// The same place, where `it` is something else.
+pub fn with_it<'a>(place: &Place<'a>, within: Within) -> Place<'a>
+    ensures { context_of result ≡ with_it within (context_of place.now) }
+{
+    Place {
+        definition: place.definition,
+        names: place.names,
+        fields: place.fields,
+        scope: place.scope,
+        within,
+    }
+}
+
 /// The value that comes first, of any sort, and the tokens behind it.
 fn first_value<'t>(
     alloc: Global,
@@ -136,7 +149,7 @@ pub(crate) fn first_nodes<'t>(
 }
 
 /// The sum that comes first, and the tokens behind it.
-fn first_sum<'t>(
+pub(crate) fn first_sum<'t>(
     alloc: Global,
     place: &Place<'_>,
     tokens: &'t [Token],
@@ -174,7 +187,7 @@ fn of_sort(found: Typed, sort: Sort) -> Result<Expr, TextError>
 }
 
 /// The expression with this tree, which has no more than 256 parts.
-fn expression(tree: Tree) -> Result<Expr, TextError>
+pub(crate) fn expression(tree: Tree) -> Result<Expr, TextError>
     ensures { Says (λ e. e) (expression (term_of tree)) result }
 {
     match Expr::new(tree) {

@@ -4,22 +4,23 @@ ghost use Rattle.std.specs.Prelude.{◌∷◌, [], IfOk, Ok, Err};
 ghost use Rattle.lf_grammar.specs.Places.{context_of};
 ghost use Rattle.lf_texts.specs.Lists.{listed};
 ghost use Rattle.lf_texts.specs.Reading.{Says, Gives, read_by};
-ghost use Rattle.lf_texts.specs.Variables.{first_free, words_in, own_in, kind_alone, variable_in, HasWords};
+ghost use Rattle.lf_texts.specs.Variables.{first_free, words_in, own_in, kind_alone, held_in, variable_in, HasWords};
 
 use crate::TextError;
 use crate::fronts::{ended, first_word, past};
 use crate::kinds::{first_range, kind_named};
 use crate::lists::put;
 use crate::names::{is_free, is_name, named};
+use crate::tables::first_cells;
 use lf_grammar::{Meaning, Place, Sign, Token, behind_sign};
 use lf_list::Listed;
-use lf_rules::{Kind, Name};
+use lf_rules::{Cells, Kind, Name};
 use std::alloc::Global;
 
 /// The most words that a variable has.
 const MOST_WORDS: u8 = 16;
 
-/// What a variable's text says of its values.
+/// What a variable's text says of the values of its cells.
 #[derive(Debug, Drop)]
 pub enum VariableText {
     /// They are of a kind of the language.
@@ -30,15 +31,26 @@ pub enum VariableText {
     Words(Listed<Name>),
 }
 
-/// Reads a text that says what a variable holds: a kind, another variable's name, or words of its own with `|` between. A word is free: it means nothing so
-/// far, and stands once.
+/// Reads a text that says what a variable holds: `[nodes]` or `[1..` and a number up to 32 and `]`, where it is a table, and then a kind, another variable's
+/// name, or words of its own with `|` between, which are those of each cell. A word is free: it means nothing so far, and stands once.
 #[tactic(auto, unfolding(crate::specs::Variables::variable_in))]
 pub fn read_variable(
     alloc: Global,
     place: &Place<'_>,
     tokens: &[Token],
-) -> Result<VariableText, TextError>
-    ensures read { Gives (λ text. text) (variable_in (context_of place.now) tokens.now) result }
+) -> Result<(Cells, VariableText), TextError>
+    ensures read { Gives (λ v. v) (variable_in (context_of place.now) tokens.now) result }
+    ensures words { IfOk result (λ v. HasWords v.1) }
+{
+    let (cells, rest) = first_cells(tokens)?;
+    let text = read_held(alloc, place, rest)?;
+    Ok((cells, text))
+}
+
+/// Reads what a cell holds.
+#[tactic(auto, unfolding(crate::specs::Variables::held_in))]
+fn read_held(alloc: Global, place: &Place<'_>, tokens: &[Token]) -> Result<VariableText, TextError>
+    ensures read { Gives (λ text. text) (held_in (context_of place.now) tokens.now) result }
     ensures words { IfOk result HasWords }
 {
     match tokens.split_first() {

@@ -1,7 +1,7 @@
 //! A small protocol, and what the texts of examples stand for.
 
 use lf_list::Listed;
-use lf_rules::{Definition, Expr, Guard, Kind, Leaf, Name, NoteForm, Tree, Variable};
+use lf_rules::{Cells, Definition, Expr, Guard, Kind, Leaf, Name, NoteForm, Tree, Variable};
 use std::alloc::{AllocError, Global};
 use std::process::Abort;
 
@@ -61,6 +61,7 @@ fn plain(alloc: Global, text: &str, kind: Kind) -> Result<Variable, AllocError> 
     Ok(Variable {
         name: name(alloc, text)?,
         kind,
+        cells: Cells::One,
         words: Listed::from_vec(Vec::new(alloc)),
     })
 }
@@ -68,11 +69,19 @@ fn plain(alloc: Global, text: &str, kind: Kind) -> Result<Variable, AllocError> 
 /// The kind of the words of `phase`.
 const PHASE: Kind = Kind::Word { of: 0, words: 3 };
 
-/// A phase, a flag, a number, a set, and a variable with the phase's words.
+/// A table, whose cells are of a kind.
+fn table(alloc: Global, text: &str, kind: Kind, cells: Cells) -> Result<Variable, AllocError> {
+    let mut table = plain(alloc, text, kind)?;
+    table.cells = cells;
+    Ok(table)
+}
+
+/// A phase, a flag, a number, a set, a variable with the phase's words, and three tables: numbers by node, the phase's words in three cells, and flags in two.
 fn variables(alloc: Global) -> Result<Listed<Variable>, AllocError> {
     let phase = Variable {
         name: name(alloc, "phase")?,
         kind: PHASE,
+        cells: Cells::One,
         words: names(alloc, "idle ready done")?,
     };
     let mut variables = Vec::new(alloc);
@@ -81,6 +90,9 @@ fn variables(alloc: Global) -> Result<Listed<Variable>, AllocError> {
     variables.push(plain(alloc, "since", Kind::UpTo(48))?)?;
     variables.push(plain(alloc, "seen", Kind::Nodes)?)?;
     variables.push(plain(alloc, "vote", PHASE)?)?;
+    variables.push(table(alloc, "next", Kind::UpTo(9), Cells::EachNode)?)?;
+    variables.push(table(alloc, "log", PHASE, Cells::UpTo(3))?)?;
+    variables.push(table(alloc, "up", Kind::Flag, Cells::UpTo(2))?)?;
     Ok(Listed::from_vec(variables))
 }
 

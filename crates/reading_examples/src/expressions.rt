@@ -2,15 +2,17 @@
 
 use lf_grammar::{Place, read_tokens, read_truth};
 use lf_list::Listed;
-use lf_rules::{Definition, Scope, Tree};
+use lf_rules::{Definition, Scope, Tree, Within};
 use std::alloc::Global;
 
 /// How many parts an expression has that the text is.
 fn parts(tree: &Tree) -> u32 {
     match tree {
         Tree::Leaf(_) => 1,
-        Tree::Unary(_, a) => parts(a).saturating_add(1),
-        Tree::Binary(_, a, b) => parts(a).saturating_add(parts(b)).saturating_add(1),
+        Tree::Unary(_, a) | Tree::At(_, a) => parts(a).saturating_add(1),
+        Tree::Binary(_, a, b) | Tree::Over(_, a, b) => parts(a)
+            .saturating_add(parts(b))
+            .saturating_add(1),
     }
 }
 
@@ -37,6 +39,7 @@ fn count(alloc: Global, text: &str) -> u32 {
         names: &[],
         fields: &[],
         scope: Scope::Plain,
+        within: Within::Nothing,
     };
     match read_tokens(alloc, text.as_bytes()) {
         Ok(tokens) => match read_truth(alloc, &place, tokens.as_slice()) {

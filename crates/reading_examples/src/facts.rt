@@ -40,7 +40,7 @@ const HIDDEN: &str = concat!(
 
 /// Names that no fact has.
 const NAMES_OF_NONE: &str =
-    "|phase|since|seen|not_vote|Open|opened|ope|not_|not_not_open|not open|not_since";
+    "|phase|since|seen|not_vote|Open|opened|ope|not_|not_not_open|not open|not_since|next|log|up|not_up";
 
 /// What a fact is about.
 fn told(text: &str) -> Option<Told> {

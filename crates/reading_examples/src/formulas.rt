@@ -6,7 +6,7 @@ use lf_outcome::Formula;
 use lf_own_scenario::{Scene, UnfoldError, unfold};
 use lf_promises::{Promise, PromiseError, read_promise};
 use lf_protocols::Fact;
-use lf_rules::{Definition, Kind, Name, Scope, Variable};
+use lf_rules::{Cells, Definition, Kind, Name, Scope, Variable, Within};
 use std::alloc::{AllocError, Global};
 use std::process::Abort;
 
@@ -27,6 +27,7 @@ fn flag(alloc: Global, text: &str) -> Result<Variable, AllocError> {
     Ok(Variable {
         name: name(alloc, text)?,
         kind: Kind::Flag,
+        cells: Cells::One,
         words: empty(alloc),
     })
 }
@@ -101,6 +102,7 @@ fn promise(alloc: Global, source: &str) -> Result<Promise, PromiseError> {
         names: &[],
         fields: &[],
         scope: Scope::Who,
+        within: Within::Nothing,
     };
     match read_tokens(alloc, source.as_bytes()) {
         Ok(tokens) => read_promise(alloc, &place, tokens.as_slice()),

@@ -5,6 +5,7 @@ ghost use Rattle.lf_rules.specs.Terms as terms;
 ghost use Rattle.lf_rules.specs.declared.expr.Binary.TheVariants as twos;
 ghost use Rattle.lf_rules.specs.declared.expr.Leaf.TheVariants as leaves;
 ghost use Rattle.lf_rules.specs.declared.sort.Scope.TheVariants as scopes;
+ghost use Rattle.lf_rules.specs.declared.sort.Within.TheVariants as withins;
 ghost use Rattle.lf_rules.specs.declared.sort.Sort.TheVariants as sorts;
 ghost use Rattle.lf_grammar.specs.Tokens.{tokens_of};
 ghost use Rattle.lf_grammar.specs.Expressions as expressions;
@@ -17,18 +18,19 @@ use lf_grammar::{
     Place, Token, TokenError, Typed, Unread, bracketed_is_read_back, enough_steps_read_the_same,
     read_tokens, read_truth,
 };
-use lf_rules::{Definition, Scope};
+use lf_rules::{Definition, Scope, Within};
 use std::alloc::Global;
 
 /// Where no name is declared, in a rule that is on no note.
 fn place(definition: &Definition) -> Place<'_>
-    ensures { context_of result ≡ record { definition = definition.now; fields = []; names = []; scope = scopes.Plain } }
+    ensures { context_of result ≡ record { definition = definition.now; fields = []; names = []; scope = scopes.Plain; within = withins.Nothing } }
 {
     Place {
         definition,
         names: &[],
         fields: &[],
         scope: Scope::Plain,
+        within: Within::Nothing,
     }
 }
 

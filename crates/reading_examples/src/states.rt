@@ -5,7 +5,7 @@ use lf_naming::push_state;
 use lf_rule_machine::State;
 use std::alloc::{AllocError, Global};
 
-/// For each line the variables that a trace shows, their values, and the text. What isn't there has no text.
+/// For each line the variables that a trace shows among three nodes, the values of all cells, and the text. What isn't there has no text.
 const STATES: &str = concat!(
     "0 1 2 3 4|0 0 0 0 0|idle not_open since=0 seen={} vote=idle\n",
     "0 1 2 3 4|1 1 48 5 2|ready open since=48 seen={0,2} vote=done\n",
@@ -15,6 +15,10 @@ const STATES: &str = concat!(
     "1|0 0 0 0 0|not_open\n",
     "0 9 1|3 2 0 0 0|  open\n",
     "4 4|0 0 0 0 3|vote= vote=\n",
+    "5|0 0 0 0 0 4 0 0 5 6 7 8 9 3 2|next=[4,5,6]\n",
+    "6|0 0 0 0 0 0 2 0 1 1 1 1 1 1 1 1 0|log=[done,ready,idle]\n",
+    "7 0 6|2 0 0 0 0 0 1 1 0 0 0 0 0 0 0 2 3 0|up=[true,false] done log=[ready,done,]\n",
+    "7|0 0 0 0 0 0 0 0 0 0 0 0 0 0 0 0 0 1|up=[false,true]\n",
 );
 
 /// The text of the row's state, after what stood there before.
@@ -24,7 +28,7 @@ fn text(alloc: Global, row: &str) -> Result<String, AllocError> {
     let mut state = State::zeros();
     fill(&mut state.values, values);
     let mut text = String::from_str(alloc, "1 ")?;
-    push_state(&definition(alloc, "stuck", shown)?, &state, &mut text)?;
+    push_state(&definition(alloc, "stuck", shown)?, 3, &state, &mut text)?;
     Ok(text)
 }
 

@@ -2,7 +2,7 @@
 
 use lf_grammar::{Meaning, Place, Token};
 use lf_list::Listed;
-use lf_rules::{Definition, Event, Kind, Leaf, Name, NoteForm, Scope, Variable};
+use lf_rules::{Cells, Definition, Event, Kind, Leaf, Name, NoteForm, Scope, Variable, Within};
 use lf_texts::{
     Heard, TextError, VariableText, is_name, is_note_name, is_reserved, read_event, read_guard,
     read_nodes, read_note, read_sends, read_sets, read_value, read_variable, read_when,
@@ -23,6 +23,7 @@ fn variable(
     Ok(Variable {
         name: name(alloc, text)?,
         kind,
+        cells: Cells::One,
         words: Listed::from_vec(words),
     })
 }
@@ -157,7 +158,7 @@ fn counted(
         What::Sets => read_sets(alloc, place, tokens)?.len(),
         What::Sends => read_sends(alloc, place, tokens)?.len(),
         What::Note => read_note(alloc, place.definition, tokens)?.fields.len(),
-        What::Variable => variable_count(&read_variable(alloc, place, tokens)?),
+        What::Variable => variable_count(&read_variable(alloc, place, tokens)?.1),
     })
 }
 
@@ -170,6 +171,7 @@ fn read(alloc: Global, what: What, text: &str) -> Result<usize, TextError> {
         names: names.as_slice(),
         fields: &[],
         scope: Scope::Plain,
+        within: Within::Nothing,
     };
     let tokens = text_tokens(alloc, text)?;
     counted(alloc, &place, what, tokens.as_slice())

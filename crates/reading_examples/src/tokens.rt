@@ -75,6 +75,8 @@ fn sign_text(sign: Sign) -> &'static str {
         Sign::CloseRound => ")",
         Sign::OpenCurly => "{",
         Sign::CloseCurly => "}",
+        Sign::OpenSquare => "[",
+        Sign::CloseSquare => "]",
         Sign::Comma => ",",
         Sign::Colon => ":",
         Sign::Bar => "|",
@@ -114,10 +116,10 @@ fn texts_have_tokens_or_a_fault(rt: HostRuntime) {
 #[test]
 fn limits_are_kept(rt: HostRuntime) {
     let alloc = rt.alloc();
-    assert!(&rt; fault_of(alloc, "a ", 96).is_none());
-    assert!(&rt; fault_of(alloc, "a ", 97) == Some(TokenError::TooMany));
+    assert!(&rt; fault_of(alloc, "a ", 160).is_none());
+    assert!(&rt; fault_of(alloc, "a ", 161) == Some(TokenError::TooMany));
     assert!(&rt; fault_of(alloc, "({", 6).is_none());
     assert!(&rt; fault_of(alloc, "({", 7) == Some(TokenError::TooDeep));
-    assert!(&rt; fault_of(alloc, "(}", 48).is_none());
+    assert!(&rt; fault_of(alloc, "(}", 80).is_none());
     assert!(&rt; fault_of(alloc, "(", 65_536) == Some(TokenError::TooDeep));
 }

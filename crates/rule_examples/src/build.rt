@@ -3,8 +3,8 @@
 use lf_list::Listed;
 use lf_rule_machine::{Note, Packet, Ruled, State};
 use lf_rules::{
-    Assignment, Binary, Chain, Constant, Definition, Event, Expr, Given, Guard, Kind, Leaf, Name,
-    NoteForm, Rule, Rules, Send, Sort, Tree, Unary, Value, Variable,
+    Assignment, Binary, Cells, Chain, Constant, Definition, Event, Expr, Given, Guard, Kind, Leaf,
+    Name, NoteForm, Rule, Rules, Send, Sort, Target, Tree, Unary, Value, Variable, have_it,
 };
 use lf_sim::Letter;
 use std::alloc::{AllocError, Global};
@@ -84,7 +84,8 @@ pub(crate) fn more<T: Drop>(
 
 pub(crate) fn set(variable: u8, value: Made) -> Result<Assignment, AllocError> {
     let value = expr(value)?;
-    Ok(Assignment { variable, value })
+    let target = Target::Variable(variable);
+    Ok(Assignment { target, value })
 }
 
 /// A note without fields.
@@ -99,7 +100,13 @@ pub(crate) fn send_with(
 ) -> Result<Send, AllocError> {
     let to = expr(to)?;
     let fields = Listed::from_vec(fields?);
-    Ok(Send { form, fields, to })
+    let each = have_it(fields.as_slice());
+    Ok(Send {
+        form,
+        fields,
+        to,
+        each,
+    })
 }
 
 pub(crate) fn rule(
@@ -128,6 +135,7 @@ pub(crate) fn plain(alloc: Global, kind: Kind) -> Result<Variable, AllocError> {
     Ok(Variable {
         name: Name::new(String::new(alloc)),
         kind,
+        cells: Cells::One,
         words: Listed::from_vec(Vec::new(alloc)),
     })
 }
@@ -141,6 +149,7 @@ pub(crate) fn worded(alloc: Global, of: u8, words: u8) -> Result<Variable, Alloc
     Ok(Variable {
         name: Name::new(String::new(alloc)),
         kind: Kind::Word { of, words },
+        cells: Cells::One,
         words: Listed::from_vec(names),
     })
 }

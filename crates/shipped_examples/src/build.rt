@@ -2,8 +2,8 @@
 
 use lf_list::Listed;
 use lf_rules::{
-    Assignment, Binary, Chain, Constant, Definition, Event, Expr, Given, Guard, Kind, Leaf, Name,
-    NoteForm, Rule, Rules, Send, Sort, Tree, Unary, Value, Variable,
+    Assignment, Binary, Cells, Chain, Constant, Definition, Event, Expr, Given, Guard, Kind, Leaf,
+    Name, NoteForm, Rule, Rules, Send, Sort, Target, Tree, Unary, Value, Variable,
 };
 use std::alloc::{AllocError, Global};
 use std::sync::Arc;
@@ -97,7 +97,8 @@ pub(crate) fn more<T: Drop>(items: List<T>, item: Result<T, AllocError>) -> List
 
 pub(crate) fn set(variable: u8, value: Grown) -> Result<Assignment, AllocError> {
     let value = expr(value)?;
-    Ok(Assignment { variable, value })
+    let target = Target::Variable(variable);
+    Ok(Assignment { target, value })
 }
 
 /// A variable gets a word.
@@ -113,7 +114,12 @@ pub(crate) fn send(alloc: Global, form: u8, to: Grown) -> List<Send> {
 fn sent(alloc: Global, form: u8, to: Grown) -> Result<Send, AllocError> {
     let to = expr(to)?;
     let fields = Listed::from_vec(Vec::new(alloc));
-    Ok(Send { form, fields, to })
+    Ok(Send {
+        form,
+        fields,
+        to,
+        each: false,
+    })
 }
 
 pub(crate) fn rule(
@@ -147,7 +153,12 @@ pub(crate) fn alone(
 pub(crate) fn plain(alloc: Global, name: &str, kind: Kind) -> Result<Variable, AllocError> {
     let name = Name::new(String::from_str(alloc, name)?);
     let words = Listed::from_vec(Vec::new(alloc));
-    Ok(Variable { name, kind, words })
+    Ok(Variable {
+        name,
+        kind,
+        cells: Cells::One,
+        words,
+    })
 }
 
 /// A variable with words of its own.
@@ -163,7 +174,12 @@ pub(crate) fn worded(
         of,
         words: words.len().min(255) as u8,
     };
-    Ok(Variable { name, kind, words })
+    Ok(Variable {
+        name,
+        kind,
+        cells: Cells::One,
+        words,
+    })
 }
 
 /// The words of a text.

@@ -24,7 +24,7 @@ abbrev pub decreases-calls::read_call : goal.decreases-calls::read_call
 decreases-calls::read_call l = 20 * length l.tokens.now + 18
 
 abbrev pub decreases-calls::read_second : goal.decreases-calls::read_second
-decreases-calls::read_second l = 20 * length l.tokens.now + 2
+decreases-calls::read_second l = 20 * length l.tokens.now + 3
 
 abbrev pub decreases-expressions::read_all : goal.decreases-expressions::read_all
 decreases-expressions::read_all l = 20 * length l.tokens.now + all_depth l.level
@@ -49,3 +49,18 @@ decreases-expressions::read_compared l = 20 * length l.tokens.now + 2
 
 abbrev pub decreases-atoms::read_brackets : goal.decreases-atoms::read_brackets
 decreases-atoms::read_brackets l = 20 * length l.tokens.now + 19
+
+abbrev pub decreases-atoms::read_named : goal.decreases-atoms::read_named
+decreases-atoms::read_named l = 20 * length l.tokens.now + 18
+
+abbrev pub decreases-atoms::read_place : goal.decreases-atoms::read_place
+decreases-atoms::read_place l = 20 * length l.tokens.now + 14
+
+abbrev pub decreases-atoms::read_members : goal.decreases-atoms::read_members
+decreases-atoms::read_members l = 20 * length l.tokens.now + 3
+
+abbrev pub decreases-bodies::read_body : goal.decreases-bodies::read_body
+decreases-bodies::read_body l = 20 * length l.tokens.now + 14
+
+abbrev pub decreases-calls::read_single : goal.decreases-calls::read_single
+decreases-calls::read_single l = 20 * length l.tokens.now + 2

@@ -8,7 +8,7 @@ use Rattle.lf_naming.proofs.state.push_state.Goals as goal
 pub shown-preserved : goal.shown-preserved
 shown-preserved c =
     let d = c.args.definition.now in
-    let f = shown_text d c.args.state.now in
+    let f = shown_text d c.args.nodes c.args.state.now in
     let place = c.shown.place in
     let whole : c.as_slice-variable-items.result.now ≡ d.trace = c.as_slice-variable-items.ensures in
     piece_told (string_bytes c.args.text.now) (string_bytes c.shown.text) (string_bytes c.push_separator.new.text) (string_bytes c.push_shown.new.text)

@@ -7,4 +7,4 @@ use Rattle.lf_naming.proofs.state.push_state.Given as goal
 abbrev pub invariant-shown : goal.invariant-shown
 invariant-shown l =
     string_bytes l.text
-    ≡ string_bytes l.initial.text ++ join_with_byte 32 (map (shown_text l.definition l.state) (take l.place l.definition.trace))
+    ≡ string_bytes l.initial.text ++ join_with_byte 32 (map (shown_text l.definition l.nodes l.state) (take l.place l.definition.trace))

@@ -1,9 +1,30 @@
-use Rattle.std.proofs.Common.{◌≡◌, ℕ, ◌+◌, ◌-◌, ◌*◌, ◌<◌, ◌≤◌, length, sym, ap, ◌∙◌, arith}
-use Rattle.std.specs.Prelude.{slice_get, Some, vec_len}
+use Rattle.std.proofs.Common.{◌≡◌, ◌+◌, ◌-◌, ◌*◌, ◌<◌, length, ap, ◌∙◌, subst, arith, slice_index_or}
+use Rattle.std.specs.Prelude.{Some, vec_len}
+use Rattle.lf_sim.specs.Differences.{IsTold}
 use Rattle.lf_sim.specs.Runs.{did}
 use Rattle.lf_sim.specs.Settings.{world_of}
-use Rattle.lf_sim.proofs.AgainLemmas.{place-inside, places-apart, put-there, kept-there}
+use Rattle.lf_sim.proofs.AgainLemmas.{came-last, kept-there, place-inside, places-apart, put-there, was-there}
 use Rattle.lf_sim.proofs.again.play_again.Goals as goal
+
+pub returns-clause-told : goal.returns-clause-told
+returns-clause-told g c stood is =
+    let w = world_of c.args.setting.now in
+    let F = c.args.effects.now.set in
+    let grid = c.args.run.now.grid in
+    let size = c.requires.size in
+    let k = c.args.step * grid.nodes + c.args.node in
+    let more = c.put_turn.new.cells in
+    let inside : k < length grid.cells.items =
+    place-inside grid.nodes c.args.node c.args.step grid.horizon (length grid.cells.items) (omega (arith, size.nodes, c.requires.node))
+    (omega (arith, size.horizon, c.requires.last)) grid.whole in
+    let now : c.args.step - 1 + 1 ≡ c.args.step = omega (arith, c.requires.first) in
+    let turn = did w F c.args.node (c.args.step - 1 + 1) in
+    let was : slice_index_or more.items k stood ≡ stood = was-there grid.cells.items more.items turn c.put_turn.ensures.cells k stood inside is stood in
+    let came : slice_index_or more.items (vec_len more - 1) stood ≡ turn =
+    rw more.ok.0 (came-last grid.cells.items more.items turn c.put_turn.ensures.cells stood) in
+    subst (λ t. IsTold c.put_last.result stood (did w F c.args.node t)) now
+    (subst (λ y. IsTold c.put_last.result stood y) came
+    (subst (λ x. IsTold c.put_last.result x (slice_index_or more.items (vec_len more - 1) stood)) was (c.put_last.ensures.told stood)))
 
 pub returns-clause-there : goal.returns-clause-there
 returns-clause-there g c =
@@ -13,15 +34,15 @@ returns-clause-there g c =
     let size = c.requires.size in
     let k = c.args.step * grid.nodes + c.args.node in
     let more = c.put_turn.new.cells in
-    let after = c.swap_remove.new.self in
+    let after = c.put_last.new.cells in
     let inside : k < length grid.cells.items =
     place-inside grid.nodes c.args.node c.args.step grid.horizon (length grid.cells.items) (omega (arith, size.nodes, c.requires.node))
     (omega (arith, size.horizon, c.requires.last)) grid.whole in
     let now : c.args.step - 1 + 1 ≡ c.args.step = omega (arith, c.requires.first) in
     let long : length after.items ≡ length grid.cells.items =
-    omega (arith, c.swap_remove.ensures.len, c.put_turn.ensures.len, grid.cells.ok.0, after.ok.0) in
+    omega (arith, c.put_last.ensures.len, c.put_turn.ensures.len, grid.cells.ok.0, after.ok.0) in
     put-there grid.cells.items more.items after.items k (did w F c.args.node (c.args.step - 1 + 1)) c.put_turn.ensures.cells inside long
-    (λ d near. rw (← more.ok.0) (c.swap_remove.ensures.by_index.0 d (omega (arith, near, more.ok.0))))
+    (λ d near. rw (← more.ok.0) (c.put_last.ensures.there d))
     ∙ ap (λ t. Some (did w F c.args.node t)) now
 
 pub returns-clause-others : goal.returns-clause-others
@@ -32,7 +53,7 @@ returns-clause-others g c n t node last other =
     let size = c.requires.size in
     let k = c.args.step * grid.nodes + c.args.node in
     let more = c.put_turn.new.cells in
-    let after = c.swap_remove.new.self in
+    let after = c.put_last.new.cells in
     let node' : n < grid.nodes = omega (arith, size.nodes, node) in
     let here : c.args.node < grid.nodes = omega (arith, size.nodes, c.requires.node) in
     let inside : k < length grid.cells.items =
@@ -40,7 +61,7 @@ returns-clause-others g c n t node last other =
     let near : t * grid.nodes + n < length grid.cells.items =
     place-inside grid.nodes n t grid.horizon (length grid.cells.items) node' (omega (arith, size.horizon, last)) grid.whole in
     let long : length after.items ≡ length grid.cells.items =
-    omega (arith, c.swap_remove.ensures.len, c.put_turn.ensures.len, grid.cells.ok.0, after.ok.0) in
+    omega (arith, c.put_last.ensures.len, c.put_turn.ensures.len, grid.cells.ok.0, after.ok.0) in
     kept-there grid.cells.items more.items after.items k (did w F c.args.node (c.args.step - 1 + 1)) c.put_turn.ensures.cells inside long
-    (λ j d away early. c.swap_remove.ensures.by_index.1 j d away (omega (arith, early, more.ok.0)))
+    (λ j d away early. c.put_last.ensures.others j d away (omega (arith, early, more.ok.0)))
     (t * grid.nodes + n) (places-apart grid.nodes n t c.args.node c.args.step node' here other) near

@@ -8,5 +8,5 @@ use Rattle.lf_texts.proofs.assignments.listed_sets.Given as goal
 -- the assignments so far stand before those of the rest
 abbrev pub invariant-loop : goal.invariant-loop
 invariant-loop l =
-    listed (first_set (context_of l.place)) signs.Comma (8 - l.counter) l.sets.items l.rest
-    ≡ listed (first_set (context_of l.place)) signs.Comma 8 [] l.tokens
+    listed (first_set (context_of l.place)) signs.Comma (16 - l.counter) l.sets.items l.rest
+    ≡ listed (first_set (context_of l.place)) signs.Comma 16 [] l.tokens

@@ -6,4 +6,4 @@ use Rattle.lf_texts.proofs.ListLemmas.{listed_count}
 use Rattle.lf_texts.proofs.assignments.read_sets.Goals as goal
 
 pub returns-clause-few : goal.returns-clause-few
-returns-clause-few c = (listed_count (first_set (context_of c.args.place.now)) signs.Comma 8 [] c.args.tokens.now _ c.in_ok-sets.ensures).1
+returns-clause-few c = (listed_count (first_set (context_of c.args.place.now)) signs.Comma 16 [] c.args.tokens.now _ c.in_ok-sets.ensures).1

@@ -7,4 +7,4 @@ use Rattle.lf_texts.proofs.forms.read_fields.Given as goal
 -- the fields so far stand before those of the rest
 abbrev pub invariant-loop : goal.invariant-loop
 invariant-loop l =
-    listed (first_field l.variables) signs.Comma (6 - l.counter) l.fields.items l.rest ≡ listed (first_field l.variables) signs.Comma 6 [] l.tokens
+    listed (first_field l.variables) signs.Comma (7 - l.counter) l.fields.items l.rest ≡ listed (first_field l.variables) signs.Comma 7 [] l.tokens

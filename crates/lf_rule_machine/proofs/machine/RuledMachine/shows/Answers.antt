@@ -1,4 +1,4 @@
-use Rattle.std.proofs.Common.{◌≡◌, ap, ◌∙◌, sym}
+use Rattle.std.proofs.Common.{ap, ◌∙◌}
 use Rattle.std.specs.Arc.{arc_value}
 use Rattle.lf_rule_machine.specs.Machines.{shows_of}
 use Rattle.lf_rule_machine.proofs.machine.RuledMachine.shows.Goals as goal

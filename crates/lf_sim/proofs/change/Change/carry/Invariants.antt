@@ -1,4 +1,3 @@
-use Rattle.std.proofs.Common.{◌≤◌}
 use Rattle.lf_sim.specs.Settings.{world_of}
 use Rattle.lf_sim.specs.Changes.{Covers, IsOnItsWay}
 use Rattle.lf_sim.proofs.change.Change.carry.Given as goal

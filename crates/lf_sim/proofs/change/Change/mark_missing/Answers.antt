@@ -1,5 +1,4 @@
-use Rattle.std.proofs.Common.{◌≡◌, ℕ, true, false, length, take, sym, ap, subst, ◌∙◌, arith, inl, inr}
-use Rattle.std.specs.List.{Contains}
+use Rattle.std.proofs.Common.{subst, inl, inr}
 use Rattle.lf_sim.specs.Settings.{world_of}
 use Rattle.lf_sim.specs.Changes.{AreMarked, IsMarked}
 use Rattle.lf_sim.proofs.MarksLemmas.{marked-more, marked-all}

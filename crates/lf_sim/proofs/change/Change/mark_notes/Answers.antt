@@ -1,6 +1,6 @@
 use Rattle.std.proofs.Common.{◌≡◌, ℕ, ◌<◌, ◌≤◌, true, false, arith}
 use Rattle.std.specs.Prelude.{◌≢◌, ◌⊎◌}
-use Rattle.lf_sim.specs.Outs.{note_to}
+use Rattle.lf_sim.specs.Differences.{differs}
 use Rattle.lf_sim.specs.Settings.{world_of}
 use Rattle.lf_sim.specs.Changes.{Ignores}
 use Rattle.lf_sim.specs.Marks.{is_marked}
@@ -15,8 +15,7 @@ returns-clause-same g c m inside =
     let run = c.args.run.now in
     let node = c.args.node in
     let step = c.args.step in
-    let stood = c.args.stood.now in
-    let out = c.args.out.now in
+    let told = c.args.told.now in
     let k1 = c.mark_note.new.marks.points in
     let k2 = c.mark_note-2.new.marks.points in
     let k3 = c.mark_note-3.new.marks.points in
@@ -34,7 +33,7 @@ returns-clause-same g c m inside =
     let r1 : (n t : ℕ) → is_marked k1 n t ≡ true → is_marked k8 n t ≡ true = λ n t h. r2 n t (c.mark_note-2.ensures.kept n t h) in
     all-eight
     (λ m. m < w.rules.nodes → node ≢ m → w.arrival node m step ≤ w.horizon → is_marked k8 m (w.arrival node m step) ≡ false
-    → Ignores w to m (w.arrival node m step) run ⊎ (note_to stood m ≡ note_to out m))
+    → Ignores w to m (w.arrival node m step) run ⊎ (differs told m ≡ false))
     (λ i a e f. c.mark_note.ensures.same c.requires.node i a c.requires.last e
     (unmarked-before k1 k8 0 (w.arrival node 0 step) (r1 0 (w.arrival node 0 step)) f))
     (λ i a e f. c.mark_note-2.ensures.same c.requires.node i a c.requires.last e

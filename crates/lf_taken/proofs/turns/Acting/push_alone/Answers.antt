@@ -1,6 +1,6 @@
 use Rattle.std.proofs.Common.{◌++◌, ap}
 use Rattle.std.proofs.lemmas.Result.{IfOk-equal}
-use Rattle.lf_rule_machine.specs.declared.moment.Moment.{Moment}
+use Rattle.lf_rule_machine.specs.Moments.{Moment, seen}
 use Rattle.lf_rule_machine.specs.Machines.{moment, no_fields}
 use Rattle.lf_rule_machine.specs.Events.{act}
 use Rattle.lf_taken.specs.Numbers.{taken_in}
@@ -10,13 +10,13 @@ pub returns-clause-turn : goal.returns-clause-turn
 returns-clause-turn c =
     let m = c.args.self.now.ruled.now in
     let of = λ (at : Moment). act m.definition at c.args.event c.args.turn.now in
-    IfOk-equal c.push.result c.push.new.turn (of c.moment-at.result) (of (moment m.nodes m.given c.args.self.now.node c.args.self.now.t 0 no_fields))
+    IfOk-equal c.push.result c.push.new.turn (of (seen c.moment-at.result)) (of (moment m.nodes m.given c.args.self.now.node c.args.self.now.t 0 no_fields))
     c.push.ensures.turn (ap of c.moment-at.ensures)
 
 pub returns-clause-taken : goal.returns-clause-taken
 returns-clause-taken c =
     let m = c.args.self.now.ruled.now in
     let of = λ (at : Moment). c.args.taken.now.items ++ taken_in m.definition at c.args.event c.args.turn.now in
-    IfOk-equal c.push.result c.push.new.taken.items (of c.moment-at.result)
+    IfOk-equal c.push.result c.push.new.taken.items (of (seen c.moment-at.result))
     (of (moment m.nodes m.given c.args.self.now.node c.args.self.now.t 0 no_fields))
     c.push.ensures.taken (ap of c.moment-at.ensures)
