@@ -11,7 +11,6 @@ mod ZerosLemmas
 mod ReadingLemmas
 mod FittingLemmas
 mod OneLemmas
-mod ToldLemmas
 mod KeptLemmas
 mod ViewLemmas
 mod PromisedLemmas

@@ -20,7 +20,7 @@ use Rattle.lf_rules.specs.declared.definition.Definition.{Definition}
 use Rattle.lf_rules.specs.Kinds.{most_of}
 use Rattle.lf_rules.specs.Tables.{count_of, same_cells, others_of, cell_of, is_table_of, is_table}
 use Rattle.lf_rules.specs.Forms.{is_whole, is_set, is_assignment, is_rule_in, scope_of, sends_of, is_chain, is_well_formed}
-use Rattle.lf_rules.proofs.Layouts.{cells-apart}
+use Rattle.lf_rules.proofs.Laws.{cells-apart}
 use Rattle.lf_rule_machine.specs.Moments.{Moment, with_it, given_here}
 use Rattle.lf_rule_machine.specs.declared.state.State.{State}
 use Rattle.lf_rule_machine.specs.declared.state.Note.{Note}

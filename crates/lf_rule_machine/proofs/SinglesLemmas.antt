@@ -31,7 +31,8 @@ use Rattle.lf_rule_machine.specs.Sets.{has}
 use Rattle.lf_rule_machine.specs.States.{same_numbers, same_note, place_for, is_lost, packed, packet_of}
 use Rattle.lf_rule_machine.specs.Values.{value_of}
 use Rattle.lf_rule_machine.specs.Events.{is_passed, is_receiver, place_in, place, put, put_all, kinds_of, set_variable, set_found, set_cell}
-use Rattle.lf_rule_machine.specs.Events.{set_member, set_each, assign_to, assign, Draft, fill_as, fill, drafted, put_draft, place_draft, send_one, send_each, send}
+use Rattle.lf_rule_machine.specs.Events.{set_member, set_each, assign_to, assign}
+use Rattle.lf_rule_machine.specs.Events.{Draft, fill_as, fill, drafted, put_draft, place_draft, send_one, send_each, send}
 use Rattle.lf_rule_machine.specs.Events.{first_true, do_found, take_first, pass, act}
 use Rattle.lf_rule_machine.specs.Machines.{moment, no_fields, act_alone, hear_of, step_of}
 use Rattle.lf_rule_machine.specs.RuledLemmas.{fold-keeps}

@@ -1,2 +1,2 @@
-pub mod Layouts
+mod Layouts
 pub mod Laws
