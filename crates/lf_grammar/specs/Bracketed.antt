@@ -124,7 +124,7 @@ module _ (name : Leaf → List ℕ) where
     IsWritable (terms.At row a) = IsRow row × IsWritable a
     IsWritable (terms.Over op a b) = IsWritable a × IsWritable b
 
--- no name means what a word of an expression says, as is so in every protocol file
+-- no name means what a word of an expression says
 pub record IsPlain (at : Context) : Type 0 where
   pub denial : leaf_of at.fields at.names (codes "not") ≡ None
   pub count : leaf_of at.fields at.names (codes "count") ≡ None

@@ -50,7 +50,7 @@ pub enum Part {
     On,
     /// The guard.
     When,
-    /// The variables that get values.
+    /// The variables and cells that get values.
     Set,
     /// The notes that are sent.
     Send,

@@ -9,7 +9,7 @@ pub enum Told {
     Word { variable: u8, word: u8 },
     /// A variable that is a flag is true.
     Flag(u8),
-    /// A value once went past the greatest of its kind.
+    /// A value once went past the greatest of its kind, or a cell was set that isn't there.
     Clamped,
     /// A note was once lost before it was sent: another one of its form took its place, or its packet had no room for it.
     Replaced,

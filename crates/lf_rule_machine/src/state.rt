@@ -8,7 +8,7 @@ ghost use Rattle.lf_rule_machine.specs.States.{empty, is_lost, loses, packed, pl
 pub struct State {
     /// The value of each cell, by its number; 0 from the last cell on.
     pub values: [u8; 64],
-    /// Whether a value once went past the greatest of its kind, and became that one.
+    /// Whether a value once went past the greatest of its kind, and became that one, or a cell was set that isn't there.
     pub clamped: bool,
     /// Whether a note of this node once took the place of another one of its form, for the same node at the same step, or wasn't put, since the packet had
     /// notes of four other forms.

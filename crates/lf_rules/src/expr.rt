@@ -37,7 +37,7 @@ pub enum Leaf {
     Field(u8),
     /// A variable of the node's state, by its number.
     Variable(u8),
-    /// Whether a value of this node once went past the greatest of its kind.
+    /// Whether a value of this node once went past the greatest of its kind, or a cell was set that isn't there.
     Clamped,
     /// Whether a note of this node was once lost before it was sent: another one of its form took its place, or its packet had no room for it.
     Replaced,

@@ -1,7 +1,7 @@
 //! The language of protocols that a designer writes as rules: its types, and when a definition in it is well formed.
 //!
-//! A node keeps a value for each of some variables. At each event of a step, its chains of rules are gone through in order: of a chain the first rule whose
-//! guard is true sets variables and then sends notes.
+//! A node keeps a value for each of some variables, and of a table for each of its cells. At each event of a step, its chains of rules are gone through in
+//! order: of a chain the first rule whose guard is true sets variables and cells, and then sends notes.
 #![tactic(auto)]
 
 mod definition;

@@ -31,7 +31,7 @@ pub enum VariableText {
     Words(Listed<Name>),
 }
 
-/// Reads a text that says what a variable holds: `[nodes]` or `[1..` and a number up to 32 and `]`, where it is a table, and then a kind, another variable's
+/// Reads a text that says what a variable holds: `[nodes]` or `[1..` and a number, 1 to 32, and `]`, where it is a table, and then a kind, another variable's
 /// name, or words of its own with `|` between, which are those of each cell. A word is free: it means nothing so far, and stands once.
 #[tactic(auto, unfolding(crate::specs::Variables::variable_in))]
 pub fn read_variable(
