@@ -4,14 +4,19 @@ ghost use Rattle.std.specs.Prelude.{◌≡◌, ◌+◌, suc, Bool, [], codes, If
 ghost use Rattle.lf_rules.specs.Terms as terms;
 ghost use Rattle.lf_rules.specs.declared.expr.Binary.TheVariants as twos;
 ghost use Rattle.lf_rules.specs.declared.expr.Leaf.TheVariants as leaves;
+ghost use Rattle.lf_rules.specs.declared.expr.Over.TheVariants as overs;
+ghost use Rattle.lf_rules.specs.declared.expr.Unary.TheVariants as ones;
 ghost use Rattle.lf_rules.specs.declared.sort.Scope.TheVariants as scopes;
 ghost use Rattle.lf_rules.specs.declared.sort.Within.TheVariants as withins;
 ghost use Rattle.lf_rules.specs.declared.sort.Sort.TheVariants as sorts;
 ghost use Rattle.lf_grammar.specs.Tokens.{tokens_of};
+ghost use Rattle.lf_grammar.specs.Bracketed.{bracketed};
+ghost use Rattle.lf_grammar.specs.Expressions.{first_truth, found};
 ghost use Rattle.lf_grammar.specs.Expressions as expressions;
 ghost use Rattle.lf_grammar.specs.Places.{Context, context_of};
 ghost use Rattle.lf_grammar.specs.Readings.{said};
 ghost use Rattle.lf_promises.specs.Promises as promises;
+ghost use Rattle.reading_examples.specs.Rows.{in_a_rule, one_more, name_of};
 
 use crate::build::{agrees, definition};
 use lf_grammar::{
@@ -34,15 +39,16 @@ fn place(definition: &Definition) -> Place<'_>
     }
 }
 
-/// The expression of a text that has every bracket: the step after this one, and what is left of it by the number of nodes.
+/// The expression of a text that has every bracket: the greatest of what is left by the number of nodes of the sums of a node and this step, of which there is one.
 fn read_back<'t>(
     alloc: Global,
     definition: &Definition,
     tokens: &'t [Token],
 ) -> Result<(Typed, &'t [Token]), Unread>
-    requires { tokens_of (codes "((t + 1) mod nodes)") ≡ Ok tokens.now }
+    requires { tokens_of (codes "max({1}: ((it + t) mod nodes))") ≡ Ok tokens.now }
     ensures { IfOk result (λ r. said r.0 ≡ record {
-      term = terms.Binary twos.Remainder (terms.Binary twos.Add (terms.Leaf leaves.Step) (terms.Leaf (leaves.Number 1))) (terms.Leaf leaves.Nodes);
+      term = terms.Over overs.Greatest (terms.Unary ones.Only (terms.Leaf (leaves.Number 1)))
+        (terms.Binary twos.Remainder (terms.Binary twos.Add (terms.Leaf leaves.It) (terms.Leaf leaves.Step)) (terms.Leaf leaves.Nodes));
       sort = sorts.Number;
     }) }
 {
@@ -51,9 +57,17 @@ fn read_back<'t>(
     read_truth(alloc, &place, tokens)
 }
 
+/// The same of a text with a table's cell and a constant's item, where both have names.
+fn row_read_back()
+    ensures written { tokens_of (codes "(next[timeout[1]] + 1)") ≡ Ok (bracketed name_of one_more) }
+    ensures read { first_truth in_a_rule (bracketed name_of one_more) ≡ found (record { term = one_more; sort = sorts.Number }) [] }
+{
+    bracketed_is_read_back()
+}
+
 /// Whether it is read.
 fn is_read_back(alloc: Global, definition: &Definition) -> bool {
-    match read_tokens(alloc, "((t + 1) mod nodes)".as_bytes()) {
+    match read_tokens(alloc, "max({1}: ((it + t) mod nodes))".as_bytes()) {
         Ok(tokens) => read_back(alloc, definition, tokens.as_slice()).is_ok(),
         Err(_) => false,
     }
@@ -76,6 +90,7 @@ fn tokens(alloc: Global, text: &[u8]) -> Result<Vec<Token>, TokenError>
 #[test]
 fn laws_have_no_premise_left(rt: HostRuntime) {
     let alloc = rt.alloc();
+    row_read_back();
     let is_read = match definition(alloc, "late", "0") {
         Ok(definition) => is_read_back(alloc, &definition),
         Err(_) => false,
