@@ -4,6 +4,9 @@
 # seconds, which repeat exactly, whatever else the machine does; counting them takes some fifty times as long. Further words name
 # scenarios: those alone are measured. The rows are those of the table in docs/PROTOCOLS.md.
 #
+# With --tables it prints instead what a search of bench/tables/numbers.toml takes, in millions of instructions: with the protocol that has a variable for
+# each node, and with the same one that has a table.
+#
 # The program is the one that `rt ci` leaves in crates/leastfault_cli/out/, or PROGRAM of the environment. Wants GNU time, and valgrind for
 # the instructions.
 set -euo pipefail
@@ -33,6 +36,13 @@ fastest() {
             awk '/^took / { printf "%.2f\n", $2 + $3 }'
     done | sort -n | head -n 1
 }
+
+if [ "${1:-}" = --tables ]; then
+    for protocol in by_name by_table; do
+        echo "$protocol $(instructions search "$here/tables/numbers.toml" --protocol "$here/tables/$protocol.toml")"
+    done
+    exit
+fi
 
 echo '| scenario | report | `search` | `answer` |'
 echo '|---|---|---|---|'

@@ -55,7 +55,7 @@ all_read d ts law is =
     let plain : IsPlain (bare d) =
     record { denial = refl; count = refl; lowest = refl; highest = refl; smaller = refl; larger = refl; majority = refl } in
     ap (first_truth (bare d)) (same_tokens _ ts (bracketed name greatest) is written)
-    ∙ law (bare d) name greatest sorts.Number plain (tt, (refl, refl, tt), refl, tt) refl
+    ∙ law (bare d) name greatest sorts.Number plain (tt, ((refl, refl, tt), refl, tt)) refl
 
 by_result : (d : Definition) (at : Context) (ts : List Token) (result : Result (Typed × Bor (List Token)) Unread) → at ≡ bare d
     → first_truth (bare d) ts ≡ found (record { term = greatest; sort = sorts.Number }) [] → Finds (first_truth at ts) result
