@@ -1,12 +1,12 @@
 //! A protocol file, as far as it is read before a text.
 
+use lf_diagnostics::{Place, Spot, items_at, table_at};
 use lf_grammar::Place as Reading;
 use lf_protocol_file::{
     Draft, Fault, ProtocolError, with_constant, with_fact, with_let, with_note, with_sketch,
     with_variables,
 };
 use lf_rules::{Event, Scope};
-use lf_text_hints::{Place, Spot, items_at, table_at};
 use lf_texts::{Heard, TextError, read_event, text_tokens};
 use std::alloc::{AllocError, Global};
 use toml::Table;

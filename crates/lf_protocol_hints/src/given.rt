@@ -1,6 +1,6 @@
 //! What is wrong with the constants that a scenario gives anew.
 
-use crate::names::{at, constants, meant};
+use crate::names::{constants, meant};
 use crate::nodes::nodes_hint;
 use lf_protocol_file::ProtocolFile;
 use lf_rules::{Given, Sort};
@@ -24,7 +24,7 @@ pub(crate) fn given_hint(
     table: &Table,
     file: &ProtocolFile,
 ) -> Result<String, AllocError> {
-    let given = match at(table, "given") {
+    let given = match table.get("given") {
         Some(Value::Table(given)) => given,
         Some(_) => {
             return String::from_str(
@@ -87,7 +87,7 @@ fn value_hint(
 
 /// How many nodes the scenario has, as far as it says so.
 fn nodes(table: &Table) -> i64 {
-    match at(table, "nodes") {
+    match table.get("nodes") {
         Some(Value::Integer(nodes)) => *nodes,
         _ => 0,
     }

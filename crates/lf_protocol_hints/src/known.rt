@@ -1,8 +1,9 @@
 //! The names of a protocol file that is read, and what each stands for.
 
+use lf_diagnostics::{Class, Known};
+use lf_grammar::Place as Reading;
 use lf_protocol_file::ProtocolFile;
-use lf_rules::{Cells, Kind};
-use lf_text_hints::{Class, Known};
+use lf_rules::{Cells, Kind, Scope, Within};
 use std::alloc::{AllocError, Global};
 
 /// The names of a file that outcomes may use. The error is that memory has run out.
@@ -34,4 +35,15 @@ pub(crate) fn known_in(alloc: Global, file: &ProtocolFile) -> Result<Vec<Known<'
         names.push(Known::new(fact.name.as_str(), Class::Fact, ""))?;
     }
     Ok(names)
+}
+
+/// Where a text of a scenario stands among the rules of a file.
+pub(crate) fn reading_in(file: &ProtocolFile, scope: Scope) -> Reading<'_> {
+    Reading {
+        definition: file.definition(),
+        names: file.names(),
+        fields: &[],
+        scope,
+        within: Within::Nothing,
+    }
 }

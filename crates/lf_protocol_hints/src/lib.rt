@@ -5,15 +5,12 @@
 //! Hints are for people: no contract fixes their words.
 #![tactic(auto)]
 
-mod chains;
 mod clamped;
 mod counts;
 mod drafts;
 mod given;
 mod idle;
-mod keys;
 mod known;
-mod limits;
 mod names;
 mod nobody;
 mod nodes;
@@ -25,8 +22,6 @@ mod replaced;
 mod replay;
 mod run;
 mod scenario;
-mod size;
-mod title;
 mod unfit;
 mod used;
 mod uses;

@@ -3,20 +3,6 @@
 use lf_protocol_file::ProtocolFile;
 use lf_words::nearest;
 use std::alloc::{AllocError, Global};
-use toml::{Table, Value};
-
-/// The value at a key.
-pub(crate) fn at<'a>(table: &'a Table, name: &str) -> Option<&'a Value> {
-    table.get(name)
-}
-
-/// The text at a key, and the empty one where none stands there.
-pub(crate) fn text_at<'a>(table: &'a Table, name: &str) -> &'a str {
-    match at(table, name) {
-        Some(Value::String(text)) => text.as_str(),
-        _ => "",
-    }
-}
 
 /// The names of a file's constants. The error, also below, is that memory has run out.
 pub(crate) fn constants<'a>(

@@ -1,14 +1,13 @@
 //! What is wrong with the text of a protocol file.
 
-use crate::keys::unknown_hint;
-use crate::limits::limit_hint;
-use crate::title::{place_under, titled};
 use crate::unfit::unfit_hint;
+use lf_diagnostics::{
+    kind_hint, limit_hint, missing_hint, place_of, place_under, titled, unknown_hint,
+};
 use lf_hints::toml_hint;
 use lf_protocol_file::{LONGEST, ProtocolError};
-use lf_text_hints::{Hint, Place, found_at, kind_of, place_of, said, wanted};
 use std::alloc::{AllocError, Global};
-use toml::{Table, Value};
+use toml::Table;
 
 /// What is wrong with a text that `read_protocol` refuses with this error: its place, what stands there, and what may; and under that the line
 /// where it stands, where that is known. There is no last line feed. The error here, also below, is that memory has run out.
@@ -49,38 +48,4 @@ fn table_hint(
         _ => return unfit_hint(alloc, text, table, &place),
     };
     String::from_str(alloc, hint.as_str())
-}
-
-/// That nothing stands at a place, and what has to.
-fn missing_hint(place: &Place<'_>) -> Hint {
-    Hint::of(format_args!("{}: missing; {}", place.text, wanted(place)))
-}
-
-/// That what stands at a place is of the wrong kind.
-fn kind_hint(table: &Table, place: &Place<'_>) -> Hint {
-    match found_at(table, place) {
-        Some(found) => Hint::of(format_args!(
-            "{}: {}; there has to stand {}",
-            place.text,
-            kinds_of(found.value).as_str(),
-            wanted(place)
-        )),
-        None => said(place.text, wanted(place)),
-    }
-}
-
-/// What a value is, and of a list its first item of another kind than the first one.
-fn kinds_of(value: &Value) -> Hint {
-    let Value::Array(items) = value else {
-        return Hint::of(kind_of(value));
-    };
-    let Some(first) = items.first() else {
-        return Hint::of("a list");
-    };
-    for item in items.iter() {
-        if kind_of(item) != kind_of(first) {
-            return Hint::of(format_args!("a list with {} and {}", kind_of(first), kind_of(item)));
-        }
-    }
-    Hint::of(format_args!("a list whose first item is {}", kind_of(first)))
 }

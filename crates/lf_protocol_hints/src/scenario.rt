@@ -1,8 +1,9 @@
 //! What is wrong with the text of a scenario of a protocol file.
 
 use crate::given::given_hint;
-use crate::names::{meant, outcomes, text_at};
+use crate::names::{meant, outcomes};
 use crate::outcome::outcome_hint;
+use lf_diagnostics::text_in;
 use lf_hints::scenario_hint;
 use lf_protocol_file::ProtocolFile;
 use lf_scenario::{Key, ScenarioError};
@@ -87,7 +88,7 @@ fn name_hint(alloc: Global, what: &str, file: &ProtocolFile) -> Result<String, A
 
 /// That the scenario names another protocol than the file.
 fn protocol_hint(alloc: Global, table: &Table, file: &ProtocolFile) -> Result<String, AllocError> {
-    let (named, name) = (text_at(table, "protocol"), file.name());
+    let (named, name) = (text_in(table, "protocol"), file.name());
     format!(in alloc;
         "protocol = {named:?}: the protocol file is of `{name}`: protocol = \"{name}\""
     )

@@ -1,11 +1,11 @@
 //! Texts and names that can't stand where they stand.
 
-use crate::chains::misplaced;
 use crate::drafts::{draft_before, heard_in, reading_at};
-use lf_text_hints::{
+use lf_diagnostics::{
     Class, Found, Hint, Known, NAME, Place, Spot, Told, first_named, found_at, names_of, rule_at,
-    said, said_of, text_at, text_of, text_told, wanted, with_line,
+    said, said_of, text_at, text_of, wanted, with_line,
 };
+use lf_text_hints::{misplaced, text_told};
 use lf_texts::{is_name, is_reserved};
 use std::alloc::{AllocError, Global};
 use toml::{Table, Value};

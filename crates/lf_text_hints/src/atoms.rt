@@ -1,10 +1,6 @@
 //! Names in expressions.
 
-use crate::hint::Words;
-use crate::named::{Class, first_named};
-use crate::reader::Reader;
-use crate::slips::instead_of;
-use crate::stop::{Near, Stop, behind};
+use lf_diagnostics::{Class, Near, Reader, Stop, Words, behind, first_named, instead_of};
 use lf_rules::Sort;
 
 /// Values that have a name in the language.
@@ -146,12 +142,5 @@ pub(crate) fn no_body(reader: &Reader<'_>, at: usize) -> Stop {
     } else {
         "no node's state is known here, so nothing is worked out for each node"
     };
-    Stop::at(at, Words::of(words))
-}
-
-/// That no number may be divided by a piece.
-pub(crate) fn no_divisor(at: usize) -> Stop {
-    let words =
-        "behind `mod` stands a number, `nodes`, or a constant that is a number, and none is 0";
     Stop::at(at, Words::of(words))
 }

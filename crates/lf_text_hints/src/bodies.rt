@@ -1,7 +1,6 @@
 //! What is worked out for each node of a set.
 
-use crate::reader::Reader;
-use crate::stop::{Stop, behind};
+use lf_diagnostics::{Reader, Stop, behind};
 use lf_grammar::Slip;
 use lf_rules::{Sort, Within};
 use lf_texts::with_it;

@@ -1,9 +1,6 @@
 //! What is said of sets and numbers by name.
 
-use crate::hint::Words;
-use crate::reader::Reader;
-use crate::stop::{Stop, behind};
-use crate::stops::OPERATORS;
+use lf_diagnostics::{OPERATORS, Reader, Stop, Words, behind};
 use lf_grammar::Slip;
 use lf_rules::Sort;
 

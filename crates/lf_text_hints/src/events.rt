@@ -1,11 +1,9 @@
 //! What rules are on.
 
-use crate::allowed::{NAME, NOTE_NAME};
-use crate::hint::{Words, in_quotes, is_of_word};
-use crate::known::fields_in;
-use crate::named::{Class, first_named};
-use crate::reader::{Reader, is_number};
-use crate::stop::{Near, Stop, behind};
+use lf_diagnostics::{
+    Class, NAME, NOTE_NAME, Near, Reader, Stop, Words, behind, fields_in, first_named, in_quotes,
+    is_number, is_of_word,
+};
 use lf_texts::{is_name, is_note_name, is_reserved};
 
 /// What a rule may be on that is no note.

@@ -1,11 +1,9 @@
 //! Where the proved reader refuses an expression, and why.
 
-use crate::atoms::{no_body, no_cell, no_divisor, no_it, no_item, no_items, no_name};
+use crate::atoms::{no_body, no_cell, no_it, no_item, no_items, no_name};
 use crate::bodies::{is_body, misfit_body};
 use crate::calls::{form_of, is_call, misfit, unclosed};
-use crate::hint::Words;
-use crate::reader::{Part, Reader, Taken};
-use crate::stop::{Stop, behind};
+use lf_diagnostics::{Part, Reader, Stop, Taken, Words, no_divisor};
 use lf_grammar::{Sign, Slip, Token, Typed, Unread, Why};
 use lf_rules::Sort;
 

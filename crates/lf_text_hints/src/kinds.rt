@@ -1,11 +1,8 @@
 //! Kinds of values.
 
-use crate::allowed::NAME;
-use crate::hint::{Words, is_of_word};
-use crate::named::{Class, first_named};
-use crate::reader::{Reader, is_number};
-use crate::spot::Spot;
-use crate::stop::{Near, Stop, behind};
+use lf_diagnostics::{
+    Class, NAME, Near, Reader, Spot, Stop, Words, behind, first_named, is_number, is_of_word,
+};
 use lf_texts::{is_name, is_reserved};
 
 /// The kinds that have a name in the language.

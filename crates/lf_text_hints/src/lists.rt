@@ -2,12 +2,10 @@
 
 use crate::atoms::{is_fixed, no_items};
 use crate::expressions::{IN_BRACKETS, read_number_or_set, read_truth};
-use crate::hint::{Words, in_quotes, is_of_word};
-use crate::known::{fields_in, inside_of};
-use crate::named::{Class, first_named};
-use crate::reader::Reader;
-use crate::slips::instead_of;
-use crate::stop::{Near, Stop, behind};
+use lf_diagnostics::{
+    Class, Near, Reader, Stop, Words, behind, fields_in, first_named, in_quotes, inside_of,
+    instead_of, is_of_word,
+};
 use lf_rules::{Cells, Sort, Within};
 use lf_texts::with_it;
 

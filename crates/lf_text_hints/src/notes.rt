@@ -1,12 +1,10 @@
 //! Forms of notes.
 
-use crate::allowed::NAME;
 use crate::events::note_name;
-use crate::hint::{Words, is_of_word};
 use crate::kinds::read_kind;
-use crate::named::{Class, first_named};
-use crate::reader::{Reader, is_number};
-use crate::stop::{Stop, behind};
+use lf_diagnostics::{
+    Class, NAME, Reader, Stop, Words, behind, first_named, is_number, is_of_word,
+};
 use lf_texts::is_name;
 
 /// Reads a form of notes, the one with this number among those of the file, from 0.

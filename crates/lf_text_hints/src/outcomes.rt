@@ -1,13 +1,10 @@
 //! Where the reading of an outcome stops, and why.
 
 use crate::expressions::stop_at;
-use crate::hint::{Words, is_of_word};
-use crate::named::{Class, Known, first_named};
-use crate::reader::{Reader, is_number};
-use crate::slips::instead_of;
-use crate::spot::Spot;
-use crate::stop::{Near, Stop, behind};
-use crate::stops::COMPARISONS;
+use lf_diagnostics::{
+    COMPARISONS, Class, Known, Near, Reader, Spot, Stop, Words, behind, first_named, instead_of,
+    is_number, is_of_word,
+};
 use lf_grammar::{Slip, Why};
 use lf_promises::{PromiseError, read_promise};
 use lf_texts::is_reserved;

@@ -1,9 +1,6 @@
 //! What traces show.
 
-use crate::hint::Words;
-use crate::named::first_named;
-use crate::reader::Reader;
-use crate::stop::{Near, Stop};
+use lf_diagnostics::{Near, Reader, Stop, Words, first_named};
 
 /// Why a text is no variable that a trace can show.
 pub(crate) fn shown_stop(reader: &Reader<'_>, text: &str) -> Stop {

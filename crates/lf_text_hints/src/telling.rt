@@ -3,18 +3,12 @@
 use crate::atoms::VALUES;
 use crate::calls::CALLS;
 use crate::events::EVENTS;
-use crate::hint::{LONGEST_PART, Words, said, said_of};
 use crate::kinds::KINDS;
-use crate::lines::Told;
-use crate::named::{Class, Known, first_named};
-use crate::near::near_name;
 use crate::outcomes::UNITS;
-use crate::place::Place;
-use crate::reader::Reader;
-use crate::slips::meant_by;
-use crate::spot::Spot;
-use crate::stop::{Near, Stop};
-use crate::stops::OPERATORS;
+use lf_diagnostics::{
+    Class, Known, LONGEST_PART, Near, OPERATORS, Place, Reader, Spot, Stop, Told, Words,
+    first_named, meant_by, near_name, said, said_of,
+};
 use std::alloc::{AllocError, Global};
 
 /// What is told of a stop. The error, also below, is that memory has run out.

@@ -2,21 +2,16 @@
 
 use crate::events::read_event;
 use crate::expressions::{read_number_or_set, read_truth};
-use crate::hint::Words;
 use crate::kinds::read_state;
-use crate::known::{head_of, inside_of, put_fields};
-use crate::lines::Told;
 use crate::lists::{read_sends, read_sets};
-use crate::named::{Class, Known, first_named};
 use crate::notes::read_form;
 use crate::outcomes::read_outcome;
-use crate::pieces::read_text;
-use crate::place::Place;
-use crate::reader::Reader;
 use crate::shown::shown_stop;
-use crate::spot::Spot;
-use crate::stop::{Near, Stop};
 use crate::telling::tell_stop;
+use lf_diagnostics::{
+    Class, Known, Near, Place, Reader, Spot, Stop, Told, Words, first_named, head_of, inside_of,
+    limit_told, put_fields, read_text, with_line,
+};
 use lf_grammar::Place as Reading;
 use lf_rules::Sort;
 use std::alloc::{AllocError, Global};
@@ -83,28 +78,32 @@ fn without_field(reader: &Reader<'_>, on: &str, stop: Stop) -> Stop {
     stop
 }
 
-/// What is wrong with the text of an outcome at a key of a scenario, where that can be told, of a protocol with these names.
-pub fn outcome_told<'a>(
+/// What is wrong with an expression or an outcome at a place of a scenario that is for this, where nothing has a name but these, and under that its line:
+/// `reading` is where it stands among the rules. None where nothing can be told.
+pub fn text_hint<'a>(
     alloc: Global,
-    key: &str,
+    source: &[u8],
+    place: &Place<'_>,
+    spot: Spot,
     names: &'a [Known<'a>],
     reading: &'a Reading<'a>,
     text: &'a str,
-) -> Result<Option<Told>, AllocError> {
-    let place = Place {
-        text: key,
-        section: "outcomes",
-        entry: Some(key),
-        part: None,
+) -> Result<Option<String>, AllocError> {
+    let told = match limit_told(alloc, place.text, text)? {
+        Some(told) => told,
+        None => match expression_told(alloc, place, spot, names, reading, text)? {
+            Some(told) => told,
+            None => return Ok(None),
+        },
     };
-    expression_told(alloc, &place, names, reading, text)
+    Ok(Some(with_line(alloc, source, place, text, &told)?))
 }
 
-/// What is wrong with an expression or an outcome at a place, where that can be told and nothing has a name but these; `reading` is where it stands
-/// among the rules.
-pub fn expression_told<'a>(
+/// What is wrong with an expression or an outcome at a place that is for this.
+fn expression_told<'a>(
     alloc: Global,
     place: &Place<'_>,
+    spot: Spot,
     names: &'a [Known<'a>],
     reading: &'a Reading<'a>,
     text: &'a str,
@@ -115,7 +114,7 @@ pub fn expression_told<'a>(
         pieces: read.pieces.as_slice(),
         tokens: read.tokens.as_slice(),
         names,
-        spot: Spot::of(place),
+        spot,
         place: reading,
     };
     match read_expression(&reader) {

@@ -55,7 +55,7 @@ pub fn said_of(place: &str, word: &str, words: &str) -> Hint {
 }
 
 /// That a word at a place is none of these names, with the near one, or else with more words.
-pub fn instead(
+pub(crate) fn instead(
     alloc: Global,
     place: &str,
     word: &str,
@@ -71,7 +71,7 @@ pub fn instead(
 }
 
 /// Whether a name is one of these.
-pub fn is_one_of(name: &str, names: &[&str]) -> bool {
+pub(crate) fn is_one_of(name: &str, names: &[&str]) -> bool {
     for other in names {
         if *other == name {
             return true;

@@ -136,7 +136,7 @@ const WORDS: [(&str, &str); 42] = [
 ];
 
 /// What is written instead of a sign, or of a word that joins values, in another language.
-pub(crate) fn instead_of(sign: &str) -> Option<&'static str> {
+pub fn instead_of(sign: &str) -> Option<&'static str> {
     for (other, words) in SIGNS {
         if other == sign {
             return Some(words);
@@ -157,7 +157,7 @@ pub(crate) fn instead_of(sign: &str) -> Option<&'static str> {
 }
 
 /// The one of some words that may be meant by a word of another language.
-pub(crate) fn meant_by<'a>(word: &str, words: &[&'a str]) -> Option<&'a str> {
+pub fn meant_by<'a>(word: &str, words: &[&'a str]) -> Option<&'a str> {
     for (other, meant) in WORDS {
         if word.eq_ignore_ascii_case(other) {
             for own in words {

@@ -11,12 +11,14 @@ use std::alloc::Global;
 
 /// A text that is read, and what may be named in it.
 #[derive(Clone, Copy)]
-pub(crate) struct Reader<'a> {
+pub struct Reader<'a> {
     pub alloc: Global,
     pub pieces: &'a [Piece<'a>],
+    /// The tokens of all pieces up to the first one that is none.
     pub tokens: &'a [Token],
     /// All names of the file, also those that are declared later.
     pub names: &'a [Known<'a>],
+    /// What the text is for.
     pub spot: Spot,
     /// Where its expressions stand.
     pub place: &'a Place<'a>,
@@ -24,14 +26,14 @@ pub(crate) struct Reader<'a> {
 
 /// A value that is read: its pieces from one on to another, which isn't among them, and what it is.
 #[derive(Clone, Copy, Debug)]
-pub(crate) struct Part {
+pub struct Part {
     pub from: usize,
     pub to: usize,
     pub sort: Sort,
 }
 
 /// A value that is read, or where reading stops.
-pub(crate) type Taken = Result<Part, Stop>;
+pub type Taken = Result<Part, Stop>;
 
 impl<'a> Reader<'a> {
     /// The piece with a number, from 0, which is empty behind the last one.
@@ -98,7 +100,7 @@ impl<'a> Reader<'a> {
     }
 
     /// The value that comes first among the tokens from where so many are left on to where so many are. None where none does.
-    pub(crate) fn value(&self, from: usize, to: usize) -> Result<Option<Part>, Stop> {
+    pub fn value(&self, from: usize, to: usize) -> Result<Option<Part>, Stop> {
         match read_truth(self.alloc, self.place, self.tokens_between(from, to)) {
             Ok((value, rest)) => Ok(Some(Part {
                 from: self.piece_at(from),
@@ -111,7 +113,7 @@ impl<'a> Reader<'a> {
     }
 
     /// What the value is that has a name here. None where none does.
-    pub(crate) fn sort_of(&self, name: &str) -> Option<Sort> {
+    pub fn sort_of(&self, name: &str) -> Option<Sort> {
         let leaf = self.place.leaf(name)?;
         self.place
             .definition
@@ -119,13 +121,13 @@ impl<'a> Reader<'a> {
     }
 
     /// What a cell is of the table with a name.
-    pub(crate) fn cell_sort(&self, name: &str) -> Option<Sort> {
+    pub fn cell_sort(&self, name: &str) -> Option<Sort> {
         let row = self.place.row(self.place.leaf(name)?)?;
         self.place.definition.row_sort(self.place.scope, row)
     }
 
     /// How many cells the table with a name has. None where there is no such table.
-    pub(crate) fn cells_of(&self, name: &str) -> Option<Cells> {
+    pub fn cells_of(&self, name: &str) -> Option<Cells> {
         match self.place.row(self.place.leaf(name)?)? {
             Row::Table(table) => Some(table.cells),
             Row::Given(_) => None,
@@ -133,7 +135,7 @@ impl<'a> Reader<'a> {
     }
 
     /// A place that the table with a name has, as it is written.
-    pub(crate) fn place_in(&self, name: &str) -> &'static str {
+    pub fn place_in(&self, name: &str) -> &'static str {
         match self.cells_of(name) {
             Some(Cells::EachNode) => "me",
             _ => "1",
@@ -141,7 +143,7 @@ impl<'a> Reader<'a> {
     }
 
     /// Whether a name is a fact. A word of a table is none.
-    pub(crate) fn is_fact(&self, known: &Known<'_>) -> bool {
+    pub fn is_fact(&self, known: &Known<'_>) -> bool {
         let is_of_table = match first_named(self.names, known.of) {
             Some(of) => of.class == Class::Table,
             None => false,
@@ -150,7 +152,7 @@ impl<'a> Reader<'a> {
     }
 
     /// Whether a piece stands somewhere behind one and before another.
-    pub(crate) fn has_between(&self, from: usize, to: usize, wanted: &str) -> bool {
+    pub fn has_between(&self, from: usize, to: usize, wanted: &str) -> bool {
         for at in behind(from)..to {
             if self.piece(at) == wanted {
                 return true;
@@ -160,7 +162,7 @@ impl<'a> Reader<'a> {
     }
 
     /// What the field with a number is of the note with a name.
-    pub(crate) fn field_sort(&self, note: &str, number: usize) -> Option<Sort> {
+    pub fn field_sort(&self, note: &str, number: usize) -> Option<Sort> {
         for form in self.place.definition.notes.as_slice() {
             if form.name.as_str() == note {
                 return Some(form.fields.as_slice().get(number)?.sort());
@@ -170,7 +172,7 @@ impl<'a> Reader<'a> {
     }
 
     /// The name of the variable with a number.
-    pub(crate) fn variable(&self, number: u8) -> &'a str {
+    pub fn variable(&self, number: u8) -> &'a str {
         match self
             .place
             .definition
@@ -272,6 +274,6 @@ impl<'a> Reader<'a> {
 const LONGEST_WORD: usize = 30;
 
 /// Whether a piece is a number.
-pub(crate) fn is_number(piece: &str) -> bool {
+pub fn is_number(piece: &str) -> bool {
     piece.starts_with(is_digit)
 }

@@ -6,7 +6,7 @@ use std::alloc::{AllocError, Global};
 
 /// A text, as it is read.
 #[derive(Drop)]
-pub(crate) struct Text<'a> {
+pub struct Text<'a> {
     pub pieces: Vec<Piece<'a>>,
     /// The tokens of all pieces up to the first one that is none.
     pub tokens: Vec<Token>,
@@ -14,7 +14,7 @@ pub(crate) struct Text<'a> {
 
 /// A number, a word or a sign of a text.
 #[derive(Clone, Copy, Debug)]
-pub(crate) struct Piece<'a> {
+pub struct Piece<'a> {
     pub text: &'a str,
     /// The text from it on.
     pub from: &'a str,
@@ -30,7 +30,7 @@ const SIGNS: [&str; 33] = [
 ];
 
 /// The pieces and the tokens of a text, in order. The error, also below, is that memory has run out.
-pub(crate) fn read_text(alloc: Global, text: &str) -> Result<Text<'_>, AllocError> {
+pub fn read_text(alloc: Global, text: &str) -> Result<Text<'_>, AllocError> {
     let (mut pieces, mut tokens) = (Vec::new(alloc), Vec::new(alloc));
     let mut is_read = true;
     let mut rest = text.trim_start_matches(is_blank);
@@ -100,7 +100,7 @@ fn behind_character(text: &str) -> &str {
 }
 
 /// Whether a character parts pieces and means nothing.
-pub(crate) fn is_blank(c: char) -> bool {
+fn is_blank(c: char) -> bool {
     c == ' ' || c == '\t' || c == '\n' || c == '\r'
 }
 

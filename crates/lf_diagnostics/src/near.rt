@@ -8,7 +8,7 @@ const SHORT: usize = 2;
 
 /// The name that is meant by a word. Of a word of three letters or more that is the nearest one, of a shorter one a name with the same letters; and
 /// else the one name that begins with the word. None where there is none. The error is that memory has run out.
-pub(crate) fn near_name<'a>(
+pub fn near_name<'a>(
     alloc: Global,
     word: &str,
     names: &[&'a str],

@@ -37,7 +37,7 @@ fn put_state<'a>(names: &mut Vec<Known<'a>>, table: &'a Table) -> Result<(), All
 }
 
 /// Whether a variable is a table, by its text.
-pub(crate) fn is_table(text: &str) -> bool {
+fn is_table(text: &str) -> bool {
     text.trim_start().starts_with('[')
 }
 
@@ -105,7 +105,7 @@ fn put_entries<'a>(
 }
 
 /// Puts the sender and the fields of the note behind the other names that a rule with this event is on.
-pub(crate) fn put_fields<'a>(names: &mut Vec<Known<'a>>, on: &'a str) -> Result<(), AllocError> {
+pub fn put_fields<'a>(names: &mut Vec<Known<'a>>, on: &'a str) -> Result<(), AllocError> {
     match first_named(names.as_slice(), head_of(on)) {
         Some(note) if note.class == Class::Note => {}
         _ => return Ok(()),
@@ -126,7 +126,7 @@ pub fn head_of(text: &str) -> &str {
 }
 
 /// What stands in the first bracket of a text. None where there is none.
-pub(crate) fn inside_of(text: &str) -> Option<&str> {
+pub fn inside_of(text: &str) -> Option<&str> {
     let (_head, behind) = text.split_once('(')?;
     match behind.split_once(')') {
         Some((inside, _rest)) => Some(inside),
@@ -135,7 +135,7 @@ pub(crate) fn inside_of(text: &str) -> Option<&str> {
 }
 
 /// How many fields the text of a note or an event has.
-pub(crate) fn fields_in(text: &str) -> usize {
+pub fn fields_in(text: &str) -> usize {
     match inside_of(text) {
         Some(inside) if !inside.trim().is_empty() => inside.split(',').count(),
         _ => 0,

@@ -1,6 +1,6 @@
 use denote.Text.{Utf8}
 use denote.Shadow.{shadow}
-use Rattle.lf_text_hints.proofs.pieces.read_text.Given as goal
+use Rattle.lf_diagnostics.proofs.pieces.read_text.Given as goal
 
 abbrev pub invariant-loop : goal.invariant-loop
 invariant-loop l =

@@ -1,6 +1,8 @@
 //! Places as they are shown to a person.
 
-use lf_text_hints::{Hint, LONGEST_PART, Place, place_of, rule_at, text_at};
+use crate::found::{rule_at, text_at};
+use crate::hint::{Hint, LONGEST_PART};
+use crate::place::{Place, place_of};
 use std::fmt::InlineText;
 use toml::Table;
 
@@ -8,7 +10,7 @@ use toml::Table;
 const LONGEST_TEXT: usize = 40;
 
 /// A place as it is shown: of a rule or a part of one, whose rule it is and what it is on are told too, for whoever doesn't count rules.
-pub(crate) fn titled(table: &Table, place: &Place<'_>) -> Hint {
+pub fn titled(table: &Table, place: &Place<'_>) -> Hint {
     let title = Hint::of(place.text);
     let Some(number) = place.entry else {
         return title;
@@ -35,7 +37,7 @@ pub(crate) fn titled(table: &Table, place: &Place<'_>) -> Hint {
 }
 
 /// The place that a title begins with, which is shown as the whole title. No place has a blank in it.
-pub(crate) fn place_under(title: &str) -> Place<'_> {
+pub fn place_under(title: &str) -> Place<'_> {
     let place = match title.split_once(' ') {
         Some((place, _rule)) => place,
         None => title,

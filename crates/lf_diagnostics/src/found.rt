@@ -94,13 +94,18 @@ pub fn text_of(value: &Value) -> &str {
     }
 }
 
-/// The text at a key, which is empty where none stands there.
+/// The text at a key of a table, which is empty where none stands there.
+pub fn text_in<'a>(table: &'a Table, key: &str) -> &'a str {
+    match table.get(key) {
+        Some(value) => text_of(value),
+        None => "",
+    }
+}
+
+/// The text at a key of what may be a table, which is empty where none stands there.
 pub fn text_at<'a>(value: &'a Value, key: &str) -> &'a str {
     match value {
-        Value::Table(table) => match table.get(key) {
-            Some(value) => text_of(value),
-            None => "",
-        },
+        Value::Table(table) => text_in(table, key),
         _ => "",
     }
 }

@@ -1,6 +1,5 @@
 //! Why a piece can't stand where it stands.
 
-use crate::atoms::no_divisor;
 use crate::hint::{Words, in_quotes};
 use crate::named::first_named;
 use crate::reader::{Reader, is_number};
@@ -9,10 +8,10 @@ use crate::spot::Spot;
 use crate::stop::{Near, Stop, behind};
 
 /// What compares two values.
-pub(crate) const COMPARISONS: [&str; 7] = ["=", "!=", "<", "<=", ">", ">=", "in"];
+pub const COMPARISONS: [&str; 7] = ["=", "!=", "<", "<=", ">", ">=", "in"];
 
 /// What joins two values.
-pub(crate) const OPERATORS: [&str; 12] = [
+pub const OPERATORS: [&str; 12] = [
     "=", "!=", "<", "<=", ">", ">=", "in", "+", "-", "mod", "and", "or",
 ];
 
@@ -176,6 +175,13 @@ impl<'a> Reader<'a> {
             _ => Err(self.left(at)),
         }
     }
+}
+
+/// That no number may be divided by a piece.
+pub fn no_divisor(at: usize) -> Stop {
+    let words =
+        "behind `mod` stands a number, `nodes`, or a constant that is a number, and none is 0";
+    Stop::at(at, Words::of(words))
 }
 
 /// Where a colon stands.

@@ -1,6 +1,14 @@
 //! What passes a limit.
 
-use lf_text_hints::{Hint, Place, Spot, Told, found_at, limit_told, said, wanted, with_line};
+use crate::allowed::wanted;
+use crate::found::found_at;
+use crate::hint::{Hint, Words, said, said_of};
+use crate::lines::{Told, with_line};
+use crate::pieces::{is_digit, read_text};
+use crate::place::Place;
+use crate::reader::is_number;
+use crate::spot::Spot;
+use lf_grammar::{MOST_OPEN, MOST_TOKENS, TokenError, read_tokens};
 use std::alloc::{AllocError, Global};
 use toml::{Table, Value};
 
@@ -14,7 +22,7 @@ const MOST_PLACES: u64 = 32;
 const MOST_VALUES: usize = 8;
 
 /// What passes a limit at a place of a file. The error, also below, is that memory has run out.
-pub(crate) fn limit_hint(
+pub fn limit_hint(
     alloc: Global,
     source: &[u8],
     table: &Table,
@@ -108,11 +116,6 @@ fn first_number(text: &str) -> u64 {
     digits.parse::<u64>().unwrap_or(0)
 }
 
-/// Whether a character is a digit.
-fn is_digit(c: char) -> bool {
-    c.is_ascii_digit()
-}
-
 /// What passes a limit in a list of a constant's values.
 fn list_hint(alloc: Global, place: &Place<'_>, items: &[Value]) -> Result<Hint, AllocError> {
     if items.is_empty() || MOST_VALUES < items.len() {
@@ -164,4 +167,45 @@ fn most_in(spot: Spot, text: &str) -> &'static str {
         Spot::Send => "a rule sends at most 8 notes",
         _ => "a limit is passed",
     }
+}
+
+/// Which limit of all texts the text at a place passes: numbers are 0 to 255, and there are only so many tokens, and brackets open at once. None
+/// where it passes none. The error, also below, is that memory has run out.
+pub fn limit_told(alloc: Global, place: &str, text: &str) -> Result<Option<Told>, AllocError> {
+    let words = match read_tokens(alloc, text.as_bytes()) {
+        Err(TokenError::Memory) => return Err(AllocError),
+        Err(TokenError::TooLarge) => return large_told(alloc, place, text),
+        Err(TokenError::TooMany) => Words::of(format_args!(
+            "a text of more than {MOST_TOKENS} numbers, words and signs"
+        )),
+        Err(TokenError::TooDeep) => Words::of(format_args!(
+            "more than {MOST_OPEN} brackets are open at once"
+        )),
+        Ok(_) | Err(TokenError::Stray) => return Ok(None),
+    };
+    Ok(Some(Told {
+        hint: said(place, words.as_str()),
+        before: 0,
+        length: text.chars().count(),
+    }))
+}
+
+/// The first number of a text that is too large.
+fn large_told(alloc: Global, place: &str, text: &str) -> Result<Option<Told>, AllocError> {
+    for piece in read_text(alloc, text)?.pieces.as_slice() {
+        if is_large(piece.text) {
+            return Ok(Some(Told {
+                hint: said_of(place, piece.text, "numbers are 0 to 255"),
+                before: text.len().saturating_sub(piece.from.len()),
+                length: piece.text.len(),
+            }));
+        }
+    }
+    Ok(None)
+}
+
+/// Whether a piece is a number that is too large. Zeros before a number mean nothing.
+fn is_large(piece: &str) -> bool {
+    let number = piece.trim_start_matches('0');
+    is_number(number) && number.parse::<u8>().is_err()
 }

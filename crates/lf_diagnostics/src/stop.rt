@@ -4,7 +4,7 @@ use crate::hint::Words;
 
 /// Which names may be meant by a word.
 #[derive(Clone, Copy, Debug, PartialEq, Eq)]
-pub(crate) enum Near {
+pub enum Near {
     /// None.
     Nothing,
     /// What is a value where the text stands.
@@ -29,7 +29,7 @@ pub(crate) enum Near {
 
 /// Where the reading of a text stops, and why.
 #[derive(Drop)]
-pub(crate) struct Stop {
+pub struct Stop {
     /// The number of the first piece that is at fault, from 0.
     pub from: usize,
     /// The number of the first piece behind those that are.
@@ -74,6 +74,6 @@ impl Stop {
 }
 
 /// The number of the piece behind one.
-pub(crate) fn behind(at: usize) -> usize {
+pub fn behind(at: usize) -> usize {
     at.saturating_add(1)
 }

@@ -1,15 +1,15 @@
 //! Parts of rules that can't stand in their rules.
 
-use lf_grammar::Token;
-use lf_text_hints::{
+use lf_diagnostics::{
     Hint, Place, Spot, Told, head_of, in_quotes, is_of_word, rule_at, said, text_at,
 };
+use lf_grammar::Token;
 use lf_texts::{TextError, same_tokens, text_tokens};
 use std::alloc::{AllocError, Global};
 use toml::{Table, Value};
 
 /// That `else` goes on with no rule, or that nothing can be sent on an event. The error, also below, is that memory has run out.
-pub(crate) fn misplaced(
+pub fn misplaced(
     alloc: Global,
     table: &Table,
     place: &Place<'_>,

@@ -1,6 +1,8 @@
 //! Keys that protocol files or their rules don't have.
 
-use lf_text_hints::{Hint, Place, instead, is_one_of, rule_at};
+use crate::found::rule_at;
+use crate::hint::{Hint, instead, is_one_of};
+use crate::place::Place;
 use std::alloc::{AllocError, Global};
 use toml::{Table, Value};
 
@@ -13,11 +15,7 @@ const KEYS: [&str; 9] = [
 const PARTS: [&str; 5] = ["who", "on", "when", "set", "send"];
 
 /// A key that a file, or the rule at a place, doesn't have. The error is that memory has run out.
-pub(crate) fn unknown_hint(
-    alloc: Global,
-    table: &Table,
-    place: &Place<'_>,
-) -> Result<Hint, AllocError> {
+pub fn unknown_hint(alloc: Global, table: &Table, place: &Place<'_>) -> Result<Hint, AllocError> {
     let Some(number) = place.entry else {
         let all =
             "; the keys are name, given, state, notes, lets, facts, rules, outcomes and trace";

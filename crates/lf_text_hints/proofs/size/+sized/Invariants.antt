@@ -1,4 +1,4 @@
-use Rattle.lf_protocol_hints.proofs.size.+sized.Given as goal
+use Rattle.lf_text_hints.proofs.size.+sized.Given as goal
 
 abbrev pub decreases-sized : goal.decreases-sized
 decreases-sized l = l.room

@@ -1,15 +1,17 @@
 //! What may stand at a place.
 
+use crate::found::found_at;
+use crate::hint::{Hint, said};
 use crate::place::Place;
 use crate::spot::Spot;
-use toml::Value;
+use toml::{Table, Value};
 
 /// What a name is.
 pub const NAME: &str =
     "no name, which is a small letter and at most 23 small letters, digits and _, and doesn't begin with not_";
 
 /// What a note's name is.
-pub(crate) const NOTE_NAME: &str =
+pub const NOTE_NAME: &str =
     "no note's name, which is a capital and at most 23 capitals, digits and _";
 
 /// What may stand at a place.
@@ -70,8 +72,42 @@ fn section_wanted(section: &str) -> &'static str {
     }
 }
 
+/// That nothing stands at a place, and what has to.
+pub fn missing_hint(place: &Place<'_>) -> Hint {
+    Hint::of(format_args!("{}: missing; {}", place.text, wanted(place)))
+}
+
+/// That what stands at a place is of the wrong kind.
+pub fn kind_hint(table: &Table, place: &Place<'_>) -> Hint {
+    match found_at(table, place) {
+        Some(found) => Hint::of(format_args!(
+            "{}: {}; there has to stand {}",
+            place.text,
+            kinds_of(found.value).as_str(),
+            wanted(place)
+        )),
+        None => said(place.text, wanted(place)),
+    }
+}
+
+/// What a value is, and of a list its first item of another kind than the first one.
+fn kinds_of(value: &Value) -> Hint {
+    let Value::Array(items) = value else {
+        return Hint::of(kind_of(value));
+    };
+    let Some(first) = items.first() else {
+        return Hint::of("a list");
+    };
+    for item in items.iter() {
+        if kind_of(item) != kind_of(first) {
+            return Hint::of(format_args!("a list with {} and {}", kind_of(first), kind_of(item)));
+        }
+    }
+    Hint::of(format_args!("a list whose first item is {}", kind_of(first)))
+}
+
 /// What a value is.
-pub fn kind_of(value: &Value) -> &'static str {
+fn kind_of(value: &Value) -> &'static str {
     match value {
         Value::String(_) => "a text",
         Value::Integer(_) => "a whole number",
