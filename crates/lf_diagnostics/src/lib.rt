@@ -1,8 +1,7 @@
 //! What hints of protocol files are made of: places in a file and what may stand there, names, the pieces of a text and where its reading stops, and the line
 //! that is shown with a fault marked.
 //!
-//! Whether an expression, a rule or an outcome says something is none of its matters: `lf_text_hints` reads those. Hints are for people: no contract fixes
-//! their words.
+//! What reads expressions, rules and outcomes up to a fault stands above, in `lf_text_hints`. Hints are for people: no contract fixes their words.
 #![tactic(auto)]
 
 mod allowed;
