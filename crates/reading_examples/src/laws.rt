@@ -48,7 +48,7 @@ fn read_back<'t>(
     requires { tokens_of (codes "max({1}: ((it + t) mod nodes))") ≡ Ok tokens.now }
     ensures { IfOk result (λ r. said r.0 ≡ record {
       term = terms.Over overs.Greatest (terms.Unary ones.Only (terms.Leaf (leaves.Number 1)))
-        (terms.Binary twos.Remainder (terms.Binary twos.Add (terms.Leaf leaves.It) (terms.Leaf leaves.Step)) (terms.Leaf leaves.Nodes));
+          (terms.Binary twos.Remainder (terms.Binary twos.Add (terms.Leaf leaves.It) (terms.Leaf leaves.Step)) (terms.Leaf leaves.Nodes));
       sort = sorts.Number;
     }) }
 {
