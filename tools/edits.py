@@ -212,10 +212,11 @@ def told_of(function, lines):
 
 
 def is_proof_of(function, file):
-    """Whether a file is part of a function's proof. That of a cycle stands where all of its functions' modules meet."""
-    names = function.unit().split("::")
+    """Whether a file is part of a function's proof. That of a cycle stands where all of its functions' modules meet; a function that calls itself is a cycle
+    with its own name."""
+    *modules, name = function.unit().split("::")
     folders = pathlib.PurePath(file).parts[:-1]
-    return folders[:1] == ("proofs",) and list(folders[-len(names) :]) == names
+    return folders[:1] == ("proofs",) and list(folders[-len(modules) - 1 :]) in ([*modules, name], [*modules, f"+{name}"])
 
 
 def judge(edit, status, lines):
