@@ -39,7 +39,7 @@ fn place(definition: &Definition) -> Place<'_>
     }
 }
 
-/// The expression of a text that has every bracket: the greatest of what is left by the number of nodes of the sums of a node and this step, of which there is one.
+/// The expression of a text that has every bracket: a set of one node and a body, in which that node is `it`.
 fn read_back<'t>(
     alloc: Global,
     definition: &Definition,
