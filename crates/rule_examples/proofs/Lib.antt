@@ -1,2 +1,3 @@
 mod Brought
 mod CellsLemmas
+mod KeptLemmas

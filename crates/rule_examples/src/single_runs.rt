@@ -1,17 +1,20 @@
 //! A run of a machine with two forms of notes in which each packet has one note: what the law of single notes says of it.
 
-ghost use Rattle.std.specs.Prelude.{◌≡◌, ℕ, ◌<◌, ◌≤◌, IsTrue, IfSome};
+ghost use Rattle.std.specs.Prelude.{◌≡◌, ℕ, ◌<◌, ◌≤◌, false, true, not, IsTrue, IfSome};
+ghost use Rattle.std.specs.List.{list_all};
 ghost use Rattle.lf_sim.specs.Runs.{view};
-ghost use Rattle.lf_sim.specs.Settings.{IsRun, cell_of, horizon_of, nodes_of, set_of, world_of};
-ghost use Rattle.lf_rule_machine.specs.SingleRuns.{AreSingles, IsSingle, world_of_notes};
+ghost use Rattle.lf_sim.specs.Settings.{IsRun, cell_of, horizon_of, nodes_of, set_of, state_of, world_of};
+ghost use Rattle.lf_rules.specs.declared.rule.Event.TheVariants as events;
+ghost use Rattle.lf_rule_machine.specs.Events.{same_event};
+ghost use Rattle.lf_rule_machine.specs.SingleRuns.{AreSingles, IsSingle, IsSingleRun, world_of_notes};
 
 use crate::build::{
     chain, definition, form, leaf, machine, more, one, only, plain, rule, send, set, unary, yes,
 };
 use lf_faults::{FaultSet, FaultSpec};
 use lf_latency::{Links, Network};
-use lf_rule_machine::{Packet, Ruled, runs_with_single_notes};
-use lf_rules::{Event, Kind, Leaf, Unary};
+use lf_rule_machine::{Packet, Ruled, kept_notes_are_single, runs_with_single_notes};
+use lf_rules::{Chain, Definition, Event, Kind, Leaf, Unary};
 use lf_sim::{Out, Run, Setting, run};
 use std::alloc::Global;
 
@@ -78,6 +81,68 @@ fn views_are_of_single_notes(setting: &Setting<Ruled>, run: &Run<Ruled>)
     let _definition = setting.machine.definition();
 }
 
+/// Whether no view of a node in a run remembers a note that was lost before it was sent.
+fn keeps_notes(run: &Run<Ruled>, node: u32) -> bool
+    requires { node < nodes_of run.now }
+    ensures { IsTrue result → (t : ℕ) → t ≤ horizon_of run.now → IfSome (state_of run.now node t) (λ s. s.replaced ≡ false) }
+{
+    for step in 0..run.horizon() + 1 {
+        if run.state(node, step).replaced {
+            return false;
+        }
+    }
+    true
+}
+
+/// Whether no view in a run remembers such a note.
+fn has_kept_notes(run: &Run<Ruled>) -> bool
+    ensures { IsTrue result → (n t : ℕ) → n < nodes_of run.now → t ≤ horizon_of run.now →
+        IfSome (state_of run.now n t) (λ s. s.replaced ≡ false) }
+{
+    for node in 0..run.nodes() {
+        if !keeps_notes(run, node) {
+            return false;
+        }
+    }
+    true
+}
+
+/// Whether nodes do nothing at the start.
+fn starts_with_zeros(definition: &Definition) -> bool
+    ensures { IsTrue result → list_all (λ chain. not (same_event chain.on events.Start)) definition.now.chains ≡ true }
+{
+    for chain in definition.chains.as_slice() {
+        if is_of_start(chain) {
+            return false;
+        }
+    }
+    true
+}
+
+/// Whether a chain is gone through at the start.
+fn is_of_start(chain: &Chain) -> bool
+    ensures { result ≡ same_event chain.now.on events.Start }
+{
+    match chain.on {
+        Event::Start => true,
+        _ => false,
+    }
+}
+
+/// Where no view in a run remembers a note that was lost, none does in the run in which nodes send each other single notes: so the law of kept notes says of it
+/// that each packet has one note.
+fn kept_notes_were_single(setting: &Setting<Ruled>, run: &Run<Ruled>)
+    requires run { IsRun (world_of setting.now) run.now }
+    requires singles { (n t : ℕ) → n < nodes_of run.now → t ≤ horizon_of run.now → IfSome (cell_of run.now n t) (λ c. AreSingles c.out) }
+    requires kept { (n t : ℕ) → n < nodes_of run.now → t ≤ horizon_of run.now → IfSome (state_of run.now n t) (λ s. s.replaced ≡ false) }
+    requires zeros { list_all (λ chain. not (same_event chain.on events.Start)) setting.now.machine.definition.chains ≡ true }
+    ensures { IsSingleRun setting.now.machine (world_of setting.now) (set_of run.now) }
+{
+    views_are_of_single_notes(setting, run);
+    kept_notes_are_single();
+    let _definition = setting.machine.definition();
+}
+
 /// The machine in which node 0 asks the others at each step, and each that is asked answers by another form of notes.
 fn asking(alloc: Global) -> Option<Ruled> {
     let asks = rule(
@@ -127,7 +192,22 @@ fn keeps_its_meaning(alloc: Global, setting: &Setting<Ruled>) -> bool {
         return false;
     }
     views_are_of_single_notes(setting, &run);
-    knows_an_answer(&run)
+    keeps_its_notes(setting, &run) && knows_an_answer(&run)
+}
+
+/// Whether the law of kept notes holds of a run whose packets have one note each: no view remembers a lost note, and nodes start with zeros.
+fn keeps_its_notes(setting: &Setting<Ruled>, run: &Run<Ruled>) -> bool
+    requires run { IsRun (world_of setting.now) run.now }
+    requires singles { (n t : ℕ) → n < nodes_of run.now → t ≤ horizon_of run.now → IfSome (cell_of run.now n t) (λ c. AreSingles c.out) }
+{
+    if !has_kept_notes(run) {
+        return false;
+    }
+    if !starts_with_zeros(setting.machine.definition()) {
+        return false;
+    }
+    kept_notes_were_single(setting, run);
+    true
 }
 
 fn knows_an_answer(run: &Run<Ruled>) -> bool {
