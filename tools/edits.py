@@ -50,6 +50,7 @@ class Edit:
                 self.why = f"its text stands {text.count(change.old)} times in {change.path}"
                 return
             self.functions.add(function_at(text, text.index(change.old), change.path))
+            self.functions.update(added_by(change, text))
         if not self.changes:
             self.why = "it has no lines `file:`, `old:` and `new:`"
 
@@ -104,6 +105,13 @@ def function_at(text, at, path):
     cycle = re.search(r"#\[cycle\((\w+)\)\]", "\n".join(above(lines, first)))
     whole = "::".join([owner, name] if owner else [*module_of(path), name])
     return Function(whole, cycle and f"+{cycle[1]}", path, first + 1 - len(above(lines, first)), last + 1)
+
+
+def added_by(change, text):
+    """Returns the functions that a change adds."""
+    at, edited = text.index(change.old), text.replace(change.old, change.new)
+    added = [it for it in re.finditer(r"\bfn (\w+)", change.new) if not re.search(rf"\bfn {it[1]}\b", change.old)]
+    return [function_at(edited, at + it.start(), change.path) for it in added]
 
 
 def module_of(path):
