@@ -693,7 +693,7 @@ step 3\n0 has\n1 has\n2 has\nstep 4\n0 has\n1 has\n2 has\nreaches' '' "leastfaul
     expect 2 'refused 10 outcome' $'outcome: `had`: *`has`?\nline * | each had\n*' \
         "sed 's/delivered/each had/' $own | leastfault search - --protocol $protocol"
     expect 2 'refused 10 outcome' '*node 3*' "sed 's/delivered/has at 3/' $own | leastfault search - --protocol $protocol"
-    expect 2 'refused 10 outcome' '*atoms*' "sed 's/^nodes = 3/nodes = 8/; s/^horizon = 4/horizon = 48/; s/delivered/always each has/' $own | leastfault search - --protocol $protocol"
+    expect 2 'refused 10 outcome' '*atoms*' "sed 's/^nodes = 3/nodes = 8/; s/^horizon = 4/horizon = 48/; s/delivered/always at most one has/' $own | leastfault search - --protocol $protocol"
     expect 0 'none 1' $'no node has these rules, *: 1, 4\n' \
         "sed 's/^nodes = 4/nodes = 3/; s/^crashes = 4/crashes = 3/' $chain.toml | leastfault search - --protocol examples/protocols/chain_replication.toml"
     expect 2 'refused faults' '?*' "leastfault run $own nonsense --protocol $protocol"

@@ -1,6 +1,6 @@
 -- Nodes by their kinds, and what is wrong with them first.
 use Rattle.std.proofs.Common.{◌≡◌, ℕ, Bool, true, false, List, refl, sym, ap, ◌∙◌, subst, arith}
-use Rattle.std.specs.Prelude.{Option, None, Some, MatchOption, Result, Ok, Err, IfOk}
+use Rattle.std.specs.Prelude.{Option, None, Some, MatchOption, Result, Ok, Err, IfOk, OnOk}
 use Rattle.std.specs.Option.{is_some}
 use Rattle.lf_faults.specs.declared.fault.Parts.{Parts}
 use Rattle.lf_faults.specs.declared.spec.Bounds.{Bounds}
@@ -56,6 +56,11 @@ module _ {State Note Fact : Type 0} (w : World State Note Fact) (b : Bounds) (fo
   branch-found (Ok found) reach edges given kids nodes is same_edges same_kids h =
       fault-Branch reach given nodes found (given-Branch p.node reach edges given kids nodes is same_edges same_kids) h
   branch-found (Err e) reach edges given kids nodes is same_edges same_kids h = tt
+
+-- what holds however it went, if there is a value
+pub on-ok : {A E P : Type 0} (result : Result A E) → P → OnOk result P
+on-ok (Ok x) p = p
+on-ok (Err e) p = tt
 
 -- what follows from what is found follows of the result
 pub ok_then : {A E : Type 0} (result : Result A E) (P Q : A → Type 0) → IfOk result P → ((x : A) → P x → Q x) → IfOk result Q

@@ -3,7 +3,7 @@ use Rattle.std.proofs.Common.{◌≡◌, ℕ, zero, suc, ◌+◌, ◌<◌, ◌�
 use Rattle.std.proofs.Common.{add-one}
 use Rattle.std.specs.Prelude.{Option, None, Some}
 use Rattle.std.specs.Option.{option_map, option_to_list}
-use Rattle.std.proofs.lemmas.Bool.{and_parts, and_from, cases_Bool, cases_eq, true_from_ne_false}
+use Rattle.std.proofs.lemmas.Bool.{and_parts, and_from, cases_Bool, cases_eq, cond-false, cond-true, true_from_ne_false}
 use Rattle.lf_faults.specs.declared.fault.Parts.{Parts}
 use Rattle.lf_faults.specs.Faults.{set_omits}
 use Rattle.lf_latency.specs.declared.network.Timing.{Timing}
@@ -15,8 +15,8 @@ use Rattle.lf_sim.specs.Points.{IsRunning}
 use Rattle.lf_sim.specs.Runs.{World, each_below, is_up, before_step, letter, letters, did, view, sent, inbox}
 use Rattle.lf_sim.proofs.Laws as runs
 use Rattle.lf_outcome.specs.declared.formula.Formula.{Formula}
-use Rattle.lf_outcome.specs.Truth.{reaches, is_down, is_shown}
-use Rattle.lf_outcome.proofs.Laws.{truth-carries}
+use Rattle.lf_outcome.specs.Truth.{reaches, entered, is_down, is_shown, is_single}
+use Rattle.lf_outcome.proofs.Laws.{single-agree, truth-carries}
 use Rattle.lf_delays.specs.Answers.{IsOn}
 use Rattle.lf_delays.specs.Windows.{under, AreLevel, AgreeUpTo}
 
@@ -141,11 +141,29 @@ module _ {State Note Fact : Type 0} (w : World State Note Fact) (fs : List Parts
         let up : is_up w fs n t ≡ true = up_same n t ∙ parts.0 in
         and_from (is_up w fs n t) (w.rules.shows n (view w fs n t) fact) up (shown_same n t fact up ∙ parts.1)
 
+    enters_same : (topic n t : ℕ) → entered v fs topic n t ≡ entered w fs topic n t
+    enters_same topic n t = elim (cases_Bool (is_up w fs n t)) [
+      | inl up ↦
+          let last = (runs.IsRunning-up w fs n t up).last in
+          cond-true (is_up v fs n t) (w.rules.entry n (view v fs n t) topic) None (sym (up_same n t) ∙ up)
+          ∙ sym (ap (λ (x : Stepped State Note). w.rules.entry n x.state topic)
+          (did_agree (λ k. w.horizon) (λ k j. omega arith) agree n t (omega (arith, last))))
+          ∙ sym (cond-true (is_up w fs n t) (w.rules.entry n (view w fs n t) topic) None up)
+      | inr down ↦
+          cond-false (is_up v fs n t) (w.rules.entry n (view v fs n t) topic) None (sym (up_same n t) ∙ down)
+          ∙ sym (cond-false (is_up w fs n t) (w.rules.entry n (view w fs n t) topic) None down)
+    ]
+
+    single_same : (nodes last topic : ℕ) → is_single v fs nodes last topic ≡ is_single w fs nodes last topic
+    single_same nodes last topic = single-agree w v fs fs nodes last topic (λ n t node first late. enters_same topic n t)
+
     pub reaches_agree : (f : Formula Fact) → reaches w fs f ≡ reaches v fs f
     reaches_agree f =
         bool_same (reaches w fs f) (reaches v fs f)
-        (truth-carries (is_down w fs) (is_down v fs) (is_shown w fs) (is_shown v fs) (λ n t e. sym (ap not (up_same n t)) ∙ e) shows_to f)
-        (truth-carries (is_down v fs) (is_down w fs) (is_shown v fs) (is_shown w fs) (λ n t e. ap not (up_same n t) ∙ e) shows_back f)
+        (truth-carries (is_down w fs) (is_down v fs) (is_shown w fs) (is_shown v fs) (is_single w fs) (is_single v fs)
+        (λ n t e. sym (ap not (up_same n t)) ∙ e) shows_to (λ nodes last topic e. single_same nodes last topic ∙ e) f)
+        (truth-carries (is_down v fs) (is_down w fs) (is_shown v fs) (is_shown w fs) (is_single v fs) (is_single w fs)
+        (λ n t e. ap not (up_same n t) ∙ e) shows_back (λ nodes last topic e. sym (single_same nodes last topic) ∙ e) f)
 
 -- assignments that are the same at each slot
 module _ {State Note Fact : Type 0} (timing : Timing) (w : World State Note Fact) (on : IsOn timing w) (a d : ℕ → ℕ → ℕ → ℕ)

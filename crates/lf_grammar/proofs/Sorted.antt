@@ -422,15 +422,15 @@ fits at (suc n) (Range a) ts x r e =
         (omega (arith, g.short, sign-shorter signs.To ts some))
 
 -- what a call reads is of its sort, and short
-module _ (at : Context) (level : Level) (ts : List Token) where
-  pub read-sorted : (result : Result (Typed × Bor (List Token)) Unread) → Reads at (All level) ts result
+module _ (at : Context) (next : Next) (ts : List Token) where
+  pub read-sorted : IsReady at next → (result : Result (Typed × Bor (List Token)) Unread) → Reads at next ts result
       → IfOk result (λ r. tree_sort at.definition at.scope at.within (term_of r.0.tree) ≡ Some r.0.sort)
-  read-sorted (Ok r) a = (fits at _ (All level) ts (found_by r) tt (a.runs (suc (steps (All level) ts)) (omega arith))).sort.is
-  read-sorted (Err e) a = tt
+  read-sorted ready (Ok r) a = (fits at _ next ts (found_by r) ready (a.runs (suc (steps next ts)) (omega arith))).sort.is
+  read-sorted ready (Err e) a = tt
 
-  pub read-few : level_weight level ≡ 0 → (result : Result (Typed × Bor (List Token)) Unread) → Reads at (All level) ts result
+  pub read-few : IsReady at next → weight next ≡ 0 → (result : Result (Typed × Bor (List Token)) Unread) → Reads at next ts result
       → IfOk result (λ r. 2 * parts (term_of r.0.tree) + 3 * length r.1.now < 3 * length ts)
-  read-few light (Ok r) a =
-      let g = fits at _ (All level) ts (found_by r) tt (a.runs (suc (steps (All level) ts)) (omega arith)) in
+  read-few ready light (Ok r) a =
+      let g = fits at _ next ts (found_by r) ready (a.runs (suc (steps next ts)) (omega arith)) in
       omega (arith, g.short, light)
-  read-few light (Err e) a = tt
+  read-few ready light (Err e) a = tt

@@ -214,9 +214,12 @@ depth (Body op a) = 14
 abbrev pub steps : Next → List Token → ℕ
 steps next ts = 20 * length ts + depth next
 
--- what comes first of tokens as a truth value or any other, and as a sum, a number or a set
+-- what comes first of tokens as a truth value or any other, as an operand of `and` and `or`, and as a sum, a number or a set
 unfoldable pub first_truth : Context → List Token → Option Found
 first_truth at ts = read at (suc (steps (All levels.Or) ts)) (All levels.Or) ts
+
+unfoldable pub first_operand : Context → List Token → Option Found
+first_operand at ts = read at (suc (steps Denied ts)) Denied ts
 
 unfoldable pub first_sum : Context → List Token → Option Found
 first_sum at ts = read at (suc (steps (All levels.Sum) ts)) (All levels.Sum) ts

@@ -4,7 +4,7 @@ ghost use Rattle.std.specs.Prelude.{◌≡◌, ◌+◌, ◌*◌, ◌<◌, ◌≤
 ghost use Rattle.lf_rules.specs.Sorts.{tree_sort};
 ghost use Rattle.lf_rules.specs.Terms.{term_of};
 ghost use Rattle.lf_rules.specs.Trees.{parts};
-ghost use Rattle.lf_grammar.specs.Expressions.{All, Left, More, Right, Denied, Comparison, Compared, first_truth, first_sum};
+ghost use Rattle.lf_grammar.specs.Expressions.{All, Left, More, Right, Denied, Comparison, Compared, first_truth, first_operand, first_sum};
 ghost use Rattle.lf_grammar.specs.Places.{context_of};
 ghost use Rattle.lf_grammar.specs.Readings.{said, Finds, Reads};
 
@@ -29,6 +29,17 @@ pub fn read_truth<'t>(alloc: Global, place: &Place<'_>, tokens: &'t [Token]) -> 
     ensures shorter { IfOk result (λ r. length r.1.now ≤ length tokens.now) }
 {
     read_all(alloc, place, Level::Or, tokens)
+}
+
+/// Reads what comes first as an operand of `and` and `or`, which is of any sort, and gives it with the tokens behind it. It has fewer than three parts for two
+/// tokens.
+pub fn read_operand<'t>(alloc: Global, place: &Place<'_>, tokens: &'t [Token]) -> Read<'t>
+    ensures read { Finds (first_operand (context_of place.now) tokens.now) result }
+    ensures typed { IfOk result (λ r. tree_sort place.now.definition.now place.now.scope place.now.within (term_of r.0.tree) ≡ Some r.0.sort) }
+    ensures few { IfOk result (λ r. 2 * parts (term_of r.0.tree) + 3 * length r.1.now < 3 * length tokens.now) }
+    ensures shorter { IfOk result (λ r. length r.1.now ≤ length tokens.now) }
+{
+    read_denied(alloc, place, tokens)
 }
 
 /// Reads what comes first as a sum, which is a number or a set unless it is an atom, and gives it with the tokens behind it. It has fewer than three parts

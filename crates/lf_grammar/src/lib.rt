@@ -23,7 +23,7 @@ mod tokenizing;
 mod typed;
 
 pub use error::{Unread, wrong};
-pub use expressions::{read_sum, read_truth};
+pub use expressions::{read_operand, read_sum, read_truth};
 pub use fronts::{behind_sign, behind_word, past_sign};
 pub use place::{Meaning, Place};
 pub use reading_laws::{bracketed_is_read_back, enough_steps_read_the_same};

@@ -29,8 +29,10 @@ pub enum Why {
     Node,
     /// A fact of which it isn't said at which nodes.
     Nodes,
-    /// `always` or `ever` within one of the two.
+    /// `always`, `ever` or `one value of` within one of the first two.
     Time,
+    /// `of` has to stand there.
+    Of,
     /// More than the whole.
     Rest,
 }

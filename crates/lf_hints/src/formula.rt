@@ -3,9 +3,9 @@
 use crate::hint::{Hint, Way, Words, item_of};
 use crate::protocols::{fact_words, protocol_named};
 use crate::takes::{at, number_at, numbers, refused, text_at, unfit};
-use lf_outcome::{DEEPEST, MOST_ATOMS};
+use lf_outcome::DEEPEST;
 use lf_protocols::Protocol;
-use lf_scenario::Key;
+use lf_scenario::{Key, MOST_LISTED};
 use toml::{Table, Value};
 
 /// What a formula may speak of.
@@ -31,7 +31,7 @@ pub(crate) fn formula_hint(table: &Table) -> Option<Hint> {
     };
     let formula = at(table, Key::Outcome.name())?;
     wrong_in(formula, Way::of("outcome"), DEEPEST, &subject).or(Some(Hint::of(format_args!(
-        "outcome has more than {MOST_ATOMS} atoms, which are the lists with \"down\" and \"shows\""
+        "outcome has more than {MOST_LISTED} atoms, which are the lists with \"down\" and \"shows\""
     ))))
 }
 

@@ -1,55 +1,61 @@
 -- What a true formula rests on.
-use Rattle.std.proofs.Common.{◌≡◌, ℕ, ◌+◌, ◌<◌, ◌≤◌, Bool, true, false, ◌&&◌, ◌||◌, List, [], ◌∷◌}
+use Rattle.std.proofs.Common.{◌≡◌, ℕ, ◌+◌, ◌<◌, ◌≤◌, Bool, true, false, not, cond, ◌&&◌, ◌||◌, List, [], ◌∷◌}
 use Rattle.std.proofs.Common.{◌++◌, length, get_or, take, drop, refl, sym, ap, ◌∙◌, subst, inl, inr, map, append_assoc}
 use Rattle.std.specs.Prelude.{Option, None, Some, IfSome, All, if◌then◌else◌}
-use Rattle.std.specs.List.{list_all, list_any, AllByRecursion}
+use Rattle.std.specs.List.{filter, list_all, list_any, AllByRecursion}
 use Rattle.std.specs.Option.{is_some, option_map, option_and_then, unwrap_or}
 use Rattle.std.proofs.lemmas.Bool.{and_parts, and_from, or_cases, or_left, or_right}
 use Rattle.std.proofs.lemmas.List.{append-nil, drop_more, drop_all, take_at}
 use Rattle.std.proofs.lemmas.List.Elements.{All-append, All-nil, All-cons, All-head, All-tail}
 use Rattle.lf_outcome.specs.declared.formula.Formula.{Formula, fold-roll-Formula}
-use Rattle.lf_outcome.specs.declared.formula.Formula.TheVariants.{rolls-All, rolls-Any, rolls-Down, rolls-Shows}
+use Rattle.lf_outcome.specs.declared.formula.Formula.TheVariants.{rolls-All, rolls-Any, rolls-Down, rolls-One, rolls-Shows}
 use Rattle.lf_outcome.specs.declared.formula.Formula.TheVariants as kind
 use Rattle.lf_outcome.specs.declared.formula.Formula.TheOpen.{Formula-F}
 use Rattle.lf_outcome.specs.declared.point.Point.{Point}
-use Rattle.lf_outcome.specs.Truth.{truth}
-use Rattle.lf_outcome.specs.Evidence.{all_of, first_of, rests_on, rests_step}
+use Rattle.lf_outcome.specs.Truth.{points_to, truth}
+use Rattle.lf_outcome.specs.Evidence.{all_of, first_of, points_up, rests_on, rests_step}
 use Rattle.lf_outcome.proofs.Inductions.{by_induction}
-use Rattle.lf_outcome.proofs.TruthLemmas.{truth-All, truth-Any, truth-Down, truth-Shows}
+use Rattle.lf_outcome.proofs.TruthLemmas.{truth-All, truth-Any, truth-Down, truth-One, truth-Shows}
 
 -- `rests_on`, by the kind of the formula
-module _ {Fact : Type 0} (down : ℕ → ℕ → Bool) (shown : ℕ → ℕ → Fact → Bool) where
-  pub rests_on-All : (parts : List (Formula Fact)) → rests_on down shown (kind.All parts) ≡ all_of (map (rests_on down shown) parts)
+module _ {Fact : Type 0} (down : ℕ → ℕ → Bool) (shown : ℕ → ℕ → Fact → Bool) (single : ℕ → ℕ → ℕ → Bool) where
+  pub rests_on-All : (parts : List (Formula Fact)) → rests_on down shown single (kind.All parts) ≡ all_of (map (rests_on down shown single) parts)
   rests_on-All parts =
-      ap (rests_on down shown) (sym (rolls-All parts))
-      ∙ fold-roll-Formula Fact (Option (List Point)) (rests_step down shown) (Formula-F.All parts)
+      ap (rests_on down shown single) (sym (rolls-All parts))
+      ∙ fold-roll-Formula Fact (Option (List Point)) (rests_step down shown single) (Formula-F.All parts)
 
-  pub rests_on-Any : (parts : List (Formula Fact)) → rests_on down shown (kind.Any parts) ≡ first_of (map (rests_on down shown) parts)
+  pub rests_on-Any : (parts : List (Formula Fact)) → rests_on down shown single (kind.Any parts) ≡ first_of (map (rests_on down shown single) parts)
   rests_on-Any parts =
-      ap (rests_on down shown) (sym (rolls-Any parts))
-      ∙ fold-roll-Formula Fact (Option (List Point)) (rests_step down shown) (Formula-F.Any parts)
+      ap (rests_on down shown single) (sym (rolls-Any parts))
+      ∙ fold-roll-Formula Fact (Option (List Point)) (rests_step down shown single) (Formula-F.Any parts)
 
-  pub rests_on-Down : (n t : ℕ) → rests_on down shown (kind.Down n t) ≡ (if down n t then Some [] else None)
+  pub rests_on-Down : (n t : ℕ) → rests_on down shown single (kind.Down n t) ≡ (if down n t then Some [] else None)
   rests_on-Down n t =
-      ap (rests_on down shown) (sym (rolls-Down n t))
-      ∙ fold-roll-Formula Fact (Option (List Point)) (rests_step down shown) (Formula-F.Down n t)
+      ap (rests_on down shown single) (sym (rolls-Down n t))
+      ∙ fold-roll-Formula Fact (Option (List Point)) (rests_step down shown single) (Formula-F.Down n t)
 
   pub rests_on-Shows : (n t : ℕ) (fact : Fact)
-      → rests_on down shown (kind.Shows n t fact) ≡ (if shown n t fact then Some (record { node = n; step = t } ∷ []) else None)
+      → rests_on down shown single (kind.Shows n t fact) ≡ (if shown n t fact then Some (record { node = n; step = t } ∷ []) else None)
   rests_on-Shows n t fact =
-      ap (rests_on down shown) (sym (rolls-Shows n t fact))
-      ∙ fold-roll-Formula Fact (Option (List Point)) (rests_step down shown) (Formula-F.Shows n t fact)
+      ap (rests_on down shown single) (sym (rolls-Shows n t fact))
+      ∙ fold-roll-Formula Fact (Option (List Point)) (rests_step down shown single) (Formula-F.Shows n t fact)
+
+  pub rests_on-One : (nodes last topic : ℕ)
+      → rests_on down shown single (kind.One nodes last topic) ≡ (if single nodes last topic then Some (points_up down nodes last) else None)
+  rests_on-One nodes last topic =
+      ap (rests_on down shown single) (sym (rolls-One nodes last topic))
+      ∙ fold-roll-Formula Fact (Option (List Point)) (rests_step down shown single) (Formula-F.One nodes last topic)
 
   -- from what the parts rest on, as read
   pub rests_on-from_all : (f : Formula Fact) (parts xs : List (Formula Fact)) → f ≡ kind.All parts → xs ≡ parts
-      → all_of (map (rests_on down shown) xs) ≡ rests_on down shown f
+      → all_of (map (rests_on down shown single) xs) ≡ rests_on down shown single f
   rests_on-from_all f parts xs is read =
-      ap (λ fs. all_of (map (rests_on down shown) fs)) read ∙ sym (rests_on-All parts) ∙ ap (rests_on down shown) (sym is)
+      ap (λ fs. all_of (map (rests_on down shown single) fs)) read ∙ sym (rests_on-All parts) ∙ ap (rests_on down shown single) (sym is)
 
   pub rests_on-from_any : (f : Formula Fact) (parts xs : List (Formula Fact)) → f ≡ kind.Any parts → xs ≡ parts
-      → first_of (map (rests_on down shown) xs) ≡ rests_on down shown f
+      → first_of (map (rests_on down shown single) xs) ≡ rests_on down shown single f
   rests_on-from_any f parts xs is read =
-      ap (λ fs. first_of (map (rests_on down shown) fs)) read ∙ sym (rests_on-Any parts) ∙ ap (rests_on down shown) (sym is)
+      ap (λ fs. first_of (map (rests_on down shown single) fs)) read ∙ sym (rests_on-Any parts) ∙ ap (rests_on down shown single) (sym is)
 
 -- one list more, which may be missing
 abbrev joined : {A : Type 0} → Option (List A) → Option (List A) → Option (List A)
@@ -73,102 +79,126 @@ none-if true points e = e
 none-if false points e = refl
 
 -- what is found at a node that is down, and at one that shows a fact or not, and what is put behind the points before
-module _ {Fact : Type 0} (down : ℕ → ℕ → Bool) (shown : ℕ → ℕ → Fact → Bool) where
+module _ {Fact : Type 0} (down : ℕ → ℕ → Bool) (shown : ℕ → ℕ → Fact → Bool) (single : ℕ → ℕ → ℕ → Bool) where
   abbrev some_of : Formula Fact → Bool
-  some_of f = is_some (rests_on down shown f)
+  some_of f = is_some (rests_on down shown single f)
 
   abbrev behind : List Point → Option (List Point) → List Point
   behind ps found = ps ++ unwrap_or found []
 
-  pub found-down : (f : Formula Fact) (n t : ℕ) (b : Bool) → f ≡ kind.Down n t → b ≡ down n t → b ≡ is_some (rests_on down shown f)
+  pub found-down : (f : Formula Fact) (n t : ℕ) (b : Bool) → f ≡ kind.Down n t → b ≡ down n t → b ≡ is_some (rests_on down shown single f)
   found-down f n t b is h =
-      h ∙ sym (is_some-if {A = List Point} (down n t) []) ∙ sym (ap is_some (rests_on-Down down shown n t)) ∙ sym (ap some_of is)
+      h ∙ sym (is_some-if {A = List Point} (down n t) []) ∙ sym (ap is_some (rests_on-Down down shown single n t)) ∙ sym (ap some_of is)
 
-  pub behind-down : (f : Formula Fact) (n t : ℕ) (ps : List Point) → f ≡ kind.Down n t → ps ≡ ps ++ unwrap_or (rests_on down shown f) []
+  pub behind-down : (f : Formula Fact) (n t : ℕ) (ps : List Point) → f ≡ kind.Down n t → ps ≡ ps ++ unwrap_or (rests_on down shown single f) []
   behind-down f n t ps is =
-      sym (ap (λ x. behind ps (rests_on down shown x)) is ∙ ap (behind ps) (rests_on-Down down shown n t)
+      sym (ap (λ x. behind ps (rests_on down shown single x)) is ∙ ap (behind ps) (rests_on-Down down shown single n t)
       ∙ ap (λ xs. ps ++ xs) (none-if (down n t) [] refl) ∙ append-nil ps)
 
   pub found-shows : (f : Formula Fact) (n t : ℕ) (fact : Fact) (b : Bool) → f ≡ kind.Shows n t fact → b ≡ shown n t fact
-      → b ≡ is_some (rests_on down shown f)
+      → b ≡ is_some (rests_on down shown single f)
   found-shows f n t fact b is h =
       h ∙ sym (is_some-if {A = List Point} (shown n t fact) (record { node = n; step = t } ∷ []))
-      ∙ sym (ap is_some (rests_on-Shows down shown n t fact)) ∙ sym (ap some_of is)
+      ∙ sym (ap is_some (rests_on-Shows down shown single n t fact)) ∙ sym (ap some_of is)
 
   pub behind-shows : (f : Formula Fact) (n t : ℕ) (fact : Fact) (ps : List Point) → f ≡ kind.Shows n t fact → shown n t fact ≡ true
-      → ps ++ record { node = n; step = t } ∷ [] ≡ ps ++ unwrap_or (rests_on down shown f) []
+      → ps ++ record { node = n; step = t } ∷ [] ≡ ps ++ unwrap_or (rests_on down shown single f) []
   behind-shows f n t fact ps is h =
-      sym (ap (λ x. behind ps (rests_on down shown x)) is ∙ ap (behind ps) (rests_on-Shows down shown n t fact)
+      sym (ap (λ x. behind ps (rests_on down shown single x)) is ∙ ap (behind ps) (rests_on-Shows down shown single n t fact)
       ∙ ap (λ b. behind ps (if b then Some (record { node = n; step = t } ∷ []) else None)) h)
 
   pub behind-hidden : (f : Formula Fact) (n t : ℕ) (fact : Fact) (ps : List Point) → f ≡ kind.Shows n t fact → shown n t fact ≡ false
-      → ps ≡ ps ++ unwrap_or (rests_on down shown f) []
+      → ps ≡ ps ++ unwrap_or (rests_on down shown single f) []
   behind-hidden f n t fact ps is h =
-      sym (ap (λ x. behind ps (rests_on down shown x)) is ∙ ap (behind ps) (rests_on-Shows down shown n t fact)
+      sym (ap (λ x. behind ps (rests_on down shown single x)) is ∙ ap (behind ps) (rests_on-Shows down shown single n t fact)
       ∙ ap (λ b. behind ps (if b then Some (record { node = n; step = t } ∷ []) else None)) h ∙ append-nil ps)
 
+  pub found-one : (f : Formula Fact) (nodes last topic : ℕ) (b : Bool) → f ≡ kind.One nodes last topic → b ≡ single nodes last topic
+      → b ≡ is_some (rests_on down shown single f)
+  found-one f nodes last topic b is h =
+      h ∙ sym (is_some-if {A = List Point} (single nodes last topic) (points_up down nodes last))
+      ∙ sym (ap is_some (rests_on-One down shown single nodes last topic)) ∙ sym (ap some_of is)
+
+  pub behind-one : (f : Formula Fact) (nodes last topic : ℕ) (ps : List Point) → f ≡ kind.One nodes last topic → single nodes last topic ≡ true
+      → ps ++ points_up down nodes last ≡ ps ++ unwrap_or (rests_on down shown single f) []
+  behind-one f nodes last topic ps is h =
+      sym (ap (λ x. behind ps (rests_on down shown single x)) is ∙ ap (behind ps) (rests_on-One down shown single nodes last topic)
+      ∙ ap (λ b. behind ps (if b then Some (points_up down nodes last) else None)) h)
+
+  pub behind-many : (f : Formula Fact) (nodes last topic : ℕ) (ps : List Point) → f ≡ kind.One nodes last topic → single nodes last topic ≡ false
+      → ps ≡ ps ++ unwrap_or (rests_on down shown single f) []
+  behind-many f nodes last topic ps is h =
+      sym (ap (λ x. behind ps (rests_on down shown single x)) is ∙ ap (behind ps) (rests_on-One down shown single nodes last topic)
+      ∙ ap (λ b. behind ps (if b then Some (points_up down nodes last) else None)) h ∙ append-nil ps)
+
 -- a formula rests on something where it is true, and only there
-module _ {Fact : Type 0} (down : ℕ → ℕ → Bool) (shown : ℕ → ℕ → Fact → Bool) where
+module _ {Fact : Type 0} (down : ℕ → ℕ → Bool) (shown : ℕ → ℕ → Fact → Bool) (single : ℕ → ℕ → ℕ → Bool) where
   abbrev Agrees : Formula Fact → Type 0
-  Agrees f = is_some (rests_on down shown f) ≡ truth down shown f
+  Agrees f = is_some (rests_on down shown single f) ≡ truth down shown single f
 
   some-all : (parts : List (Formula Fact)) → AllByRecursion Agrees parts
-      → is_some (all_of (map (rests_on down shown) parts)) ≡ list_all (truth down shown) parts
+      → is_some (all_of (map (rests_on down shown single) parts)) ≡ list_all (truth down shown single) parts
   some-all [] h = refl
   some-all (f ∷ fs) h =
-      let rest = all_of (map (rests_on down shown) fs) in
-      is_some-joined (rests_on down shown f) rest
-      ∙ ap (λ b. b && is_some rest) h.0 ∙ ap (λ b. truth down shown f && b) (some-all fs h.1)
+      let rest = all_of (map (rests_on down shown single) fs) in
+      is_some-joined (rests_on down shown single f) rest
+      ∙ ap (λ b. b && is_some rest) h.0 ∙ ap (λ b. truth down shown single f && b) (some-all fs h.1)
 
   some-any : (parts : List (Formula Fact)) → AllByRecursion Agrees parts
-      → is_some (first_of (map (rests_on down shown) parts)) ≡ list_any (truth down shown) parts
+      → is_some (first_of (map (rests_on down shown single) parts)) ≡ list_any (truth down shown single) parts
   some-any [] h = refl
   some-any (f ∷ fs) h =
-      let rest = map (rests_on down shown) fs in
-      is_some-first (rests_on down shown f) rest
-      ∙ ap (λ b. b || is_some (first_of rest)) h.0 ∙ ap (λ b. truth down shown f || b) (some-any fs h.1)
+      let rest = map (rests_on down shown single) fs in
+      is_some-first (rests_on down shown single f) rest
+      ∙ ap (λ b. b || is_some (first_of rest)) h.0 ∙ ap (λ b. truth down shown single f || b) (some-any fs h.1)
 
-  pub rests_on-truth : (f : Formula Fact) → is_some (rests_on down shown f) ≡ truth down shown f
+  pub rests_on-truth : (f : Formula Fact) → is_some (rests_on down shown single f) ≡ truth down shown single f
   rests_on-truth = by_induction Agrees (record {
-    all = λ parts h. ap is_some (rests_on-All down shown parts) ∙ some-all parts h ∙ sym (truth-All down shown parts);
-    any = λ parts h. ap is_some (rests_on-Any down shown parts) ∙ some-any parts h ∙ sym (truth-Any down shown parts);
-    down = λ n t. ap is_some (rests_on-Down down shown n t) ∙ is_some-if (down n t) [] ∙ sym (truth-Down down shown n t);
+    all = λ parts h. ap is_some (rests_on-All down shown single parts) ∙ some-all parts h ∙ sym (truth-All down shown single parts);
+    any = λ parts h. ap is_some (rests_on-Any down shown single parts) ∙ some-any parts h ∙ sym (truth-Any down shown single parts);
+    down = λ n t. ap is_some (rests_on-Down down shown single n t) ∙ is_some-if (down n t) [] ∙ sym (truth-Down down shown single n t);
     shows = λ n t fact.
-        ap is_some (rests_on-Shows down shown n t fact) ∙ is_some-if (shown n t fact) (record { node = n; step = t } ∷ [])
-        ∙ sym (truth-Shows down shown n t fact);
+        ap is_some (rests_on-Shows down shown single n t fact) ∙ is_some-if (shown n t fact) (record { node = n; step = t } ∷ [])
+        ∙ sym (truth-Shows down shown single n t fact);
+    one = λ nodes last topic.
+        ap is_some (rests_on-One down shown single nodes last topic) ∙ is_some-if (single nodes last topic) (points_up down nodes last)
+        ∙ sym (truth-One down shown single nodes last topic);
   })
 
 -- what holds by less holds by more
-module _ {Fact : Type 0} (down later_down : ℕ → ℕ → Bool) (shown later_shown : ℕ → ℕ → Fact → Bool)
+module _ {Fact : Type 0} (down later_down : ℕ → ℕ → Bool) (shown later_shown : ℕ → ℕ → Fact → Bool) (single later_single : ℕ → ℕ → ℕ → Bool)
     (downs : (n t : ℕ) → down n t ≡ true → later_down n t ≡ true)
-    (shows : (n t : ℕ) (fact : Fact) → shown n t fact ≡ true → later_shown n t fact ≡ true) where
+    (shows : (n t : ℕ) (fact : Fact) → shown n t fact ≡ true → later_shown n t fact ≡ true)
+    (ones : (nodes last topic : ℕ) → single nodes last topic ≡ true → later_single nodes last topic ≡ true) where
   abbrev Stays : Formula Fact → Type 0
-  Stays f = truth down shown f ≡ true → truth later_down later_shown f ≡ true
+  Stays f = truth down shown single f ≡ true → truth later_down later_shown later_single f ≡ true
 
   all-more : (parts : List (Formula Fact)) → AllByRecursion Stays parts
-      → list_all (truth down shown) parts ≡ true → list_all (truth later_down later_shown) parts ≡ true
+      → list_all (truth down shown single) parts ≡ true → list_all (truth later_down later_shown later_single) parts ≡ true
   all-more [] h e = refl
   all-more (f ∷ fs) h e =
-      let p = and_parts (truth down shown f) (list_all (truth down shown) fs) e in
-      and_from (truth later_down later_shown f) (list_all (truth later_down later_shown) fs) (h.0 p.0) (all-more fs h.1 p.1)
+      let p = and_parts (truth down shown single f) (list_all (truth down shown single) fs) e in
+      and_from (truth later_down later_shown later_single f) (list_all (truth later_down later_shown later_single) fs) (h.0 p.0) (all-more fs h.1 p.1)
 
   any-more : (parts : List (Formula Fact)) → AllByRecursion Stays parts
-      → list_any (truth down shown) parts ≡ true → list_any (truth later_down later_shown) parts ≡ true
+      → list_any (truth down shown single) parts ≡ true → list_any (truth later_down later_shown later_single) parts ≡ true
   any-more [] h e = e
   any-more (f ∷ fs) h e =
-      let here = truth later_down later_shown f in
-      let rest = list_any (truth later_down later_shown) fs in
-      elim (or_cases (truth down shown f) (list_any (truth down shown) fs) e) [
+      let here = truth later_down later_shown later_single f in
+      let rest = list_any (truth later_down later_shown later_single) fs in
+      elim (or_cases (truth down shown single f) (list_any (truth down shown single) fs) e) [
         | inl first ↦ or_left here rest (h.0 first)
         | inr later ↦ or_right here rest (any-more fs h.1 later)
       ]
 
-  pub truth-more : (f : Formula Fact) → truth down shown f ≡ true → truth later_down later_shown f ≡ true
+  pub truth-more : (f : Formula Fact) → truth down shown single f ≡ true → truth later_down later_shown later_single f ≡ true
   truth-more = by_induction Stays (record {
-    all = λ parts h e. truth-All later_down later_shown parts ∙ all-more parts h (sym (truth-All down shown parts) ∙ e);
-    any = λ parts h e. truth-Any later_down later_shown parts ∙ any-more parts h (sym (truth-Any down shown parts) ∙ e);
-    down = λ n t e. truth-Down later_down later_shown n t ∙ downs n t (sym (truth-Down down shown n t) ∙ e);
-    shows = λ n t fact e. truth-Shows later_down later_shown n t fact ∙ shows n t fact (sym (truth-Shows down shown n t fact) ∙ e);
+    all = λ parts h e. truth-All later_down later_shown later_single parts ∙ all-more parts h (sym (truth-All down shown single parts) ∙ e);
+    any = λ parts h e. truth-Any later_down later_shown later_single parts ∙ any-more parts h (sym (truth-Any down shown single parts) ∙ e);
+    down = λ n t e. truth-Down later_down later_shown later_single n t ∙ downs n t (sym (truth-Down down shown single n t) ∙ e);
+    shows = λ n t fact e. truth-Shows later_down later_shown later_single n t fact ∙ shows n t fact (sym (truth-Shows down shown single n t fact) ∙ e);
+    one = λ nodes last topic e.
+        truth-One later_down later_shown later_single nodes last topic ∙ ones nodes last topic (sym (truth-One down shown single nodes last topic) ∙ e);
   })
 
 -- what holds of each point of two lists, and of the first list that is there
@@ -186,29 +216,43 @@ IfSome-if P true x h = h refl
 IfSome-if P false x h = tt
 
 -- what holds of each point at which a fact is shown holds of each point on which a formula rests
-module _ {Fact : Type 0} (down : ℕ → ℕ → Bool) (shown : ℕ → ℕ → Fact → Bool) (P : Point → Type 0)
-    (here : (n t : ℕ) (fact : Fact) → shown n t fact ≡ true → P (record { node = n; step = t })) where
-  abbrev Rests : Formula Fact → Type 0
-  Rests f = IfSome (rests_on down shown f) (All P)
+module _ {Fact : Type 0} (down : ℕ → ℕ → Bool) (shown : ℕ → ℕ → Fact → Bool) (single : ℕ → ℕ → ℕ → Bool) (P : Point → Type 0)
+    (here : (n t : ℕ) (fact : Fact) → shown n t fact ≡ true → P (record { node = n; step = t }))
+    (awake : (p : Point) → down p.node p.step ≡ false → P p) where
+  abbrev woken : List Point → List Point
+  woken = filter (λ p. not (down p.node p.step))
 
-  rests-all : (parts : List (Formula Fact)) → AllByRecursion Rests parts → IfSome (all_of (map (rests_on down shown) parts)) (All P)
+  awake-one : (p : Point) (ps : List Point) (b : Bool) → down p.node p.step ≡ b → All P (woken ps) → All P (woken (p ∷ ps))
+  awake-one p ps true e rest = rw e rest
+  awake-one p ps false e rest = rw e (All-cons P p (woken ps) (awake p e) rest)
+
+  awake-each : (points : List Point) → All P (woken points)
+  awake-each [] = All-nil P
+  awake-each (p ∷ ps) = awake-one p ps (down p.node p.step) refl (awake-each ps)
+
+  abbrev Rests : Formula Fact → Type 0
+  Rests f = IfSome (rests_on down shown single f) (All P)
+
+  rests-all : (parts : List (Formula Fact)) → AllByRecursion Rests parts → IfSome (all_of (map (rests_on down shown single) parts)) (All P)
   rests-all [] h = All-nil P
   rests-all (f ∷ fs) h =
-      IfSome-joined P (rests_on down shown f) (all_of (map (rests_on down shown) fs)) h.0 (rests-all fs h.1)
+      IfSome-joined P (rests_on down shown single f) (all_of (map (rests_on down shown single) fs)) h.0 (rests-all fs h.1)
 
-  rests-any : (parts : List (Formula Fact)) → AllByRecursion Rests parts → IfSome (first_of (map (rests_on down shown) parts)) (All P)
+  rests-any : (parts : List (Formula Fact)) → AllByRecursion Rests parts → IfSome (first_of (map (rests_on down shown single) parts)) (All P)
   rests-any [] h = tt
   rests-any (f ∷ fs) h =
-      IfSome-first (All P) (rests_on down shown f) (map (rests_on down shown) fs) h.0 (rests-any fs h.1)
+      IfSome-first (All P) (rests_on down shown single f) (map (rests_on down shown single) fs) h.0 (rests-any fs h.1)
 
-  pub rests_on-points : (f : Formula Fact) → IfSome (rests_on down shown f) (All P)
+  pub rests_on-points : (f : Formula Fact) → IfSome (rests_on down shown single f) (All P)
   rests_on-points = by_induction Rests (record {
-    all = λ parts h. rw (rests_on-All down shown parts) (rests-all parts h);
-    any = λ parts h. rw (rests_on-Any down shown parts) (rests-any parts h);
-    down = λ n t. rw (rests_on-Down down shown n t) (IfSome-if (All P) (down n t) [] (λ _. All-nil P));
-    shows = λ n t fact. rw (rests_on-Shows down shown n t fact)
+    all = λ parts h. rw (rests_on-All down shown single parts) (rests-all parts h);
+    any = λ parts h. rw (rests_on-Any down shown single parts) (rests-any parts h);
+    down = λ n t. rw (rests_on-Down down shown single n t) (IfSome-if (All P) (down n t) [] (λ _. All-nil P));
+    shows = λ n t fact. rw (rests_on-Shows down shown single n t fact)
         (IfSome-if (All P) (shown n t fact) (record { node = n; step = t } ∷ [])
         (λ e. All-cons P (record { node = n; step = t }) [] (here n t fact e) (All-nil P)));
+    one = λ nodes last topic. rw (rests_on-One down shown single nodes last topic)
+        (IfSome-if (All P) (single nodes last topic) (points_up down nodes last) (λ _. awake-each (points_to nodes last)));
   })
 
 All-left : {A : Type 0} (P : A → Type 0) (xs ys : List A) → All P (xs ++ ys) → All P xs
@@ -220,15 +264,18 @@ All-right P [] ys every = every
 All-right P (x ∷ xs) ys every = All-right P xs ys (All-tail P x (xs ++ ys) every)
 
 -- a formula is true by the points alone on which it rests
-module _ {Fact : Type 0} (down : ℕ → ℕ → Bool) (shown : ℕ → ℕ → Fact → Bool) (counts : ℕ → ℕ → Bool) where
+module _ {Fact : Type 0} (down : ℕ → ℕ → Bool) (shown : ℕ → ℕ → Fact → Bool) (single : ℕ → ℕ → ℕ → Bool) (counts : ℕ → ℕ → Bool) where
+  abbrev single_counted : ℕ → ℕ → ℕ → Bool
+  single_counted nodes last topic = list_all (λ p. down p.node p.step || counts p.node p.step) (points_to nodes last) && single nodes last topic
+
   abbrev T : Formula Fact → Bool
-  T = truth down (λ n t fact. counts n t && shown n t fact)
+  T = truth down (λ n t fact. counts n t && shown n t fact) single_counted
 
   abbrev Counts : Point → Type 0
   Counts p = counts p.node p.step ≡ true
 
   abbrev Suffices : Formula Fact → Type 0
-  Suffices f = IfSome (rests_on down shown f) (λ points. All Counts points → T f ≡ true)
+  Suffices f = IfSome (rests_on down shown single f) (λ points. All Counts points → T f ≡ true)
 
   joined-true : (o r : Option (List Point)) (a b : Bool) → IfSome o (λ points. All Counts points → a ≡ true)
       → IfSome r (λ points. All Counts points → b ≡ true) → IfSome (joined o r) (λ points. All Counts points → (a && b) ≡ true)
@@ -249,30 +296,51 @@ module _ {Fact : Type 0} (down : ℕ → ℕ → Bool) (shown : ℕ → ℕ → 
   first-true (Some xs) r a b h k = λ every. or_left a b (h every)
 
   suffices-all : (parts : List (Formula Fact)) → AllByRecursion Suffices parts
-      → IfSome (all_of (map (rests_on down shown) parts)) (λ points. All Counts points → list_all T parts ≡ true)
+      → IfSome (all_of (map (rests_on down shown single) parts)) (λ points. All Counts points → list_all T parts ≡ true)
   suffices-all [] h = λ every. refl
   suffices-all (f ∷ fs) h =
-      joined-true (rests_on down shown f) (all_of (map (rests_on down shown) fs)) (T f) (list_all T fs) h.0 (suffices-all fs h.1)
+      joined-true (rests_on down shown single f) (all_of (map (rests_on down shown single) fs)) (T f) (list_all T fs) h.0 (suffices-all fs h.1)
 
   suffices-any : (parts : List (Formula Fact)) → AllByRecursion Suffices parts
-      → IfSome (first_of (map (rests_on down shown) parts)) (λ points. All Counts points → list_any T parts ≡ true)
+      → IfSome (first_of (map (rests_on down shown single) parts)) (λ points. All Counts points → list_any T parts ≡ true)
   suffices-any [] h = tt
   suffices-any (f ∷ fs) h =
-      first-true (rests_on down shown f) (map (rests_on down shown) fs) (T f) (list_any T fs) h.0 (suffices-any fs h.1)
+      first-true (rests_on down shown single f) (map (rests_on down shown single) fs) (T f) (list_any T fs) h.0 (suffices-any fs h.1)
+
+  -- points that count where their nodes are up
+  abbrev up_of : List Point → List Point
+  up_of = filter (λ p. not (down p.node p.step))
+
+  abbrev ok : Point → Bool
+  ok p = down p.node p.step || counts p.node p.step
+
+  counts-one : (p : Point) (ps : List Point) (b : Bool) → down p.node p.step ≡ b → (All Counts (up_of ps) → list_all ok ps ≡ true)
+      → All Counts (cond (not b) (p ∷ up_of ps) (up_of ps)) → ((b || counts p.node p.step) && list_all ok ps) ≡ true
+  counts-one p ps true e rest every = rest every
+  counts-one p ps false e rest every =
+      and_from (counts p.node p.step) (list_all ok ps) (All-head Counts p (up_of ps) every) (rest (All-tail Counts p (up_of ps) every))
+
+  counts-each : (points : List Point) → All Counts (up_of points) → list_all ok points ≡ true
+  counts-each [] every = refl
+  counts-each (p ∷ ps) every = counts-one p ps (down p.node p.step) refl (counts-each ps) every
 
   abbrev counted : ℕ → ℕ → Fact → Bool
   counted n t fact = counts n t && shown n t fact
 
   pub rests_on-suffices : (f : Formula Fact)
-      → IfSome (rests_on down shown f) (λ points. All Counts points → truth down (λ n t fact. counts n t && shown n t fact) f ≡ true)
+      → IfSome (rests_on down shown single f) (λ points. All Counts points → T f ≡ true)
   rests_on-suffices = by_induction Suffices (record {
-    all = λ parts h. rw (rests_on-All down shown parts, truth-All down counted parts) (suffices-all parts h);
-    any = λ parts h. rw (rests_on-Any down shown parts, truth-Any down counted parts) (suffices-any parts h);
-    down = λ n t. rw (rests_on-Down down shown n t, truth-Down down counted n t)
+    all = λ parts h. rw (rests_on-All down shown single parts, truth-All down counted single_counted parts) (suffices-all parts h);
+    any = λ parts h. rw (rests_on-Any down shown single parts, truth-Any down counted single_counted parts) (suffices-any parts h);
+    down = λ n t. rw (rests_on-Down down shown single n t, truth-Down down counted single_counted n t)
         (IfSome-if (λ points. All Counts points → down n t ≡ true) (down n t) [] (λ e every. e));
-    shows = λ n t fact. rw (rests_on-Shows down shown n t fact, truth-Shows down counted n t fact)
+    shows = λ n t fact. rw (rests_on-Shows down shown single n t fact, truth-Shows down counted single_counted n t fact)
         (IfSome-if (λ points. All Counts points → counted n t fact ≡ true) (shown n t fact) (record { node = n; step = t } ∷ [])
         (λ e every. and_from (counts n t) (shown n t fact) (All-head Counts (record { node = n; step = t }) [] every) e));
+    one = λ nodes last topic. rw (rests_on-One down shown single nodes last topic, truth-One down counted single_counted nodes last topic)
+        (IfSome-if (λ points. All Counts points → single_counted nodes last topic ≡ true) (single nodes last topic) (points_up down nodes last)
+        (λ e every. and_from (list_all ok (points_to nodes last)) (single nodes last topic)
+        (counts-each (points_to nodes last) every) e));
   })
 
 -- a list that is there, and one that is missing

@@ -7,7 +7,7 @@ use Rattle.std.proofs.lemmas.Bool.{cases_lt}
 use Rattle.std.proofs.lemmas.List.{take_all}
 use Rattle.std.proofs.lemmas.List.Folds.{list_all-map, list_all_at, list_all_more, list_any_at, list_any_more}
 use Rattle.lf_outcome.specs.declared.formula.Formula.{Formula, fold-roll-Formula}
-use Rattle.lf_outcome.specs.declared.formula.Formula.TheVariants.{rolls-All, rolls-Any, rolls-Down, rolls-Shows}
+use Rattle.lf_outcome.specs.declared.formula.Formula.TheVariants.{rolls-All, rolls-Any, rolls-Down, rolls-One, rolls-Shows}
 use Rattle.lf_outcome.specs.declared.formula.Formula.TheVariants as kind
 use Rattle.lf_outcome.specs.declared.formula.Formula.TheOpen.{Formula-F}
 use Rattle.lf_outcome.specs.Truth.{truth, truth_step}
@@ -41,30 +41,37 @@ module _ {X : Type 0} (p : X → Bool) (xs : List X) (i : ℕ) where
   any-last far before = sym before ∙ ap (list_any p) (take_all i xs far)
 
 -- from the truth of the parts, as read, and from the tests of points
-module _ {Fact : Type 0} (down : ℕ → ℕ → Bool) (shown : ℕ → ℕ → Fact → Bool) (f : Formula Fact) (b : Bool) where
-  pub from_all : (parts xs : List (Formula Fact)) → f ≡ kind.All parts → xs ≡ parts → b ≡ list_all (truth down shown) xs → b ≡ truth down shown f
+module _ {Fact : Type 0} (down : ℕ → ℕ → Bool) (shown : ℕ → ℕ → Fact → Bool) (single : ℕ → ℕ → ℕ → Bool) (f : Formula Fact) (b : Bool) where
+  pub from_all : (parts xs : List (Formula Fact)) → f ≡ kind.All parts → xs ≡ parts → b ≡ list_all (truth down shown single) xs → b ≡ truth down shown single f
   from_all parts xs is read h =
-      h ∙ ap (list_all (truth down shown)) read
-      ∙ sym (ap (truth down shown) (sym (rolls-All parts)) ∙ fold-roll-Formula Fact Bool (truth_step down shown) (Formula-F.All parts)
-      ∙ list_all-map (λ b. b) (truth down shown) parts)
-      ∙ ap (truth down shown) (sym is)
+      h ∙ ap (list_all (truth down shown single)) read
+      ∙ sym (ap (truth down shown single) (sym (rolls-All parts)) ∙ fold-roll-Formula Fact Bool (truth_step down shown single) (Formula-F.All parts)
+      ∙ list_all-map (λ b. b) (truth down shown single) parts)
+      ∙ ap (truth down shown single) (sym is)
 
-  pub from_any : (parts xs : List (Formula Fact)) → f ≡ kind.Any parts → xs ≡ parts → b ≡ list_any (truth down shown) xs → b ≡ truth down shown f
+  pub from_any : (parts xs : List (Formula Fact)) → f ≡ kind.Any parts → xs ≡ parts → b ≡ list_any (truth down shown single) xs → b ≡ truth down shown single f
   from_any parts xs is read h =
-      h ∙ ap (list_any (truth down shown)) read
-      ∙ sym (ap (truth down shown) (sym (rolls-Any parts)) ∙ fold-roll-Formula Fact Bool (truth_step down shown) (Formula-F.Any parts)
-      ∙ list_any-map (λ b. b) (truth down shown) parts)
-      ∙ ap (truth down shown) (sym is)
+      h ∙ ap (list_any (truth down shown single)) read
+      ∙ sym (ap (truth down shown single) (sym (rolls-Any parts)) ∙ fold-roll-Formula Fact Bool (truth_step down shown single) (Formula-F.Any parts)
+      ∙ list_any-map (λ b. b) (truth down shown single) parts)
+      ∙ ap (truth down shown single) (sym is)
 
-  pub from_down : (n t : ℕ) → f ≡ kind.Down n t → b ≡ down n t → b ≡ truth down shown f
+  pub from_down : (n t : ℕ) → f ≡ kind.Down n t → b ≡ down n t → b ≡ truth down shown single f
   from_down n t is h =
-      h ∙ sym (ap (truth down shown) (sym (rolls-Down n t)) ∙ fold-roll-Formula Fact Bool (truth_step down shown) (Formula-F.Down n t))
-      ∙ ap (truth down shown) (sym is)
+      h ∙ sym (ap (truth down shown single) (sym (rolls-Down n t)) ∙ fold-roll-Formula Fact Bool (truth_step down shown single) (Formula-F.Down n t))
+      ∙ ap (truth down shown single) (sym is)
 
-  pub from_shows : (n t : ℕ) (fact : Fact) → f ≡ kind.Shows n t fact → b ≡ shown n t fact → b ≡ truth down shown f
+  pub from_shows : (n t : ℕ) (fact : Fact) → f ≡ kind.Shows n t fact → b ≡ shown n t fact → b ≡ truth down shown single f
   from_shows n t fact is h =
-      h ∙ sym (ap (truth down shown) (sym (rolls-Shows n t fact)) ∙ fold-roll-Formula Fact Bool (truth_step down shown) (Formula-F.Shows n t fact))
-      ∙ ap (truth down shown) (sym is)
+      h ∙ sym (ap (truth down shown single) (sym (rolls-Shows n t fact))
+      ∙ fold-roll-Formula Fact Bool (truth_step down shown single) (Formula-F.Shows n t fact))
+      ∙ ap (truth down shown single) (sym is)
+
+  pub from_one : (nodes last topic : ℕ) → f ≡ kind.One nodes last topic → b ≡ single nodes last topic → b ≡ truth down shown single f
+  from_one nodes last topic is h =
+      h ∙ sym (ap (truth down shown single) (sym (rolls-One nodes last topic))
+      ∙ fold-roll-Formula Fact Bool (truth_step down shown single) (Formula-F.One nodes last topic))
+      ∙ ap (truth down shown single) (sym is)
 
 -- the first of numbers, as a loop finds it that tests each
 module _ (p : ℕ → Bool) (n : ℕ) where

@@ -1,5 +1,5 @@
 -- What crates above may cite of this one beside its contracts.
-use Rattle.std.proofs.Common.{◌≡◌, ◌⊎◌, ℕ, ◌+◌, ◌≤◌, Bool, true, false, not, ◌&&◌, List, refl, ap, subst, ◌∙◌, map, max, sum, ◌||◌, sym}
+use Rattle.std.proofs.Common.{◌≡◌, ◌⊎◌, ◌↔◌, ℕ, ◌+◌, ◌<◌, ◌≤◌, Bool, true, false, not, ◌&&◌, List, refl, ap, subst, ◌∙◌, map, max, sum, ◌||◌, sym}
 use Rattle.std.specs.Prelude.{nat_le, Some, IfSome, All, nat_lt}
 use Rattle.std.specs.Option.{is_some}
 use Rattle.std.specs.List.{fold, list_all, list_any}
@@ -9,19 +9,21 @@ use Rattle.lf_sim.specs.Runs.{World, is_up, view}
 use Rattle.lf_outcome.specs.declared.formula.Formula.{Formula}
 use Rattle.lf_outcome.specs.declared.formula.Formula.TheVariants as kind
 use Rattle.lf_outcome.specs.declared.point.Point.{Point}
+use Rattle.lf_outcome.specs.Entries.{EachKeyHasOne, NoTwoDiffer}
 use Rattle.lf_outcome.specs.Evidence.{evidence_of, AreUp, ArePoints, Covers}
 use Rattle.lf_outcome.specs.Measures.{depth_of, atoms_of}
 use Rattle.lf_outcome.specs.Reaches.{reach_at}
-use Rattle.lf_outcome.specs.Truth.{truth, is_down, is_shown, is_shown_where, reaches, reaches_within, counts}
+use Rattle.lf_outcome.specs.Truth.{truth, entered, is_down, is_shown, is_shown_where, is_single, is_single_where, points_to, reaches, reaches_within, counts}
 use Rattle.lf_outcome.specs.declared.scenario.Scenario.{Scenario}
 use Rattle.lf_outcome.specs.Sameness.{AreSame}
 use Rattle.lf_sim.specs.Settings.{world_of}
-use Rattle.lf_outcome.specs.Failing.{down_or_later, fails_by, may_reach, shown_or_later}
+use Rattle.lf_outcome.specs.Failing.{down_or_later, fails_by, may_reach, shown_or_later, single_by}
 use Rattle.lf_outcome.proofs.EvidenceLemmas.{truth-more}
+use Rattle.lf_outcome.proofs.EntriesLemmas as entries
 use Rattle.lf_outcome.proofs.EvidenceLemmas as evidence
 use Rattle.lf_outcome.proofs.MeasuresLemmas as measures
 use Rattle.lf_outcome.proofs.PointsLemmas as pages
-use Rattle.lf_outcome.proofs.TruthLemmas.{truth-All, truth-Any, truth-Down, truth-Shows}
+use Rattle.lf_outcome.proofs.TruthLemmas.{truth-All, truth-Any, truth-Down, truth-One, truth-Shows}
 use Rattle.lf_outcome.proofs.formula.Formula.TheLaws.TheKnot as formula
 
 module _ {Fact : Type 0} where
@@ -49,37 +51,55 @@ depth_of-Down = measures.depth_of-Down
 pub atoms_of-Down : (Fact : Type 0) (n t : ℕ) → atoms_of {Fact = Fact} (kind.Down n t) ≡ 1
 atoms_of-Down = measures.atoms_of-Down
 
+-- One is 1 deep, and one atom
+pub depth_of-One : (Fact : Type 0) (nodes last topic : ℕ) → depth_of {Fact = Fact} (kind.One nodes last topic) ≡ 1
+depth_of-One = measures.depth_of-One
+
+pub atoms_of-One : (Fact : Type 0) (nodes last topic : ℕ) → atoms_of {Fact = Fact} (kind.One nodes last topic) ≡ 1
+atoms_of-One = measures.atoms_of-One
+
 module _ {State Note Fact : Type 0} (w : World State Note Fact) (faults : List Parts) where
   -- truth within a reach, by the kind of the formula
   pub within-All : (reach : List ℕ) (parts : List (Formula Fact))
       → reaches_within w faults reach (kind.All parts) ≡ list_all (reaches_within w faults reach) parts
-  within-All reach parts = truth-All (is_down w faults) (is_shown_where w faults (Some reach)) parts
+  within-All reach parts = truth-All (is_down w faults) (is_shown_where w faults (Some reach)) (is_single_where w faults (Some reach)) parts
 
   pub within-Any : (reach : List ℕ) (parts : List (Formula Fact))
       → reaches_within w faults reach (kind.Any parts) ≡ list_any (reaches_within w faults reach) parts
-  within-Any reach parts = truth-Any (is_down w faults) (is_shown_where w faults (Some reach)) parts
+  within-Any reach parts = truth-Any (is_down w faults) (is_shown_where w faults (Some reach)) (is_single_where w faults (Some reach)) parts
 
   pub within-Down : (reach : List ℕ) (n t : ℕ) → reaches_within w faults reach (kind.Down n t) ≡ not (is_up w faults n t)
-  within-Down reach n t = truth-Down (is_down w faults) (is_shown_where w faults (Some reach)) n t
+  within-Down reach n t = truth-Down (is_down w faults) (is_shown_where w faults (Some reach)) (is_single_where w faults (Some reach)) n t
 
   pub within-Shows : (reach : List ℕ) (n t : ℕ) (fact : Fact)
       → reaches_within w faults reach (kind.Shows n t fact)
       ≡ (nat_le t (reach_at reach n) && (is_up w faults n t && w.rules.shows n (view w faults n t) fact))
-  within-Shows reach n t fact = truth-Shows (is_down w faults) (is_shown_where w faults (Some reach)) n t fact
+  within-Shows reach n t fact = truth-Shows (is_down w faults) (is_shown_where w faults (Some reach)) (is_single_where w faults (Some reach)) n t fact
+
+  pub within-One : (reach : List ℕ) (nodes last topic : ℕ)
+      → reaches_within w faults reach (kind.One nodes last topic)
+      ≡ (list_all (λ p. not (is_up w faults p.node p.step) || nat_le p.step (reach_at reach p.node)) (points_to nodes last)
+      && is_single w faults nodes last topic)
+  within-One reach nodes last topic =
+      truth-One (is_down w faults) (is_shown_where w faults (Some reach)) (is_single_where w faults (Some reach)) nodes last topic
 
   -- what is true within a reach is true
   pub reaches-from_within : (reach : List ℕ) (f : Formula Fact) → reaches_within w faults reach f ≡ true → reaches w faults f ≡ true
   reaches-from_within reach =
       truth-more (is_down w faults) (is_down w faults) (is_shown_where w faults (Some reach)) (is_shown w faults)
+      (is_single_where w faults (Some reach)) (is_single w faults)
       (λ n t e. e) (λ n t fact e. (and_parts (nat_le t (reach_at reach n)) (is_shown w faults n t fact) e).1)
+      (λ nodes last topic e. (and_parts (list_all (λ p. is_down w faults p.node p.step || counts (Some reach) p.node p.step) (points_to nodes last))
+      (is_single w faults nodes last topic) e).1)
 
--- Truth carries over: where each node that is down stays down, and each fact that is shown stays shown, a formula that
--- is true stays true.
-pub truth-carries : {Fact : Type 0} (down later_down : ℕ → ℕ → Bool) (shown later_shown : ℕ → ℕ → Fact → Bool)
+-- Truth carries over: where each node that is down stays down, each fact that is shown stays shown, and what is of one value for each key stays so, a
+-- formula that is true stays true.
+pub truth-carries : {Fact : Type 0} (down later_down : ℕ → ℕ → Bool) (shown later_shown : ℕ → ℕ → Fact → Bool) (single later_single : ℕ → ℕ → ℕ → Bool)
     → ((n t : ℕ) → down n t ≡ true → later_down n t ≡ true)
     → ((n t : ℕ) (fact : Fact) → shown n t fact ≡ true → later_shown n t fact ≡ true)
-    → (f : Formula Fact) → truth down shown f ≡ true → truth later_down later_shown f ≡ true
-truth-carries down later_down shown later_shown downs shows = truth-more down later_down shown later_shown downs shows
+    → ((nodes last topic : ℕ) → single nodes last topic ≡ true → later_single nodes last topic ≡ true)
+    → (f : Formula Fact) → truth down shown single f ≡ true → truth later_down later_shown later_single f ≡ true
+truth-carries down later_down shown later_shown single later_single = truth-more down later_down shown later_shown single later_single
 
 not_more : (was now : Bool) → (now ≡ true → was ≡ true) → not was ≡ true → not now ≡ true
 not_more true true h e = e
@@ -95,6 +115,7 @@ pub within-carries : {State Note Fact : Type 0} (w : World State Note Fact) (fau
     → (f : Formula Fact) → reaches_within w faults reach f ≡ true → reaches_within w wider reach f ≡ true
 within-carries {Fact = Fact} w faults wider reach none_more same =
     truth-more (is_down w faults) (is_down w wider) (is_shown_where w faults (Some reach)) (is_shown_where w wider (Some reach))
+    (is_single_where w faults (Some reach)) (is_single_where w wider (Some reach))
     (λ n t down. not_more (is_up w faults n t) (is_up w wider n t) (none_more n t) down)
     (λ n t fact shown.
     let within = and_parts (nat_le t (reach_at reach n)) (is_shown w faults n t fact) shown in
@@ -103,11 +124,32 @@ within-carries {Fact = Fact} w faults wider reach none_more same =
     and_from (nat_le t (reach_at reach n)) (is_shown w wider n t fact) within.0
     (and_from (is_up w wider n t) (w.rules.shows n (view w wider n t) fact) there.0
     (ap (λ v. w.rules.shows n v fact) there.1 ∙ up.1)))
+    (λ nodes last topic is. entries.single-carries w faults wider reach none_more same nodes last topic is)
+
+-- What nodes enter is of one value for each key where no two points differ, and where each key has a value.
+module _ {State Note Fact : Type 0} (w : World State Note Fact) (faults : List Parts) (nodes last topic : ℕ) where
+  pub single-pairs : (is_single w faults nodes last topic ≡ true) ↔ NoTwoDiffer w faults nodes last topic
+  single-pairs = entries.pairs w faults nodes last topic
+
+  pub single-values : (is_single w faults nodes last topic ≡ true) ↔ EachKeyHasOne w faults nodes last topic
+  single-values = entries.values w faults nodes last topic
+
+-- It is so in each run in which the same is entered at these points,
+pub single-agree : {State Note Fact : Type 0} (w other : World State Note Fact) (faults others : List Parts) (nodes last topic : ℕ)
+    → ((n t : ℕ) → n < nodes → 1 ≤ t → t ≤ last → entered other others topic n t ≡ entered w faults topic n t)
+    → is_single other others nodes last topic ≡ is_single w faults nodes last topic
+single-agree = entries.single-agree
+
+-- and what is so within a reach is so within one that lies further out.
+pub single-further : {State Note Fact : Type 0} (w : World State Note Fact) (faults : List Parts) (reach further : List ℕ)
+    → ((n : ℕ) → reach_at reach n ≤ reach_at further n) → (nodes last topic : ℕ)
+    → is_single_where w faults (Some reach) nodes last topic ≡ true → is_single_where w faults (Some further) nodes last topic ≡ true
+single-further = entries.single-further
 
 -- What a formula rests on: there is something where it is true,
 module _ {State Note Fact : Type 0} (w : World State Note Fact) (faults : List Parts) (f : Formula Fact) where
   pub evidence-truth : is_some (evidence_of w faults f) ≡ reaches w faults f
-  evidence-truth = evidence.rests_on-truth (is_down w faults) (is_shown w faults) f
+  evidence-truth = evidence.rests_on-truth (is_down w faults) (is_shown w faults) (is_single w faults) f
 
   rests : (points : List Point) → evidence_of w faults f ≡ Some points → (P : List Point → Type 0) → IfSome (evidence_of w faults f) P → P points
   rests points is P h = subst (λ o. IfSome o P) is h
@@ -154,10 +196,13 @@ pub stays_missed : {State Note Fact : Type 0} (w other : World State Note Fact) 
     → fails_by w faults t formula ≡ true
     → ((n u : ℕ) → u ≤ t → is_down other others n u ≡ is_down w faults n u)
     → ((n u : ℕ) (fact : Fact) → u ≤ t → is_shown other others n u fact ≡ is_shown w faults n u fact)
+    → ((topic n u : ℕ) → u ≤ t → entered other others topic n u ≡ entered w faults topic n u)
     → reaches other others formula ≡ false
-stays_missed w other faults others t formula fails downs shows =
+stays_missed w other faults others t formula fails downs shows enters =
     missed (may_reach w faults t formula) (reaches other others formula)
-    (truth-carries (is_down other others) (down_or_later w faults t) (is_shown other others) (shown_or_later w faults t)
+    (truth-carries (is_down other others) (down_or_later w faults t) (is_shown other others) (shown_or_later w faults t) (is_single other others)
+    (single_by w faults t)
     (λ n u. or_later (nat_lt t u) (is_down other others n u) (is_down w faults n u) (λ early. downs n u (ltb-false t u early)))
     (λ n u fact. or_later (nat_lt t u) (is_shown other others n u fact) (is_shown w faults n u fact) (λ early. shows n u fact (ltb-false t u early)))
+    (λ nodes last topic is. entries.single-early w other faults others t enters nodes last topic is)
     formula) fails

@@ -3,7 +3,7 @@ use Rattle.std.proofs.Common.{◌≡◌, ◌⊎◌, ℕ, ◌+◌, ◌≤◌, Lis
 use Rattle.std.specs.List.{fold}
 use Rattle.std.proofs.lemmas.List.{take_all}
 use Rattle.lf_outcome.specs.declared.formula.Formula.{Formula, fold-roll-Formula}
-use Rattle.lf_outcome.specs.declared.formula.Formula.TheVariants.{rolls-All, rolls-Any, rolls-Down, rolls-Shows}
+use Rattle.lf_outcome.specs.declared.formula.Formula.TheVariants.{rolls-All, rolls-Any, rolls-Down, rolls-One, rolls-Shows}
 use Rattle.lf_outcome.specs.declared.formula.Formula.TheVariants as kind
 use Rattle.lf_outcome.specs.declared.formula.Formula.TheOpen.{Formula-F}
 use Rattle.lf_outcome.specs.Measures.{depth_of, depth_step, atoms_of, atoms_step}
@@ -51,3 +51,11 @@ depth_of-Down Fact n t = ap depth_of (sym (rolls-Down n t)) ∙ fold-roll-Formul
 
 pub atoms_of-Down : (Fact : Type 0) (n t : ℕ) → atoms_of {Fact = Fact} (kind.Down n t) ≡ 1
 atoms_of-Down Fact n t = ap atoms_of (sym (rolls-Down n t)) ∙ fold-roll-Formula Fact ℕ atoms_step (Formula-F.Down n t)
+
+pub depth_of-One : (Fact : Type 0) (nodes last topic : ℕ) → depth_of {Fact = Fact} (kind.One nodes last topic) ≡ 1
+depth_of-One Fact nodes last topic =
+    ap depth_of (sym (rolls-One nodes last topic)) ∙ fold-roll-Formula Fact ℕ depth_step (Formula-F.One nodes last topic)
+
+pub atoms_of-One : (Fact : Type 0) (nodes last topic : ℕ) → atoms_of {Fact = Fact} (kind.One nodes last topic) ≡ 1
+atoms_of-One Fact nodes last topic =
+    ap atoms_of (sym (rolls-One nodes last topic)) ∙ fold-roll-Formula Fact ℕ atoms_step (Formula-F.One nodes last topic)

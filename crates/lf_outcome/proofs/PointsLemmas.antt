@@ -1,5 +1,5 @@
 -- Where the points of an evidence lie, and which reaches suffice for it.
-use Rattle.std.proofs.Common.{◌≡◌, ℕ, ◌<◌, ◌≤◌, true, ◌&&◌, not, List}
+use Rattle.std.proofs.Common.{◌≡◌, ℕ, ◌<◌, ◌≤◌, Bool, true, false, refl, ◌&&◌, not, List}
 use Rattle.std.specs.Prelude.{nat_lt, nat_le, slice_index_or, Some, IfSome, All}
 use Rattle.std.proofs.lemmas.Bool.{and_parts, ltb-true, leb-true, le-leb}
 use Rattle.std.proofs.lemmas.List.Elements.{All-contains, All-contains_itself}
@@ -10,8 +10,12 @@ use Rattle.lf_outcome.specs.declared.formula.Formula.{Formula}
 use Rattle.lf_outcome.specs.declared.point.Point.{Point}
 use Rattle.lf_outcome.specs.Evidence.{evidence_of, AreUp, ArePoints, Covers}
 use Rattle.lf_outcome.specs.Reaches.{reach_at}
-use Rattle.lf_outcome.specs.Truth.{counts, is_down, is_shown, reaches_within}
+use Rattle.lf_outcome.specs.Truth.{counts, is_down, is_shown, is_single, reaches_within}
 use Rattle.lf_outcome.proofs.EvidenceLemmas.{rests_on-points, rests_on-suffices}
+
+not-false : (b : Bool) → not b ≡ false → b ≡ true
+not-false true e = refl
+not-false false e = absurd cc
 
 module _ {State Note Fact : Type 0} (w : World State Note Fact) (faults : List Parts) where
   -- a node that is up at a step is a node, and the step one of the run
@@ -31,7 +35,7 @@ module _ {State Note Fact : Type 0} (w : World State Note Fact) (faults : List P
   Up p = is_up w faults p.node p.step ≡ true
 
   pub evidence-up : (f : Formula Fact) → IfSome (evidence_of w faults f) (All Up)
-  evidence-up f = rests_on-points (is_down w faults) (is_shown w faults) Up shown_up f
+  evidence-up f = rests_on-points (is_down w faults) (is_shown w faults) (is_single w faults) Up shown_up (λ p e. not-false (is_up w faults p.node p.step) e) f
 
   -- what holds of each of the points
   pub up-each : (points : List Point) → All Up points → AreUp w faults points
@@ -43,7 +47,7 @@ module _ {State Note Fact : Type 0} (w : World State Note Fact) (faults : List P
   -- a reach that covers them suffices
   pub covers-suffices : (f : Formula Fact) (reach : List ℕ)
       → IfSome (evidence_of w faults f) (λ points. All (λ p. counts (Some reach) p.node p.step ≡ true) points → reaches_within w faults reach f ≡ true)
-  covers-suffices f reach = rests_on-suffices (is_down w faults) (is_shown w faults) (counts (Some reach)) f
+  covers-suffices f reach = rests_on-suffices (is_down w faults) (is_shown w faults) (is_single w faults) (counts (Some reach)) f
 
 pub covers-each : (reach : List ℕ) (points : List Point) → Covers reach points → All (λ p. counts (Some reach) p.node p.step ≡ true) points
 covers-each reach points covers = λ k d below.

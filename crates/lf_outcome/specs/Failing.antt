@@ -1,8 +1,8 @@
 -- By which step a run is seen to miss an outcome.
-use Rattle.std.specs.Prelude.{ℕ, zero, suc, Bool, false, true, not, ◌||◌, nat_lt, List, Option, None, Some}
+use Rattle.std.specs.Prelude.{ℕ, zero, suc, Bool, false, true, not, ◌||◌, nat_lt, min, List, Option, None, Some}
 use Rattle.lf_faults.specs.declared.fault.Parts.{Parts}
 use Rattle.lf_outcome.specs.declared.formula.Formula.{Formula}
-use Rattle.lf_outcome.specs.Truth.{is_down, is_shown, truth}
+use Rattle.lf_outcome.specs.Truth.{is_down, is_shown, is_single, truth}
 use Rattle.lf_sim.specs.Runs.{World}
 
 module _ {State Note Fact : Type 0} (w : World State Note Fact) (faults : List Parts) (t : ℕ) where
@@ -13,9 +13,13 @@ module _ {State Note Fact : Type 0} (w : World State Note Fact) (faults : List P
   abbrev pub shown_or_later : ℕ → ℕ → Fact → Bool
   shown_or_later n u fact = nat_lt t u || is_shown w faults n u fact
 
+  -- nothing is entered past t
+  abbrev pub single_by : ℕ → ℕ → ℕ → Bool
+  single_by nodes last topic = is_single w faults nodes (min last t) topic
+
   -- the formula is true if all that it asks of steps past t turns out true
   abbrev pub may_reach : Formula Fact → Bool
-  may_reach = truth down_or_later shown_or_later
+  may_reach = truth down_or_later shown_or_later single_by
 
   -- it is false even then
   abbrev pub fails_by : Formula Fact → Bool

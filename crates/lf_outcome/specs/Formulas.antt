@@ -1,10 +1,11 @@
 -- Which formulas a scenario may have.
-use Rattle.std.specs.Prelude.{◌≡◌, ℕ, ◌≤◌, Bool, true, ◌&&◌, nat_le, nat_lt}
+use Rattle.std.specs.Prelude.{◌≡◌, ℕ, ◌≤◌, Bool, true, ◌&&◌, ◌==◌, nat_le, nat_lt}
 use Rattle.std.specs.List.{list_all, list_any}
 use Rattle.std.specs.Str.{bytes_eq}
 use Rattle.lf_faults.specs.declared.spec.Bounds.{Bounds}
 use Rattle.lf_protocols.specs.declared.fact.Fact.{Fact}
 use Rattle.lf_protocols.specs.declared.protocol.Kind.{Kind}
+use Rattle.lf_protocols.specs.Protocols.{topics_of}
 use Rattle.lf_protocols.specs.Words.{fact_name, facts_of}
 use Rattle.lf_outcome.specs.declared.formula.Formula.{Formula, fold-Formula}
 use Rattle.lf_outcome.specs.declared.formula.Formula.TheOpen.{Formula-F}
@@ -26,8 +27,9 @@ module _ (k : Kind) (nodes horizon : ℕ) where
   range_step (Formula-F.Any parts) = list_all (λ b. b) parts
   range_step (Formula-F.Down n t) = is_point nodes horizon n t
   range_step (Formula-F.Shows n t fact) = is_point nodes horizon n t && is_fact_of k fact
+  range_step (Formula-F.One many last topic) = (many == nodes) && ((last == horizon) && nat_lt topic (topics_of k))
 
-  -- each atom speaks of a point of the run, and each fact is one of the protocol's
+  -- each atom speaks of a point of the run, or of all of them, and each fact and topic is one of the protocol's
   abbrev pub is_in_range : Formula Fact → Bool
   is_in_range = fold-Formula Fact Bool range_step
 

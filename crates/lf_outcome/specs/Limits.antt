@@ -7,7 +7,7 @@ deepest = 8
 
 -- the most atoms of its formula
 abbrev pub most_atoms : ℕ
-most_atoms = 512
+most_atoms = 4096
 
 -- the most sets of faults of one size that it may let the search keep
 abbrev pub most_sets : ℕ

@@ -11,6 +11,7 @@ module _ {Fact : Type 0} where
   depth_step (Formula-F.Any depths) = fold max 0 depths + 1
   depth_step (Formula-F.Down n t) = 1
   depth_step (Formula-F.Shows n t fact) = 1
+  depth_step (Formula-F.One nodes last topic) = 1
 
   -- an atom is 1 deep, and All and Any are one deeper than their deepest part: 1 where they have none
   abbrev pub depth_of : Formula Fact → ℕ
@@ -22,7 +23,8 @@ module _ {Fact : Type 0} where
   atoms_step (Formula-F.Any counts) = sum counts
   atoms_step (Formula-F.Down n t) = 1
   atoms_step (Formula-F.Shows n t fact) = 1
+  atoms_step (Formula-F.One nodes last topic) = 1
 
-  -- how many Down and Shows there are in it
+  -- how many Down, Shows and One there are in it
   abbrev pub atoms_of : Formula Fact → ℕ
   atoms_of = fold-Formula Fact ℕ atoms_step

@@ -34,6 +34,14 @@ pub fn same<F: Eq>(one: &Formula<F>, other: &Formula<F>) -> bool
                 fact: other_fact,
             },
         ) => node == other_node && step == other_step && fact == other_fact,
+        (
+            Formula::One { nodes, last, topic },
+            Formula::One {
+                nodes: other_nodes,
+                last: other_last,
+                topic: other_topic,
+            },
+        ) => nodes == other_nodes && last == other_last && topic == other_topic,
         _ => false,
     }
 }

@@ -7,6 +7,7 @@ ghost use Rattle.lf_outcome.specs.Truth.{is_shown};
 ghost use Rattle.lf_outcome.specs.Failing.{fails_by, first_failing, may_reach};
 
 use crate::Formula;
+use crate::entries::is_single;
 use lf_sim::{Machine, Run, Setting};
 
 /// Whether a run of this setting is seen to miss the outcome by a step: the formula is false even if all that it asks of later steps turns out true. It takes
@@ -60,6 +61,11 @@ fn may_reach<M: Machine>(
         Formula::Shows { node, step, fact } => {
             last < *step || shows(setting, run, *node, *step, *fact)
         }
+        Formula::One {
+            nodes,
+            last: end,
+            topic,
+        } => is_single(setting, run, *nodes, (*end).min(last), *topic),
     }
 }
 

@@ -15,6 +15,9 @@ pub enum Formula<F> {
     Down { node: u32, step: u32 },
     /// The node is up at the step, and its state after it shows the fact.
     Shows { node: u32, step: u32, fact: F },
+    /// Of what the nodes below `nodes` enter under a topic, by their states after the steps 1 to `last` at which they are up, no two entries have one key
+    /// and different values.
+    One { nodes: u32, last: u32, topic: u8 },
 }
 
 /// The parts of a formula.

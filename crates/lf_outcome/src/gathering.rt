@@ -6,14 +6,15 @@ ghost use Rattle.lf_sim.specs.Settings.{IsRun, set_of, world_of};
 ghost use Rattle.lf_outcome.specs.Evidence.{AreUp, ArePoints, Covers, all_of, evidence_of, first_of};
 ghost use Rattle.lf_outcome.specs.Truth.{reaches, reaches_within};
 
+use crate::entries::{is_single, push_up};
 use crate::truth::shows;
 use crate::{Formula, Point};
 use lf_sim::{Machine, Run, Setting};
 use std::alloc::{AllocError, Global};
 
 /// The points at which the run shows the facts that make the formula true, in the formula's order: of All those of all
-/// parts, and of Any those of its first true part. A fact named twice gives its point twice, and a node that is down
-/// gives none. None where the formula is false.
+/// parts, of Any those of its first true part, and of One all of its points at which nodes are up. A fact named twice gives its point twice, and a node that
+/// is down gives none. None where the formula is false.
 pub fn evidence<M: Machine>(
     alloc: Global,
     setting: &Setting<M>,
@@ -63,6 +64,13 @@ fn gather<M: Machine>(
                 })?;
             }
             Ok(shown)
+        }
+        Formula::One { nodes, last, topic } => {
+            let single = is_single(setting, run, *nodes, *last, *topic);
+            if single {
+                push_up(setting, run, *nodes, *last, points)?;
+            }
+            Ok(single)
         }
     }
 }

@@ -3,6 +3,7 @@
 //! By which step a run is seen to miss an outcome: whatever comes after it.
 #![tactic(auto)]
 
+mod entries;
 mod equal;
 mod failing;
 mod formula;
@@ -17,6 +18,7 @@ mod scenario;
 mod truth;
 mod words;
 
+pub use entries::push_up;
 pub use equal::same;
 pub use failing::{fails_by, first_failing};
 pub use formula::{Formula, Formulas};
@@ -31,5 +33,5 @@ pub use point::Point;
 pub use promises::what_fails_stays_missed;
 pub use reach::Reach;
 pub use scenario::Scenario;
-pub use truth::{by_cases, holds, holds_within};
+pub use truth::{by_cases, holds, holds_within, single_by_values};
 pub use words::outcome_named;

@@ -18,11 +18,11 @@ pub fn depth<F>(formula: &Formula<F>) -> u32
             }
             deepest.saturating_add(1)
         }
-        Formula::Down { .. } | Formula::Shows { .. } => 1,
+        Formula::Down { .. } | Formula::Shows { .. } | Formula::One { .. } => 1,
     }
 }
 
-/// How many atoms a formula has: Down and Shows are atoms. Past 2^32 - 1 it is that.
+/// How many atoms a formula has: Down, Shows and One are atoms. Past 2^32 - 1 it is that.
 pub fn atoms<F>(formula: &Formula<F>) -> u32
     ensures { result ≡ min (atoms_of formula.now) 4294967295 }
 {
@@ -34,6 +34,6 @@ pub fn atoms<F>(formula: &Formula<F>) -> u32
             }
             count
         }
-        Formula::Down { .. } | Formula::Shows { .. } => 1,
+        Formula::Down { .. } | Formula::Shows { .. } | Formula::One { .. } => 1,
     }
 }

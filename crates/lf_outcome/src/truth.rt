@@ -1,18 +1,20 @@
 //! Truth of a formula.
 
-ghost use Rattle.std.specs.Prelude.{◌≡◌, ℕ, not, ◌&&◌, List};
+ghost use Rattle.std.specs.Prelude.{◌≡◌, ◌↔◌, ℕ, true, not, ◌&&◌, List};
 ghost use Rattle.std.specs.List.{list_all, list_any};
 ghost use Rattle.lf_faults.specs.declared.fault.Parts.{Parts};
 ghost use Rattle.lf_sim.specs.Runs.{World, is_up, view};
 ghost use Rattle.lf_outcome.specs.declared.formula.Formula.{Formula};
 ghost use Rattle.lf_outcome.specs.declared.formula.Formula.TheVariants as kind;
 ghost use Rattle.lf_sim.specs.Settings.{IsRun, set_of, world_of};
-ghost use Rattle.lf_outcome.specs.Truth.{truth, counts, is_down, is_shown, is_shown_where, reaches, reaches_within};
+ghost use Rattle.lf_outcome.specs.Entries.{EachKeyHasOne, NoTwoDiffer};
+ghost use Rattle.lf_outcome.specs.Truth.{truth, counts, is_down, is_shown, is_shown_where, is_single, is_single_where, reaches, reaches_within};
 
+use crate::entries::{are_within, is_single};
 use crate::{Formula, Reach};
 use lf_sim::{Machine, Run, Setting};
 
-/// When a set of faults reaches an outcome, by the four kinds of formulas, for every world and every list of faults.
+/// When a set of faults reaches an outcome, by the five kinds of formulas, for every world and every list of faults.
 pub fn by_cases<State, Note, Fact>()
     // all parts are true, as they are where there is none
     ensures all { (w : World State Note Fact) (faults : List Parts) (parts : List (Formula Fact)) →
@@ -26,6 +28,19 @@ pub fn by_cases<State, Note, Fact>()
     // n is up at t, and its view after t shows the fact
     ensures shows { (w : World State Note Fact) (faults : List Parts) (n t : ℕ) (fact : Fact) →
         reaches w faults (kind.Shows n t fact) ≡ (is_up w faults n t && w.rules.shows n (view w faults n t) fact) }
+    // of what the nodes enter under the topic at the steps up to the last, each two entries agree
+    ensures one { (w : World State Note Fact) (faults : List Parts) (nodes last topic : ℕ) →
+        reaches w faults (kind.One nodes last topic) ≡ is_single w faults nodes last topic }
+{}
+
+/// When what nodes enter is of one value for each key, for every world and every list of faults: what One is, point by point.
+pub fn single_by_values<State, Note, Fact>()
+    // no two points have entries with one key and different values
+    ensures pairs { (w : World State Note Fact) (faults : List Parts) (nodes last topic : ℕ) →
+        (is_single w faults nodes last topic ≡ true) ↔ NoTwoDiffer w faults nodes last topic }
+    // each key has a value, and at each point nothing is entered, or something for another key, or this value
+    ensures values { (w : World State Note Fact) (faults : List Parts) (nodes last topic : ℕ) →
+        (is_single w faults nodes last topic ≡ true) ↔ EachKeyHasOne w faults nodes last topic }
 {}
 
 /// Whether the run reaches the outcome, where it is a run of this setting. It takes no memory.
@@ -37,7 +52,7 @@ pub fn holds<M: Machine>(setting: &Setting<M>, formula: &Formula<M::Fact>, run: 
 }
 
 /// Whether the run reaches the outcome by what it shows within the reach: a fact at a step past the reach counts as not
-/// shown. It takes no memory.
+/// shown, and One as false if one of its points at which nodes are up is past the reach. It takes no memory.
 pub fn holds_within<M: Machine>(
     setting: &Setting<M>,
     formula: &Formula<M::Fact>,
@@ -60,7 +75,7 @@ fn is_true<M: Machine>(
 ) -> bool
     requires { IsRun (world_of setting.now) run.now }
     ensures { result ≡ truth (is_down (world_of setting.now) (set_of run.now))
-        (is_shown_where (world_of setting.now) (set_of run.now) limit.now) formula.now }
+        (is_shown_where (world_of setting.now) (set_of run.now) limit.now) (is_single_where (world_of setting.now) (set_of run.now) limit.now) formula.now }
 {
     match formula {
         Formula::All(parts) => all_true(setting, parts.as_slice(), run, limit),
@@ -68,6 +83,10 @@ fn is_true<M: Machine>(
         Formula::Down { node, step } => !run.up(*node, *step),
         Formula::Shows { node, step, fact } => {
             is_within(limit, *node, *step) && shows(setting, run, *node, *step, *fact)
+        }
+        Formula::One { nodes, last, topic } => {
+            are_within(setting, limit, run, *nodes, *last)
+                && is_single(setting, run, *nodes, *last, *topic)
         }
     }
 }
@@ -82,7 +101,7 @@ fn all_true<M: Machine>(
 ) -> bool
     requires { IsRun (world_of setting.now) run.now }
     ensures { result ≡ list_all (truth (is_down (world_of setting.now) (set_of run.now))
-        (is_shown_where (world_of setting.now) (set_of run.now) limit.now)) parts.now }
+        (is_shown_where (world_of setting.now) (set_of run.now) limit.now) (is_single_where (world_of setting.now) (set_of run.now) limit.now)) parts.now }
 {
     'all: for part in parts {
         if !is_true(setting, part, run, limit) {
@@ -102,7 +121,7 @@ fn any_true<M: Machine>(
 ) -> bool
     requires { IsRun (world_of setting.now) run.now }
     ensures { result ≡ list_any (truth (is_down (world_of setting.now) (set_of run.now))
-        (is_shown_where (world_of setting.now) (set_of run.now) limit.now)) parts.now }
+        (is_shown_where (world_of setting.now) (set_of run.now) limit.now) (is_single_where (world_of setting.now) (set_of run.now) limit.now)) parts.now }
 {
     'any: for part in parts {
         if is_true(setting, part, run, limit) {
@@ -113,7 +132,7 @@ fn any_true<M: Machine>(
 }
 
 /// Whether a step of a node counts.
-fn is_within(limit: &Option<Reach>, node: u32, step: u32) -> bool
+pub(crate) fn is_within(limit: &Option<Reach>, node: u32, step: u32) -> bool
     ensures { result ≡ counts limit.now node step }
 {
     match limit {

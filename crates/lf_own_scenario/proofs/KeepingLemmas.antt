@@ -7,6 +7,7 @@ use Rattle.std.proofs.lemmas.List.Folds.{list_all-map, Any-from_list_any, list_a
 use Rattle.std.proofs.lemmas.List.Sums.{AllPass-from_list_all, list_all-from_AllPass}
 use Rattle.lf_faults.specs.declared.fault.Parts.{Parts}
 use Rattle.lf_rules.specs.Terms.{Term}
+use Rattle.lf_rules.specs.declared.topic.Topic.{Topic}
 use Rattle.lf_rules.specs.declared.definition.Definition.{Definition}
 use Rattle.lf_rule_machine.specs.declared.state.State.{State as RuleState}
 use Rattle.lf_rule_machine.specs.declared.fact.Fact.{Fact as Told}
@@ -14,11 +15,13 @@ use Rattle.lf_rule_machine.specs.Machines.{is_told, shows_of}
 use Rattle.lf_protocols.specs.declared.fact.Fact.{Fact}
 use Rattle.lf_sim.specs.Runs.{World, is_up, view}
 use Rattle.lf_outcome.specs.declared.formula.Formula.{Formula, fold-roll-Formula}
-use Rattle.lf_outcome.specs.declared.formula.Formula.TheVariants.{rolls-All, rolls-Any, rolls-Down, rolls-Shows}
+use Rattle.lf_outcome.specs.declared.formula.Formula.TheVariants.{rolls-All, rolls-Any, rolls-Down, rolls-Shows, rolls-One}
 use Rattle.lf_outcome.specs.declared.formula.Formula.TheVariants as kind
 use Rattle.lf_outcome.specs.declared.formula.Formula.TheOpen.{Formula-F}
 use Rattle.lf_outcome.specs.Named.{shows_or_down}
-use Rattle.lf_outcome.specs.Truth.{truth, truth_step, is_down, is_shown, reaches}
+use Rattle.lf_outcome.specs.Entries.{NoTwoDiffer}
+use Rattle.lf_outcome.proofs.Laws.{single-pairs}
+use Rattle.lf_outcome.specs.Truth.{truth, truth_step, is_down, is_shown, is_single, reaches}
 use Rattle.lf_promises.specs.Fronts.{opposite}
 use Rattle.lf_promises.specs.declared.promise.Promise.{Promise}
 use Rattle.lf_promises.specs.declared.promise.Promise.TheVariants as promises
@@ -27,11 +30,12 @@ use Rattle.lf_own_scenario.specs.Elements.{Member}
 use Rattle.lf_own_scenario.specs.declared.scene.Scene.{Scene}
 use Rattle.lf_own_scenario.specs.Members.{is_in, members, others}
 use Rattle.lf_own_scenario.specs.Quantities.{ruled, shows, each, any_of, all_but_one, where_any}
-use Rattle.lf_own_scenario.specs.Unfolding.{formula_at}
+use Rattle.lf_own_scenario.specs.Topics.{Numbered, from, numbered}
+use Rattle.lf_own_scenario.specs.Unfolding.{formula_at, formulas_at}
 use Rattle.lf_own_scenario.specs.Keeping.{IsKept, IsMeant, UpShows, UpLacks}
 use Rattle.lf_own_scenario.proofs.MemberLemmas.{all-at, all-from, any-at, any-from, kept-at, kept-from, range-at, range-from}
 use Rattle.lf_own_scenario.proofs.MemberLemmas.{all-flat, any-flat, but_one-then, but_one-from}
-use Rattle.lf_own_scenario.proofs.UnfoldingLemmas.{formula-All, formula-Any, formula-Always, formula-Ever, formula-Nodes, formula-Down, formula-At}
+use Rattle.lf_own_scenario.proofs.UnfoldingLemmas.{formula-All, formula-Any, formula-Always, formula-Ever, formula-Nodes, formula-Down, formula-At, formula-One}
 
 list_any-map : {X Y : Type 0} (p : X → Bool) (h : Y → X) (ys : List Y) → list_any p (map h ys) ≡ list_any (λ y. p (h y)) ys
 list_any-map p h [] = refl
@@ -78,21 +82,24 @@ module _ {State Note : Type 0} (w : World State Note Fact) (faults : List Parts)
   abbrev shown : ℕ → ℕ → Fact → Bool
   shown = is_shown w faults
 
+  abbrev single : ℕ → ℕ → ℕ → Bool
+  single = is_single w faults
+
   reach-All : (fs : List (Formula Fact)) → reaches w faults (kind.All fs) ≡ list_all (reaches w faults) fs
   reach-All fs =
-      ap (truth down shown) (sym (rolls-All fs)) ∙ fold-roll-Formula Fact Bool (truth_step down shown) (Formula-F.All fs)
-      ∙ list_all-map (λ b. b) (truth down shown) fs
+      ap (truth down shown single) (sym (rolls-All fs)) ∙ fold-roll-Formula Fact Bool (truth_step down shown single) (Formula-F.All fs)
+      ∙ list_all-map (λ b. b) (truth down shown single) fs
 
   reach-Any : (fs : List (Formula Fact)) → reaches w faults (kind.Any fs) ≡ list_any (reaches w faults) fs
   reach-Any fs =
-      ap (truth down shown) (sym (rolls-Any fs)) ∙ fold-roll-Formula Fact Bool (truth_step down shown) (Formula-F.Any fs)
-      ∙ list_any-map (λ b. b) (truth down shown) fs
+      ap (truth down shown single) (sym (rolls-Any fs)) ∙ fold-roll-Formula Fact Bool (truth_step down shown single) (Formula-F.Any fs)
+      ∙ list_any-map (λ b. b) (truth down shown single) fs
 
   reach-Down : (n t : ℕ) → reaches w faults (kind.Down n t) ≡ not (is_up w faults n t)
-  reach-Down n t = ap (truth down shown) (sym (rolls-Down n t)) ∙ fold-roll-Formula Fact Bool (truth_step down shown) (Formula-F.Down n t)
+  reach-Down n t = ap (truth down shown single) (sym (rolls-Down n t)) ∙ fold-roll-Formula Fact Bool (truth_step down shown single) (Formula-F.Down n t)
 
   reach-Shows : (n t : ℕ) (f : Fact) → reaches w faults (kind.Shows n t f) ≡ (is_up w faults n t && w.rules.shows n (view w faults n t) f)
-  reach-Shows n t f = ap (truth down shown) (sym (rolls-Shows n t f)) ∙ fold-roll-Formula Fact Bool (truth_step down shown) (Formula-F.Shows n t f)
+  reach-Shows n t f = ap (truth down shown single) (sym (rolls-Shows n t f)) ∙ fold-roll-Formula Fact Bool (truth_step down shown single) (Formula-F.Shows n t f)
 
   reach-node : (n t : ℕ) (f : Fact)
       → reaches w faults (shows_or_down t f n)
@@ -102,73 +109,76 @@ module _ {State Note : Type 0} (w : World State Note Fact) (faults : List Parts)
       ∙ ap (λ b. b || (reaches w faults (kind.Shows n t f) || false)) (reach-Down n t)
       ∙ ap (λ b. not (is_up w faults n t) || (b || false)) (reach-Shows n t f)
 
-  module _ (s : Scene) (parts : List Promise) where
-    kept : ℕ → Promise → Bool
-    kept t part = reaches w faults (formula_at s part t)
+  module _ (s : Scene) (parts : List Promise) (first : ℕ) where
+    kept : ℕ → Numbered → Bool
+    kept t x = reaches w faults (formula_at s x.first x.promise t)
+
+    abbrev own : List Numbered
+    own = numbered first parts
 
     module _ (t : ℕ) where
-      all-test : reaches w faults (formula_at s (promises.All parts) t) ≡ list_all (kept t) parts
+      all-test : reaches w faults (formula_at s first (promises.All parts) t) ≡ list_all (kept t) own
       unfolding kept
       all-test =
-          ap (reaches w faults) (formula-All s parts t) ∙ reach-All (map (λ part. formula_at s part t) parts)
-          ∙ list_all-map (reaches w faults) (λ part. formula_at s part t) parts
+          ap (reaches w faults) (formula-All s first parts t) ∙ reach-All (formulas_at s first parts t)
+          ∙ list_all-map (reaches w faults) (λ x. formula_at s x.first x.promise t) own
 
-      pub all-kept : IsKept w faults s t (promises.All parts) ↔ All (IsKept w faults s t) parts
+      pub all-kept : IsKept w faults s t (from first (promises.All parts)) ↔ All (IsKept w faults s t) own
       unfolding kept
       all-kept = (
-        (λ h. AllPass-from_list_all (kept t) parts (sym all-test ∙ h)),
-        (λ h. all-test ∙ list_all-from_AllPass (kept t) parts h),
+        (λ h. AllPass-from_list_all (kept t) own (sym all-test ∙ h)),
+        (λ h. all-test ∙ list_all-from_AllPass (kept t) own h),
       )
 
-      any-test : reaches w faults (formula_at s (promises.Any parts) t) ≡ list_any (kept t) parts
+      any-test : reaches w faults (formula_at s first (promises.Any parts) t) ≡ list_any (kept t) own
       unfolding kept
       any-test =
-          ap (reaches w faults) (formula-Any s parts t) ∙ reach-Any (map (λ part. formula_at s part t) parts)
-          ∙ list_any-map (reaches w faults) (λ part. formula_at s part t) parts
+          ap (reaches w faults) (formula-Any s first parts t) ∙ reach-Any (formulas_at s first parts t)
+          ∙ list_any-map (reaches w faults) (λ x. formula_at s x.first x.promise t) own
 
-      pub any-kept : IsKept w faults s t (promises.Any parts) ↔ Any (IsKept w faults s t) parts
+      pub any-kept : IsKept w faults s t (from first (promises.Any parts)) ↔ Any (IsKept w faults s t) own
       unfolding kept
       any-kept = (
-        (λ h. Any-from_list_any (kept t) parts (sym any-test ∙ h)),
-        (λ h. any-test ∙ list_any-from_Any (kept t) parts h),
+        (λ h. Any-from_list_any (kept t) own (sym any-test ∙ h)),
+        (λ h. any-test ∙ list_any-from_Any (kept t) own h),
       )
 
-      always-test : reaches w faults (formula_at s (promises.Always parts) t) ≡ list_all (λ u. list_all (kept u) parts) (range_with_len 1 s.horizon)
+      always-test : reaches w faults (formula_at s first (promises.Always parts) t) ≡ list_all (λ u. list_all (kept u) own) (range_with_len 1 s.horizon)
       unfolding kept
       always-test =
-          ap (reaches w faults) (formula-Always s parts t)
-          ∙ reach-All (flat_map (λ u. map (λ part. formula_at s part u) parts) (range_with_len 1 s.horizon))
-          ∙ all-flat (reaches w faults) (λ u. map (λ part. formula_at s part u) parts) (range_with_len 1 s.horizon)
+          ap (reaches w faults) (formula-Always s first parts t)
+          ∙ reach-All (flat_map (formulas_at s first parts) (range_with_len 1 s.horizon))
+          ∙ all-flat (reaches w faults) (formulas_at s first parts) (range_with_len 1 s.horizon)
           ∙ ap (λ (f : ℕ → Bool). list_all f (range_with_len 1 s.horizon))
-          (λ i u. list_all-map (reaches w faults) (λ part. formula_at s part u) parts i)
+          (λ i u. list_all-map (reaches w faults) (λ x. formula_at s x.first x.promise u) own i)
 
-      pub always-kept : IsKept w faults s t (promises.Always parts) ↔ ((u : ℕ) → 1 ≤ u → u ≤ s.horizon → All (IsKept w faults s u) parts)
+      pub always-kept : IsKept w faults s t (from first (promises.Always parts)) ↔ ((u : ℕ) → 1 ≤ u → u ≤ s.horizon → All (IsKept w faults s u) own)
       unfolding kept
       always-kept = (
-        (λ h u low high. AllPass-from_list_all (kept u) parts
-            (all-at (λ v. list_all (kept v) parts) (range_with_len 1 s.horizon) u (sym always-test ∙ h) (range-from s.horizon 1 u low (omega arith)))),
-        (λ h. always-test ∙ all-from (λ v. list_all (kept v) parts) (range_with_len 1 s.horizon)
-            (λ u m. let found = range-at s.horizon 1 u m in list_all-from_AllPass (kept u) parts (h u found.0 (omega (arith, found.1))))),
+        (λ h u low high. AllPass-from_list_all (kept u) own
+            (all-at (λ v. list_all (kept v) own) (range_with_len 1 s.horizon) u (sym always-test ∙ h) (range-from s.horizon 1 u low (omega arith)))),
+        (λ h. always-test ∙ all-from (λ v. list_all (kept v) own) (range_with_len 1 s.horizon)
+            (λ u m. let found = range-at s.horizon 1 u m in list_all-from_AllPass (kept u) own (h u found.0 (omega (arith, found.1))))),
       )
 
-      ever-test : reaches w faults (formula_at s (promises.Ever parts) t) ≡ list_any (λ u. list_any (kept u) parts) (range_with_len 1 s.horizon)
+      ever-test : reaches w faults (formula_at s first (promises.Ever parts) t) ≡ list_any (λ u. list_any (kept u) own) (range_with_len 1 s.horizon)
       unfolding kept
       ever-test =
-          ap (reaches w faults) (formula-Ever s parts t)
-          ∙ reach-Any (flat_map (λ u. map (λ part. formula_at s part u) parts) (range_with_len 1 s.horizon))
-          ∙ any-flat (reaches w faults) (λ u. map (λ part. formula_at s part u) parts) (range_with_len 1 s.horizon)
+          ap (reaches w faults) (formula-Ever s first parts t)
+          ∙ reach-Any (flat_map (formulas_at s first parts) (range_with_len 1 s.horizon))
+          ∙ any-flat (reaches w faults) (formulas_at s first parts) (range_with_len 1 s.horizon)
           ∙ ap (λ (f : ℕ → Bool). list_any f (range_with_len 1 s.horizon))
-          (λ i u. list_any-map (reaches w faults) (λ part. formula_at s part u) parts i)
+          (λ i u. list_any-map (reaches w faults) (λ x. formula_at s x.first x.promise u) own i)
 
-      pub ever-kept : IsKept w faults s t (promises.Ever parts) ↔ ((u : ℕ) × (1 ≤ u) × (u ≤ s.horizon) × Any (IsKept w faults s u) parts)
+      pub ever-kept : IsKept w faults s t (from first (promises.Ever parts)) ↔ ((u : ℕ) × (1 ≤ u) × (u ≤ s.horizon) × Any (IsKept w faults s u) own)
       unfolding kept
       ever-kept = (
         (λ h.
-            let found = any-at (λ v. list_any (kept v) parts) (range_with_len 1 s.horizon) (sym ever-test ∙ h) in
+            let found = any-at (λ v. list_any (kept v) own) (range_with_len 1 s.horizon) (sym ever-test ∙ h) in
             let step = range-at s.horizon 1 found.0 found.1 in
-            (found.0, step.0, omega (arith, step.1), Any-from_list_any (kept found.0) parts found.2)),
-        (λ h. ever-test ∙ any-from (λ v. list_any (kept v) parts) (range_with_len 1 s.horizon) h.0
-            (range-from s.horizon 1 h.0 h.1 (omega (arith, h.2))) (list_any-from_Any (kept h.0) parts h.3)),
+            (found.0, step.0, omega (arith, step.1), Any-from_list_any (kept found.0) own found.2)),
+        (λ h. ever-test ∙ any-from (λ v. list_any (kept v) own) (range_with_len 1 s.horizon) h.0
+            (range-from s.horizon 1 h.0 h.1 (omega (arith, h.2))) (list_any-from_Any (kept h.0) own h.3)),
       )
 
   module _ (s : Scene) (of : Option Term) where
@@ -256,39 +266,50 @@ module _ {State Note : Type 0} (w : World State Note Fact) (faults : List Parts)
             ∙ any-from (λ n. reaches w faults (kind.Shows n t (ruled fact))) (members s of) h.0 (meant-from h.0 h.1) (shows-at h.0 h.2)),
       )
 
-      pub each-keeps : IsKept w faults s t (promises.Nodes manys.Each fact of)
+      pub each-keeps : (first : ℕ) → IsKept w faults s t (from first (promises.Nodes manys.Each fact of))
           ↔ ((n : ℕ) → IsMeant s of n → is_up w faults n t ≡ true → w.rules.shows n (view w faults n t) (ruled fact) ≡ true)
-      each-keeps =
-          same_test (reaches w faults (formula_at s (promises.Nodes manys.Each fact of) t)) (reaches w faults (each t (ruled fact) (members s of)))
-          (ap (reaches w faults) (formula-Nodes s manys.Each fact of t)) (each-law t (ruled fact))
+      each-keeps first =
+          same_test (reaches w faults (formula_at s first (promises.Nodes manys.Each fact of) t)) (reaches w faults (each t (ruled fact) (members s of)))
+          (ap (reaches w faults) (formula-Nodes s first manys.Each fact of t)) (each-law t (ruled fact))
 
-      pub no-keeps : IsKept w faults s t (promises.Nodes manys.No fact of)
+      pub no-keeps : (first : ℕ) → IsKept w faults s t (from first (promises.Nodes manys.No fact of))
           ↔ ((n : ℕ) → IsMeant s of n → is_up w faults n t ≡ true → w.rules.shows n (view w faults n t) (ruled (opposite fact)) ≡ true)
-      no-keeps =
-          same_test (reaches w faults (formula_at s (promises.Nodes manys.No fact of) t)) (reaches w faults (each t (ruled (opposite fact)) (members s of)))
-          (ap (reaches w faults) (formula-Nodes s manys.No fact of t)) (each-law t (ruled (opposite fact)))
+      no-keeps first =
+          same_test (reaches w faults (formula_at s first (promises.Nodes manys.No fact of) t)) (reaches w faults (each t (ruled (opposite fact)) (members s of)))
+          (ap (reaches w faults) (formula-Nodes s first manys.No fact of t)) (each-law t (ruled (opposite fact)))
 
-      pub some-keeps : IsKept w faults s t (promises.Nodes manys.Some fact of) ↔ ((n : ℕ) × IsMeant s of n × UpShows w faults n t fact)
-      some-keeps =
-          same_test (reaches w faults (formula_at s (promises.Nodes manys.Some fact of) t)) (reaches w faults (any_of t (ruled fact) (members s of)))
-          (ap (reaches w faults) (formula-Nodes s manys.Some fact of t)) some-law
+      pub some-keeps : (first : ℕ) → IsKept w faults s t (from first (promises.Nodes manys.Some fact of)) ↔ ((n : ℕ) × IsMeant s of n × UpShows w faults n t fact)
+      some-keeps first =
+          same_test (reaches w faults (formula_at s first (promises.Nodes manys.Some fact of) t)) (reaches w faults (any_of t (ruled fact) (members s of)))
+          (ap (reaches w faults) (formula-Nodes s first manys.Some fact of t)) some-law
 
-    pub most-keeps : (t : ℕ) (fact : Told) → IsKept w faults s t (promises.Nodes manys.AtMostOne fact of)
+    pub most-keeps : (t : ℕ) (fact : Told) (first : ℕ) → IsKept w faults s t (from first (promises.Nodes manys.AtMostOne fact of))
         ↔ ((n m : ℕ) → IsMeant s of n → IsMeant s of m → UpLacks w faults n t (opposite fact) → UpLacks w faults m t (opposite fact) → n ≡ m)
-    most-keeps t fact =
-        same_test (reaches w faults (formula_at s (promises.Nodes manys.AtMostOne fact of) t))
+    most-keeps t fact first =
+        same_test (reaches w faults (formula_at s first (promises.Nodes manys.AtMostOne fact of) t))
         (reaches w faults (where_any (members s of) (all_but_one t (ruled (opposite fact)) (members s of))))
-        (ap (reaches w faults) (formula-Nodes s manys.AtMostOne fact of t)) (most-law t (opposite fact))
+        (ap (reaches w faults) (formula-Nodes s first manys.AtMostOne fact of t)) (most-law t (opposite fact))
 
-  pub down-keeps : (s : Scene) (n t : ℕ) → IsKept w faults s t (promises.Down n) ↔ (is_up w faults n t ≡ false)
-  down-keeps s n t =
-      let test = ap (reaches w faults) (formula-Down s n t) ∙ reach-Down n t in
+  pub down-keeps : (s : Scene) (n first t : ℕ) → IsKept w faults s t (from first (promises.Down n)) ↔ (is_up w faults n t ≡ false)
+  down-keeps s n first t =
+      let test = ap (reaches w faults) (formula-Down s first n t) ∙ reach-Down n t in
       ((λ h. not-then (is_up w faults n t) (sym test ∙ h)), (λ h. test ∙ ap not h))
 
-  pub at-keeps : (s : Scene) (of : Option Term) (n : ℕ) (fact : Told) (t : ℕ) → IsKept w faults s t (promises.At n fact) ↔ UpShows w faults n t fact
-  at-keeps s of n fact t =
-      let test = ap (reaches w faults) (formula-At s n fact t) in
+  pub at-keeps : (s : Scene) (of : Option Term) (n : ℕ) (fact : Told) (first t : ℕ) → IsKept w faults s t (from first (promises.At n fact)) ↔ UpShows w faults n t fact
+  at-keeps s of n fact first t =
+      let test = ap (reaches w faults) (formula-At s first n fact t) in
       ((λ h. shows-when s of t fact n (sym test ∙ h)), (λ h. test ∙ shows-at s of t fact n h))
+
+  reach-One : (nodes last topic : ℕ) → reaches w faults (kind.One nodes last topic) ≡ is_single w faults nodes last topic
+  reach-One nodes last topic =
+      ap (truth down shown single) (sym (rolls-One nodes last topic))
+      ∙ fold-roll-Formula Fact Bool (truth_step down shown single) (Formula-F.One nodes last topic)
+
+  pub one-keeps : (s : Scene) (topic : Topic) (first t : ℕ)
+      → IsKept w faults s t (from first (promises.One topic)) ↔ NoTwoDiffer w faults s.nodes s.horizon first
+  one-keeps s topic first t =
+      same_test (reaches w faults (formula_at s first (promises.One topic) t)) (is_single w faults s.nodes s.horizon first)
+      (ap (reaches w faults) (formula-One s first topic t) ∙ reach-One s.nodes s.horizon first) (single-pairs w faults s.nodes s.horizon first)
 
 opposite-test : (d b : Bool) → (if not d then not b else b) ≡ not (if d then not b else b)
 opposite-test true true = refl

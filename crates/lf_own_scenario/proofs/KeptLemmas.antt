@@ -1,22 +1,29 @@
 -- The formula of a promise is true where the promise is kept.
 use Rattle.std.proofs.Common.{◌≡◌, ◌⊎◌, inl, inr, ℕ, Bool, true, false, not, ◌==◌, ◌&&◌, ◌||◌, List, [], ◌∷◌, ◌++◌}
-use Rattle.std.proofs.Common.{Option, refl, sym, ap, ◌∙◌, map, filter, arith}
+use Rattle.std.proofs.Common.{◌+◌, Option, Some, None, length, length-append, append_assoc, refl, sym, ap, subst, ◌∙◌, map, filter}
+use Rattle.std.specs.Prelude.{if◌then◌else◌, slice_get}
+use Rattle.std.specs.Option.{option_to_list}
 use Rattle.std.specs.List.{range_with_len, list_all, list_any, flat_map, AllByRecursion}
-use Rattle.std.proofs.lemmas.Bool.{and_parts, and_from, eqb-true, eq-eqb}
+use Rattle.std.proofs.lemmas.Bool.{and_parts, eqb-true, eq-eqb}
 use Rattle.std.proofs.lemmas.List.Folds.{list_all-map}
 use Rattle.lf_faults.specs.declared.fault.Parts.{Parts}
-use Rattle.lf_rules.specs.Terms.{Term}
+use Rattle.lf_rules.specs.declared.definition.Definition.{Definition}
+use Rattle.lf_rules.specs.declared.topic.Topic.{Topic}
+use Rattle.lf_rule_machine.specs.Sets.{is_true}
 use Rattle.lf_rule_machine.specs.declared.fact.Fact.{Fact as Told}
 use Rattle.lf_protocols.specs.declared.fact.Fact.{Fact}
 use Rattle.lf_protocols.specs.declared.note.Note.{Note}
 use Rattle.lf_protocols.specs.declared.state.State.{State}
 use Rattle.lf_sim.specs.Runs.{World, is_up, view}
+use Rattle.lf_sim.specs.declared.entry.Entry.{Entry}
 use Rattle.lf_outcome.specs.declared.formula.Formula.{Formula, fold-roll-Formula}
-use Rattle.lf_outcome.specs.declared.formula.Formula.TheVariants.{rolls-All, rolls-Any, rolls-Down, rolls-Shows}
+use Rattle.lf_outcome.specs.declared.formula.Formula.TheVariants.{rolls-All, rolls-Any, rolls-Down, rolls-Shows, rolls-One}
 use Rattle.lf_outcome.specs.declared.formula.Formula.TheVariants as kind
 use Rattle.lf_outcome.specs.declared.formula.Formula.TheOpen.{Formula-F}
 use Rattle.lf_outcome.specs.Named.{shows_or_down}
-use Rattle.lf_outcome.specs.Truth.{truth, truth_step, is_down, is_shown, reaches}
+use Rattle.lf_outcome.specs.declared.point.Point.{Point}
+use Rattle.lf_outcome.specs.Truth.{agree, all_agree, entered, entries_at, points_at, points_to}
+use Rattle.lf_outcome.specs.Truth.{truth, truth_step, is_down, is_shown, is_single, reaches}
 use Rattle.lf_promises.specs.Fronts.{opposite}
 use Rattle.lf_promises.specs.Inductions.{Steps}
 use Rattle.lf_promises.specs.declared.promise.Many.{Many}
@@ -29,10 +36,12 @@ use Rattle.lf_own_scenario.specs.Elements.{Member}
 use Rattle.lf_own_scenario.specs.declared.scene.Scene.{Scene}
 use Rattle.lf_own_scenario.specs.Members.{members, others}
 use Rattle.lf_own_scenario.specs.Quantities.{ruled, shows, each, any_of, all_but_one, where_any, so_many}
-use Rattle.lf_own_scenario.specs.Unfolding.{formula_at}
+use Rattle.lf_own_scenario.specs.Topics.{topics_in, count_topics}
+use Rattle.lf_own_scenario.specs.Unfolding.{formula_at, formulas_at}
 use Rattle.lf_own_scenario.proofs.Laws.{formula-All, formula-Any, formula-Always, formula-Ever, formula-Nodes, formula-Down}
-use Rattle.lf_own_scenario.proofs.Laws.{formula-At, all-from, kept-at, all-flat}
-use Rattle.lf_own_scenario.specs.Kept.{has_fact, has_where_up, are_one, so_many_have, kept_step, is_kept}
+use Rattle.lf_own_scenario.proofs.Laws.{formula-At, formula-One, all-from, kept-at, all-flat}
+use Rattle.lf_own_scenario.proofs.Laws.{topics-All, topics-Any, topics-Always, topics-Ever, topics-One}
+use Rattle.lf_own_scenario.specs.Kept.{has_fact, has_where_up, are_one, so_many_have, value_on, is_asked, key_at, value_at, is_one_value, kept_step, is_kept}
 
 -- ---- tests of all elements, and of some
 
@@ -208,6 +217,107 @@ other-way true true = refl
 other-way true false = refl
 other-way false s = refl
 
+-- ---- one value for each key
+
+all-true : {X : Type 0} (xs : List X) → true ≡ list_all (λ x. true) xs
+all-true [] = refl
+all-true (x ∷ xs) = all-true xs
+
+pull : {X : Type 0} (a : Bool) (q : X → Bool) (xs : List X) → (a || list_all q xs) ≡ list_all (λ x. a || q x) xs
+pull true q xs = all-true xs
+pull false q xs = refl
+
+one-entry : (q : Entry → Bool) (a : Bool) (e : Entry) → list_all q (option_to_list (if a then Some e else None)) ≡ (not a || q e)
+one-entry q true e = last (q e)
+  where
+    last : (b : Bool) → (b && true) ≡ b
+    last true = refl
+    last false = refl
+one-entry q false e = refl
+
+together : (a b k v : Bool) → (not a || (not b || (not k || v))) ≡ (not (a && (b && k)) || v)
+together true true k v = refl
+together true false k v = refl
+together false b k v = refl
+
+within-both : {X : Type 0} (a b : Bool) (o : Option X) → (if a then (if b then o else None) else None) ≡ (if a && b then o else None)
+within-both true b o = refl
+within-both false b o = refl
+
+-- by which nodes enter something after which steps, and what
+module _ (asked : ℕ → ℕ → Bool) (e : ℕ → ℕ → Entry) (nodes last : ℕ) where
+  abbrev enter : ℕ → ℕ → Option Entry
+  enter n t = if asked n t then Some (e n t) else None
+
+  abbrev ns : List ℕ
+  ns = range_with_len 0 nodes
+
+  abbrev ts : List ℕ
+  ts = range_with_len 1 last
+
+  abbrev all_points : (ℕ → ℕ → Bool) → Bool
+  all_points q = list_all (λ t. list_all (q t) ns) ts
+
+  over-entries : (q : Entry → Bool) → list_all q (entries_at enter (points_to nodes last)) ≡ all_points (λ t n. not (asked n t) || q (e n t))
+  over-entries q =
+      let of_point : Point → List Entry = λ p. option_to_list (enter p.node p.step) in
+      let passes : Point → Bool = λ p. list_all q (of_point p) in
+      all-flat q of_point (points_to nodes last) ∙ all-flat passes (points_at nodes) ts
+      ∙ all-same ts (λ t. list_all-map passes (λ n. record { node = n; step = t }) ns ∙ all-same ns (λ n. one-entry q (asked n t) (e n t)))
+
+  -- two points that have one key have one value
+  abbrev one_value : ℕ → ℕ → ℕ → ℕ → Bool
+  one_value t n u m = not (asked n t && (asked m u && ((e n t).key == (e m u).key))) || ((e n t).value == (e m u).value)
+
+  by-points : (t n : ℕ) → (not (asked n t) || list_all (agree (e n t)) (entries_at enter (points_to nodes last))) ≡ all_points (one_value t n)
+  by-points t n =
+      ap (λ b. not (asked n t) || b) (over-entries (agree (e n t)))
+      ∙ pull (not (asked n t)) (λ u. list_all (λ m. not (asked m u) || agree (e n t) (e m u)) ns) ts
+      ∙ all-same ts (λ u. pull (not (asked n t)) (λ m. not (asked m u) || agree (e n t) (e m u)) ns
+      ∙ all-same ns (λ m. together (asked n t) (asked m u) ((e n t).key == (e m u).key) ((e n t).value == (e m u).value)))
+
+  agree-is : all_agree (entries_at enter (points_to nodes last)) ≡ all_points (λ t n. all_points (one_value t n))
+  agree-is =
+      over-entries (λ x. list_all (agree x) (entries_at enter (points_to nodes last)))
+      ∙ all-same ts (λ t. all-same ns (λ n. by-points t n))
+
+-- ---- topics in their places
+
+-- these topics stand among all of them from a number on
+pub record Stands (topics : List Topic) (first : ℕ) (own : List Topic) : Type 0 where
+  pub before : List Topic
+  pub after : List Topic
+  pub is : topics ≡ before ++ (own ++ after)
+  pub place : length before ≡ first
+
+found-there : (before after : List Topic) (topic : Topic) → slice_get (before ++ topic ∷ after) (length before) ≡ Some topic
+found-there [] after topic = refl
+found-there (x ∷ xs) after topic = found-there xs after topic
+
+module _ (topics : List Topic) (first : ℕ) where
+  stands-first : (a b : List Topic) → Stands topics first (a ++ b) → Stands topics first a
+  stands-first a b x =
+      record { before = x.before; after = b ++ x.after; is = x.is ∙ ap (λ ts. x.before ++ ts) (append_assoc a b x.after); place = x.place }
+
+  stands-rest : (a b : List Topic) → Stands topics first (a ++ b) → Stands topics (first + length a) b
+  stands-rest a b x =
+      record {
+        before = x.before ++ a;
+        after = x.after;
+        is =
+            x.is ∙ ap (λ ts. x.before ++ ts) (append_assoc a b x.after) ∙ sym (append_assoc x.before a (b ++ x.after));
+        place = length-append x.before a ∙ ap (λ k. k + length a) x.place;
+      }
+
+  stands-at : (topic : Topic) → Stands topics first (topic ∷ []) → slice_get topics first ≡ Some topic
+  stands-at topic x =
+      ap (λ ts. slice_get ts first) x.is ∙ ap (slice_get (x.before ++ topic ∷ x.after)) (sym x.place) ∙ found-there x.before x.after topic
+
+-- what a state of rules enters under a topic, by the values of its expressions
+abbrev pub entry_on : Definition → Scene → ℕ → State → Topic → Option Entry
+entry_on d s n v topic =
+    if is_true (value_on d s n v topic.guard) then Some (record { key = value_on d s n v topic.key; value = value_on d s n v topic.value }) else None
+
 module _ (w : World State Note Fact) (faults : List Parts) where
   abbrev down : ℕ → ℕ → Bool
   down = is_down w faults
@@ -215,21 +325,29 @@ module _ (w : World State Note Fact) (faults : List Parts) where
   abbrev shown : ℕ → ℕ → Fact → Bool
   shown = is_shown w faults
 
+  abbrev single : ℕ → ℕ → ℕ → Bool
+  single = is_single w faults
+
   reach-All : (fs : List (Formula Fact)) → reaches w faults (kind.All fs) ≡ list_all (reaches w faults) fs
   reach-All fs =
-      ap (truth down shown) (sym (rolls-All fs)) ∙ fold-roll-Formula Fact Bool (truth_step down shown) (Formula-F.All fs)
-      ∙ list_all-map (λ b. b) (truth down shown) fs
+      ap (truth down shown single) (sym (rolls-All fs)) ∙ fold-roll-Formula Fact Bool (truth_step down shown single) (Formula-F.All fs)
+      ∙ list_all-map (λ b. b) (truth down shown single) fs
 
   reach-Any : (fs : List (Formula Fact)) → reaches w faults (kind.Any fs) ≡ list_any (reaches w faults) fs
   reach-Any fs =
-      ap (truth down shown) (sym (rolls-Any fs)) ∙ fold-roll-Formula Fact Bool (truth_step down shown) (Formula-F.Any fs)
-      ∙ list_any-map (λ b. b) (truth down shown) fs
+      ap (truth down shown single) (sym (rolls-Any fs)) ∙ fold-roll-Formula Fact Bool (truth_step down shown single) (Formula-F.Any fs)
+      ∙ list_any-map (λ b. b) (truth down shown single) fs
 
   reach-Down : (n t : ℕ) → reaches w faults (kind.Down n t) ≡ not (is_up w faults n t)
-  reach-Down n t = ap (truth down shown) (sym (rolls-Down n t)) ∙ fold-roll-Formula Fact Bool (truth_step down shown) (Formula-F.Down n t)
+  reach-Down n t = ap (truth down shown single) (sym (rolls-Down n t)) ∙ fold-roll-Formula Fact Bool (truth_step down shown single) (Formula-F.Down n t)
 
   reach-Shows : (n t : ℕ) (f : Fact) → reaches w faults (kind.Shows n t f) ≡ (is_up w faults n t && w.rules.shows n (view w faults n t) f)
-  reach-Shows n t f = ap (truth down shown) (sym (rolls-Shows n t f)) ∙ fold-roll-Formula Fact Bool (truth_step down shown) (Formula-F.Shows n t f)
+  reach-Shows n t f = ap (truth down shown single) (sym (rolls-Shows n t f)) ∙ fold-roll-Formula Fact Bool (truth_step down shown single) (Formula-F.Shows n t f)
+
+  reach-One : (nodes last topic : ℕ) → reaches w faults (kind.One nodes last topic) ≡ is_single w faults nodes last topic
+  reach-One nodes last topic =
+      ap (truth down shown single) (sym (rolls-One nodes last topic))
+      ∙ fold-roll-Formula Fact Bool (truth_step down shown single) (Formula-F.One nodes last topic)
 
   reach-node : (n t : ℕ) (f : Fact)
       → reaches w faults (shows_or_down t f n)
@@ -284,86 +402,117 @@ module _ (w : World State Note Fact) (faults : List Parts) where
 
     -- ---- promises
 
-    module _ (s : Scene) where
+    module _ (d : Definition) (s : Scene) (topics : List Topic)
+        (enters : (first : ℕ) (topic : Topic) → slice_get topics first ≡ Some topic → (n t : ℕ)
+        → w.rules.entry n (view w faults n t) first ≡ entry_on d s n (view w faults n t) topic) where
       -- one level of what is kept
-      kept-All : (parts : List Promise) (t : ℕ) → is_kept w faults s (promises.All parts) t ≡ list_all (λ part. is_kept w faults s part t) parts
+      kept-All : (parts : List Promise) (t : ℕ) → is_kept w faults d s (promises.All parts) t ≡ list_all (λ part. is_kept w faults d s part t) parts
       kept-All parts t =
-          ap (λ p. is_kept w faults s p t) (sym (promises.rolls-All parts))
-          ∙ ap (λ (f : ℕ → Bool). f t) (fold-roll-Promise (ℕ → Bool) (kept_step w faults s) (Promise-F.All parts))
-          ∙ list_all-map (λ (f : ℕ → Bool). f t) (is_kept w faults s) parts
+          ap (λ p. is_kept w faults d s p t) (sym (promises.rolls-All parts))
+          ∙ ap (λ (f : ℕ → Bool). f t) (fold-roll-Promise (ℕ → Bool) (kept_step w faults d s) (Promise-F.All parts))
+          ∙ list_all-map (λ (f : ℕ → Bool). f t) (is_kept w faults d s) parts
 
-      kept-Any : (parts : List Promise) (t : ℕ) → is_kept w faults s (promises.Any parts) t ≡ list_any (λ part. is_kept w faults s part t) parts
+      kept-Any : (parts : List Promise) (t : ℕ) → is_kept w faults d s (promises.Any parts) t ≡ list_any (λ part. is_kept w faults d s part t) parts
       kept-Any parts t =
-          ap (λ p. is_kept w faults s p t) (sym (promises.rolls-Any parts))
-          ∙ ap (λ (f : ℕ → Bool). f t) (fold-roll-Promise (ℕ → Bool) (kept_step w faults s) (Promise-F.Any parts))
-          ∙ list_any-map (λ (f : ℕ → Bool). f t) (is_kept w faults s) parts
+          ap (λ p. is_kept w faults d s p t) (sym (promises.rolls-Any parts))
+          ∙ ap (λ (f : ℕ → Bool). f t) (fold-roll-Promise (ℕ → Bool) (kept_step w faults d s) (Promise-F.Any parts))
+          ∙ list_any-map (λ (f : ℕ → Bool). f t) (is_kept w faults d s) parts
 
       kept-Always : (parts : List Promise) (t : ℕ)
-          → is_kept w faults s (promises.Always parts) t ≡ list_all (λ u. list_all (λ part. is_kept w faults s part u) parts) (range_with_len 1 s.horizon)
+          → is_kept w faults d s (promises.Always parts) t ≡ list_all (λ u. list_all (λ part. is_kept w faults d s part u) parts) (range_with_len 1 s.horizon)
       kept-Always parts t =
-          ap (λ p. is_kept w faults s p t) (sym (promises.rolls-Always parts))
-          ∙ ap (λ (f : ℕ → Bool). f t) (fold-roll-Promise (ℕ → Bool) (kept_step w faults s) (Promise-F.Always parts))
-          ∙ all-same (range_with_len 1 s.horizon) (λ u. list_all-map (λ (f : ℕ → Bool). f u) (is_kept w faults s) parts)
+          ap (λ p. is_kept w faults d s p t) (sym (promises.rolls-Always parts))
+          ∙ ap (λ (f : ℕ → Bool). f t) (fold-roll-Promise (ℕ → Bool) (kept_step w faults d s) (Promise-F.Always parts))
+          ∙ all-same (range_with_len 1 s.horizon) (λ u. list_all-map (λ (f : ℕ → Bool). f u) (is_kept w faults d s) parts)
 
       kept-Ever : (parts : List Promise) (t : ℕ)
-          → is_kept w faults s (promises.Ever parts) t ≡ list_any (λ u. list_any (λ part. is_kept w faults s part u) parts) (range_with_len 1 s.horizon)
+          → is_kept w faults d s (promises.Ever parts) t ≡ list_any (λ u. list_any (λ part. is_kept w faults d s part u) parts) (range_with_len 1 s.horizon)
       kept-Ever parts t =
-          ap (λ p. is_kept w faults s p t) (sym (promises.rolls-Ever parts))
-          ∙ ap (λ (f : ℕ → Bool). f t) (fold-roll-Promise (ℕ → Bool) (kept_step w faults s) (Promise-F.Ever parts))
-          ∙ any-same (range_with_len 1 s.horizon) (λ u. list_any-map (λ (f : ℕ → Bool). f u) (is_kept w faults s) parts)
+          ap (λ p. is_kept w faults d s p t) (sym (promises.rolls-Ever parts))
+          ∙ ap (λ (f : ℕ → Bool). f t) (fold-roll-Promise (ℕ → Bool) (kept_step w faults d s) (Promise-F.Ever parts))
+          ∙ any-same (range_with_len 1 s.horizon) (λ u. list_any-map (λ (f : ℕ → Bool). f u) (is_kept w faults d s) parts)
 
-      -- that the formula of a promise is true is that it is kept
+      kept-One : (topic : Topic) (t : ℕ) → is_kept w faults d s (promises.One topic) t ≡ is_one_value w faults d s topic
+      kept-One topic t =
+          ap (λ p. is_kept w faults d s p t) (sym (promises.rolls-One topic))
+          ∙ ap (λ (f : ℕ → Bool). f t) (fold-roll-Promise (ℕ → Bool) (kept_step w faults d s) (Promise-F.One topic))
+
+      -- what nodes enter under a topic has one value for each key where its expressions have
+      module _ (topic : Topic) (first : ℕ) (at : slice_get topics first ≡ Some topic) where
+        own_entry : ℕ → ℕ → Entry
+        own_entry n t = record { key = key_at w faults d s topic n t; value = value_at w faults d s topic n t }
+
+        entered-is : (n t : ℕ) → entered w faults first n t ≡ (if is_asked w faults d s topic n t then Some (own_entry n t) else None)
+        unfolding own_entry
+        entered-is n t =
+            ap (λ o. if is_up w faults n t then o else None) (enters first topic at n t)
+            ∙ within-both (is_up w faults n t) (is_true (value_on d s n (view w faults n t) topic.guard)) (Some (own_entry n t))
+
+        single-right : is_single w faults s.nodes s.horizon first ≡ is_one_value w faults d s topic
+        unfolding own_entry
+        single-right =
+            ap (λ (f : ℕ → ℕ → Option Entry). all_agree (entries_at f (points_to s.nodes s.horizon))) (λ i n t. entered-is n t i)
+            ∙ agree-is (is_asked w faults d s topic) own_entry s.nodes s.horizon
+
+      -- that the formula of a promise is true is that it is kept, where its topics have their numbers
       abbrev IsRight : Promise → Type 0
-      IsRight p = (t : ℕ) → reaches w faults (formula_at s p t) ≡ is_kept w faults s p t
+      IsRight p = (first t : ℕ) → Stands topics first (topics_in p) → reaches w faults (formula_at s first p t) ≡ is_kept w faults d s p t
 
-      all-right : (parts : List Promise) (t : ℕ) → AllByRecursion IsRight parts
-          → list_all (λ part. reaches w faults (formula_at s part t)) parts ≡ list_all (λ part. is_kept w faults s part t) parts
-      all-right [] t h = refl
-      all-right (p ∷ ps) t h =
-          ap (λ b. b && list_all (λ part. reaches w faults (formula_at s part t)) ps) (h.0 t)
-          ∙ ap (λ b. is_kept w faults s p t && b) (all-right ps t h.1)
+      all-right : (parts : List Promise) (first t : ℕ) → Stands topics first (flat_map topics_in parts) → AllByRecursion IsRight parts
+          → list_all (reaches w faults) (formulas_at s first parts t) ≡ list_all (λ part. is_kept w faults d s part t) parts
+      all-right [] first t stand h = refl
+      all-right (p ∷ ps) first t stand h =
+          ap (λ b. b && list_all (reaches w faults) (formulas_at s (first + count_topics p) ps t))
+          (h.0 first t (stands-first topics first (topics_in p) (flat_map topics_in ps) stand))
+          ∙ ap (λ b. is_kept w faults d s p t && b)
+          (all-right ps (first + count_topics p) t (stands-rest topics first (topics_in p) (flat_map topics_in ps) stand) h.1)
 
-      any-right : (parts : List Promise) (t : ℕ) → AllByRecursion IsRight parts
-          → list_any (λ part. reaches w faults (formula_at s part t)) parts ≡ list_any (λ part. is_kept w faults s part t) parts
-      any-right [] t h = refl
-      any-right (p ∷ ps) t h =
-          ap (λ b. b || list_any (λ part. reaches w faults (formula_at s part t)) ps) (h.0 t)
-          ∙ ap (λ b. is_kept w faults s p t || b) (any-right ps t h.1)
+      any-right : (parts : List Promise) (first t : ℕ) → Stands topics first (flat_map topics_in parts) → AllByRecursion IsRight parts
+          → list_any (reaches w faults) (formulas_at s first parts t) ≡ list_any (λ part. is_kept w faults d s part t) parts
+      any-right [] first t stand h = refl
+      any-right (p ∷ ps) first t stand h =
+          ap (λ b. b || list_any (reaches w faults) (formulas_at s (first + count_topics p) ps t))
+          (h.0 first t (stands-first topics first (topics_in p) (flat_map topics_in ps) stand))
+          ∙ ap (λ b. is_kept w faults d s p t || b)
+          (any-right ps (first + count_topics p) t (stands-rest topics first (topics_in p) (flat_map topics_in ps) stand) h.1)
+
+      abbrev each_step : List ℕ
+      each_step = range_with_len 1 s.horizon
 
       steps : Steps IsRight
       steps = record {
-        all = λ parts h t.
-            ap (reaches w faults) (formula-All s parts t) ∙ reach-All (map (λ part. formula_at s part t) parts)
-            ∙ list_all-map (reaches w faults) (λ part. formula_at s part t) parts ∙ all-right parts t h ∙ sym (kept-All parts t);
-        any = λ parts h t.
-            ap (reaches w faults) (formula-Any s parts t) ∙ reach-Any (map (λ part. formula_at s part t) parts)
-            ∙ list_any-map (reaches w faults) (λ part. formula_at s part t) parts ∙ any-right parts t h ∙ sym (kept-Any parts t);
-        always = λ parts h t.
-            ap (reaches w faults) (formula-Always s parts t)
-            ∙ reach-All (flat_map (λ u. map (λ part. formula_at s part u) parts) (range_with_len 1 s.horizon))
-            ∙ all-flat (reaches w faults) (λ u. map (λ part. formula_at s part u) parts) (range_with_len 1 s.horizon)
-            ∙ all-same (range_with_len 1 s.horizon)
-            (λ u. list_all-map (reaches w faults) (λ part. formula_at s part u) parts ∙ all-right parts u h)
+        all = λ parts h first t stand.
+            ap (reaches w faults) (formula-All s first parts t) ∙ reach-All (formulas_at s first parts t)
+            ∙ all-right parts first t (subst (Stands topics first) (topics-All parts) stand) h ∙ sym (kept-All parts t);
+        any = λ parts h first t stand.
+            ap (reaches w faults) (formula-Any s first parts t) ∙ reach-Any (formulas_at s first parts t)
+            ∙ any-right parts first t (subst (Stands topics first) (topics-Any parts) stand) h ∙ sym (kept-Any parts t);
+        always = λ parts h first t stand.
+            ap (reaches w faults) (formula-Always s first parts t) ∙ reach-All (flat_map (formulas_at s first parts) each_step)
+            ∙ all-flat (reaches w faults) (formulas_at s first parts) each_step
+            ∙ all-same each_step (λ u. all-right parts first u (subst (Stands topics first) (topics-Always parts) stand) h)
             ∙ sym (kept-Always parts t);
-        ever = λ parts h t.
-            ap (reaches w faults) (formula-Ever s parts t)
-            ∙ reach-Any (flat_map (λ u. map (λ part. formula_at s part u) parts) (range_with_len 1 s.horizon))
-            ∙ any-flat (reaches w faults) (λ u. map (λ part. formula_at s part u) parts) (range_with_len 1 s.horizon)
-            ∙ any-same (range_with_len 1 s.horizon)
-            (λ u. list_any-map (reaches w faults) (λ part. formula_at s part u) parts ∙ any-right parts u h)
+        ever = λ parts h first t stand.
+            ap (reaches w faults) (formula-Ever s first parts t) ∙ reach-Any (flat_map (formulas_at s first parts) each_step)
+            ∙ any-flat (reaches w faults) (formulas_at s first parts) each_step
+            ∙ any-same each_step (λ u. any-right parts first u (subst (Stands topics first) (topics-Ever parts) stand) h)
             ∙ sym (kept-Ever parts t);
-        nodes = λ many fact of t.
-            ap (reaches w faults) (formula-Nodes s many fact of t) ∙ reach-many many t fact (members s of)
-            ∙ sym (ap (λ p. is_kept w faults s p t) (sym (promises.rolls-Nodes many fact of))
-            ∙ ap (λ (f : ℕ → Bool). f t) (fold-roll-Promise (ℕ → Bool) (kept_step w faults s) (Promise-F.Nodes many fact of)));
-        down = λ n t.
-            ap (reaches w faults) (formula-Down s n t) ∙ reach-Down n t
-            ∙ sym (ap (λ p. is_kept w faults s p t) (sym (promises.rolls-Down n))
-            ∙ ap (λ (f : ℕ → Bool). f t) (fold-roll-Promise (ℕ → Bool) (kept_step w faults s) (Promise-F.Down n)));
-        shows = λ n fact t.
-            ap (reaches w faults) (formula-At s n fact t) ∙ reach-Shows n t (ruled fact)
-            ∙ sym (ap (λ p. is_kept w faults s p t) (sym (promises.rolls-At n fact))
-            ∙ ap (λ (f : ℕ → Bool). f t) (fold-roll-Promise (ℕ → Bool) (kept_step w faults s) (Promise-F.At n fact)));
+        nodes = λ many fact of first t stand.
+            ap (reaches w faults) (formula-Nodes s first many fact of t) ∙ reach-many many t fact (members s of)
+            ∙ sym (ap (λ p. is_kept w faults d s p t) (sym (promises.rolls-Nodes many fact of))
+            ∙ ap (λ (f : ℕ → Bool). f t) (fold-roll-Promise (ℕ → Bool) (kept_step w faults d s) (Promise-F.Nodes many fact of)));
+        down = λ n first t stand.
+            ap (reaches w faults) (formula-Down s first n t) ∙ reach-Down n t
+            ∙ sym (ap (λ p. is_kept w faults d s p t) (sym (promises.rolls-Down n))
+            ∙ ap (λ (f : ℕ → Bool). f t) (fold-roll-Promise (ℕ → Bool) (kept_step w faults d s) (Promise-F.Down n)));
+        shows = λ n fact first t stand.
+            ap (reaches w faults) (formula-At s first n fact t) ∙ reach-Shows n t (ruled fact)
+            ∙ sym (ap (λ p. is_kept w faults d s p t) (sym (promises.rolls-At n fact))
+            ∙ ap (λ (f : ℕ → Bool). f t) (fold-roll-Promise (ℕ → Bool) (kept_step w faults d s) (Promise-F.At n fact)));
+        one = λ topic first t stand.
+            ap (reaches w faults) (formula-One s first topic t) ∙ reach-One s.nodes s.horizon first
+            ∙ single-right topic first (stands-at topics first topic (subst (Stands topics first) (topics-One topic) stand))
+            ∙ sym (kept-One topic t);
       }
 
       -- the formula of a promise is true where the promise is kept, and nowhere else

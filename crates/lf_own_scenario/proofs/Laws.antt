@@ -1,8 +1,9 @@
 -- What crates above may cite of this one beside its contracts: the formula of a promise by what the promise is, and elements of lists.
-use Rattle.std.proofs.Common.{◌≡◌, ℕ, ◌+◌, ◌<◌, ◌≤◌, Bool, true, List, map, filter, Option}
+use Rattle.std.proofs.Common.{◌≡◌, ℕ, ◌+◌, ◌<◌, ◌≤◌, Bool, true, List, [], ◌∷◌, filter, Option}
 use Rattle.std.specs.Prelude.{nat_lt}
 use Rattle.std.specs.List.{flat_map, list_all, list_any, range_with_len}
 use Rattle.lf_rules.specs.Terms.{Term}
+use Rattle.lf_rules.specs.declared.topic.Topic.{Topic}
 use Rattle.lf_rule_machine.specs.declared.fact.Fact.{Fact as Told}
 use Rattle.lf_outcome.specs.declared.formula.Formula.TheVariants as kind
 use Rattle.lf_promises.specs.declared.promise.Many.{Many}
@@ -12,43 +13,71 @@ use Rattle.lf_own_scenario.specs.declared.scene.Scene.{Scene}
 use Rattle.lf_own_scenario.specs.Elements.{Member}
 use Rattle.lf_own_scenario.specs.Members.{members}
 use Rattle.lf_own_scenario.specs.Quantities.{ruled, so_many}
-use Rattle.lf_own_scenario.specs.Unfolding.{formula_at, names_nodes}
+use Rattle.lf_own_scenario.specs.Topics.{topics_in}
+use Rattle.lf_own_scenario.specs.Unfolding.{formula_at, formulas_at, names_nodes}
 use Rattle.lf_own_scenario.proofs.MemberLemmas as elements
+use Rattle.lf_own_scenario.proofs.TopicLemmas as topics
 use Rattle.lf_own_scenario.proofs.UnfoldingLemmas as formulas
 
--- ---- the formula of a promise
+-- ---- the topics of a promise
+
+-- of all parts: those of the parts, from the left
+pub topics-All : (parts : List Promise) → topics_in (promises.All parts) ≡ flat_map topics_in parts
+topics-All = topics.topics-All
+
+-- of some part: those of the parts
+pub topics-Any : (parts : List Promise) → topics_in (promises.Any parts) ≡ flat_map topics_in parts
+topics-Any = topics.topics-Any
+
+-- of parts at every step: those of the parts, once
+pub topics-Always : (parts : List Promise) → topics_in (promises.Always parts) ≡ flat_map topics_in parts
+topics-Always = topics.topics-Always
+
+-- of a part at some step: those of the parts, once
+pub topics-Ever : (parts : List Promise) → topics_in (promises.Ever parts) ≡ flat_map topics_in parts
+topics-Ever = topics.topics-Ever
+
+-- of what is to have one value: that alone
+pub topics-One : (topic : Topic) → topics_in (promises.One topic) ≡ topic ∷ []
+topics-One = topics.topics-One
+
+-- ---- the formula of a promise, whose first topic has a number
 
 module _ (s : Scene) where
   -- of all parts: all of their formulas at the step
-  pub formula-All : (parts : List Promise) (t : ℕ) → formula_at s (promises.All parts) t ≡ kind.All (map (λ part. formula_at s part t) parts)
+  pub formula-All : (first : ℕ) (parts : List Promise) (t : ℕ) → formula_at s first (promises.All parts) t ≡ kind.All (formulas_at s first parts t)
   formula-All = formulas.formula-All s
 
   -- of some part: one of their formulas at the step
-  pub formula-Any : (parts : List Promise) (t : ℕ) → formula_at s (promises.Any parts) t ≡ kind.Any (map (λ part. formula_at s part t) parts)
+  pub formula-Any : (first : ℕ) (parts : List Promise) (t : ℕ) → formula_at s first (promises.Any parts) t ≡ kind.Any (formulas_at s first parts t)
   formula-Any = formulas.formula-Any s
 
   -- of parts at every step: all of their formulas at each of the steps
-  pub formula-Always : (parts : List Promise) (t : ℕ) → formula_at s (promises.Always parts) t
-      ≡ kind.All (flat_map (λ u. map (λ part. formula_at s part u) parts) (range_with_len 1 s.horizon))
+  pub formula-Always : (first : ℕ) (parts : List Promise) (t : ℕ) → formula_at s first (promises.Always parts) t
+      ≡ kind.All (flat_map (formulas_at s first parts) (range_with_len 1 s.horizon))
   formula-Always = formulas.formula-Always s
 
   -- of a part at some step: one of their formulas at one of the steps
-  pub formula-Ever : (parts : List Promise) (t : ℕ) → formula_at s (promises.Ever parts) t
-      ≡ kind.Any (flat_map (λ u. map (λ part. formula_at s part u) parts) (range_with_len 1 s.horizon))
+  pub formula-Ever : (first : ℕ) (parts : List Promise) (t : ℕ) → formula_at s first (promises.Ever parts) t
+      ≡ kind.Any (flat_map (formulas_at s first parts) (range_with_len 1 s.horizon))
   formula-Ever = formulas.formula-Ever s
 
   -- of so many nodes: the formula of so many of those that are meant
-  pub formula-Nodes : (many : Many) (fact : Told) (of : Option Term) (t : ℕ)
-      → formula_at s (promises.Nodes many fact of) t ≡ so_many many t fact (members s of)
+  pub formula-Nodes : (first : ℕ) (many : Many) (fact : Told) (of : Option Term) (t : ℕ)
+      → formula_at s first (promises.Nodes many fact of) t ≡ so_many many t fact (members s of)
   formula-Nodes = formulas.formula-Nodes s
 
   -- of a node that isn't up: that it isn't
-  pub formula-Down : (n t : ℕ) → formula_at s (promises.Down n) t ≡ kind.Down n t
+  pub formula-Down : (first n t : ℕ) → formula_at s first (promises.Down n) t ≡ kind.Down n t
   formula-Down = formulas.formula-Down s
 
   -- of a node that shows a fact: that it shows it
-  pub formula-At : (n : ℕ) (fact : Told) (t : ℕ) → formula_at s (promises.At n fact) t ≡ kind.Shows n t (ruled fact)
+  pub formula-At : (first n : ℕ) (fact : Told) (t : ℕ) → formula_at s first (promises.At n fact) t ≡ kind.Shows n t (ruled fact)
   formula-At = formulas.formula-At s
+
+  -- of what is to have one value: that all nodes enter one for each key up to the last step, under the number
+  pub formula-One : (first : ℕ) (topic : Topic) (t : ℕ) → formula_at s first (promises.One topic) t ≡ kind.One s.nodes s.horizon first
+  formula-One = formulas.formula-One s
 
 -- ---- that the nodes are there which a promise names by their numbers
 

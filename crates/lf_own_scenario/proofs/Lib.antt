@@ -3,6 +3,7 @@ mod KeepingLemmas
 mod ListLemmas
 mod MemberLemmas
 mod SizeLemmas
+mod TopicLemmas
 mod UnfoldingLemmas
 mod FactMembers
 mod RangeLemmas

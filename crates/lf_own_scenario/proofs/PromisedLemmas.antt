@@ -1,11 +1,11 @@
 -- The scenario of a table whose outcome is a text: where its promise is kept.
-use Rattle.std.proofs.Common.{◌≡◌, ℕ, Bool, true, false, cond, not, List, Option, None, Some, Result, Ok, Err, refl, sym, ap, ◌∙◌, subst}
-use Rattle.std.specs.Prelude.{if◌then◌else◌, nat_le, ◌&&◌}
-use Rattle.toml.specs.Data.{Data, string, Members, get_member}
-use Rattle.lf_faults.specs.declared.fault.Parts.{Parts}
+use Rattle.std.proofs.Common.{◌≡◌, ℕ, Bool, true, false, cond, List, [], append-nil, Some, Result, Ok, Err, refl, sym, ap, ◌∙◌, subst}
+use Rattle.std.specs.Prelude.{nat_le, ◌&&◌}
+use Rattle.toml.specs.Data.{string, Members, get_member}
 use Rattle.lf_faults.specs.declared.spec.Bounds.{Bounds}
 use Rattle.lf_latency.specs.Arrivals.{arrival_of}
 use Rattle.lf_rules.specs.declared.definition.Given.{Given}
+use Rattle.lf_rules.specs.declared.topic.Topic.{Topic}
 use Rattle.lf_rule_machine.specs.Constants.{given_table}
 use Rattle.lf_protocols.specs.declared.fact.Fact.{Fact}
 use Rattle.lf_rule_machine.specs.Instances.{Instance}
@@ -22,24 +22,27 @@ use Rattle.lf_sim.specs.Settings.{world_of}
 use Rattle.lf_promises.specs.declared.promise.Promise.{Promise}
 use Rattle.lf_own_scenario.specs.declared.error.UnfoldError.TheVariants as unfold_refusals
 use Rattle.lf_own_scenario.specs.declared.scene.Scene.{Scene}
-use Rattle.lf_own_scenario.specs.Unfolding.{formula_at, names_nodes, limited, unfolded}
+use Rattle.lf_own_scenario.specs.Topics.{topics_in, count_topics}
+use Rattle.lf_own_scenario.specs.Unfolding.{formula_at, names_nodes, limited, asked_of, unfolded}
 use Rattle.lf_protocol_file.specs.declared.declared.Declared.{Declared}
 use Rattle.lf_scenario.specs.declared.key.Key.TheVariants as keys
 use Rattle.lf_scenario.specs.declared.error.ScenarioError.TheVariants as refusals
 use Rattle.lf_outcome.specs.declared.scenario.Scenario.{Scenario}
 use Rattle.lf_scenario.specs.Keys.{key_name}
 use Rattle.lf_scenario.specs.LinkTables.{all_links}
-use Rattle.lf_scenario.specs.Scenarios.{Asked, IsScenario}
+use Rattle.lf_scenario.specs.Scenarios.{Asked}
 use Rattle.lf_scenario.specs.Values.{Reading, ◌>>=◌, found_or, required}
 use Rattle.lf_own_scenario.specs.Constants.{given_in}
 use Rattle.lf_own_scenario.specs.Keys.{bounded_in, settled_in}
 use Rattle.lf_own_scenario.specs.Kept.{is_kept, IsOfRules, IsPromised}
-use Rattle.lf_own_scenario.specs.Machines.{kind_of}
-use Rattle.lf_own_scenario.specs.Outcomes.{named, said, scene_of, unfolded_to, formula_of, text_formula, outcome_in}
+use Rattle.lf_own_scenario.specs.Machines.{kind_of, with_topics}
+use Rattle.lf_own_scenario.specs.declared.outcomes.Demand.{Demand}
+use Rattle.lf_own_scenario.specs.Outcomes.{named, said, scene_of, unfolded_to, asking, demand_of, text_demand, outcome_in}
 use Rattle.lf_own_scenario.specs.Scenarios.{Settled, chosen_in, asked_with, IsAskedWith}
+use Rattle.lf_own_scenario.specs.Scenarios.{asking as with_asked}
 use Rattle.lf_own_scenario.specs.Zeros.{promise_divides}
 use Rattle.lf_own_scenario.proofs.KeptLemmas.{formula-kept}
-use Rattle.lf_own_scenario.proofs.ViewLemmas.{opposed, told}
+use Rattle.lf_own_scenario.proofs.ViewLemmas.{enters, opposed, told}
 
 -- what stands before a step
 step-inv : {A B : Type 0} {y : B} (r : Reading A) (next : A → Reading B) → (r >>= next) ≡ Ok y → (x : A) × (r ≡ Ok x) × (next x ≡ Ok y)
@@ -54,29 +57,46 @@ world_by k last pause arrival = record { rules = rules_of k; horizon = last; pau
 
 limited-is : (f g : Formula Fact) → limited f ≡ Ok g → g ≡ f
 unfolding limited
-limited-is f g h = go (nat_le (depth_of f) 8 && nat_le (atoms_of f) 512) h
+limited-is f g h = go (nat_le (depth_of f) 8 && nat_le (atoms_of f) 4096) h
   where
     go : (so : Bool) → cond so (Ok f) (Err unfold_refusals.TooLarge) ≡ Ok g → g ≡ f
     go true e = let same : f ≡ g = cc in sym same
     go false e = absurd cc
 
-unfolded-is : (s : Scene) (p : Promise) (f : Formula Fact) → unfolded s p ≡ Ok f → f ≡ formula_at s p s.horizon
+asked-is : (topics : ℕ) (f g : Formula Fact) → asked_of topics f ≡ Ok g → g ≡ f
+unfolding asked_of
+asked-is topics f g h = go (nat_le topics 256) h
+  where
+    go : (so : Bool) → cond so (limited f) (Err unfold_refusals.TooLarge) ≡ Ok g → g ≡ f
+    go true e = limited-is f g e
+    go false e = absurd cc
+
+unfolded-is : (s : Scene) (p : Promise) (f : Formula Fact) → unfolded s p ≡ Ok f → f ≡ formula_at s 0 p s.horizon
 unfolding unfolded
 unfolded-is s p f h = go (names_nodes s.nodes p) h
   where
-    go : (so : Bool) → cond so (limited (formula_at s p s.horizon)) (Err unfold_refusals.NoNode) ≡ Ok f → f ≡ formula_at s p s.horizon
-    go true e = limited-is (formula_at s p s.horizon) f e
+    go : (so : Bool) → cond so (asked_of (count_topics p) (formula_at s 0 p s.horizon)) (Err unfold_refusals.NoNode) ≡ Ok f → f ≡ formula_at s 0 p s.horizon
+    go true e = asked-is (count_topics p) (formula_at s 0 p s.horizon) f e
     go false e = absurd cc
 
-formula-is : (b : Bounds) (given : List Given) (p : Promise) (f : Formula Fact) → formula_of b given p ≡ Ok f → f ≡ formula_at (scene_of b given) p b.horizon
-unfolding formula_of
-formula-is b given p f h = go (promise_divides given p) h
+-- what a promise demands is its formula and its topics
+record IsDemand (b : Bounds) (given : List Given) (p : Promise) (x : Demand) : Type 0 where
+  pub formula : x.formula ≡ formula_at (scene_of b given) 0 p b.horizon
+  pub topics : x.topics ≡ topics_in p
+
+demand-is : (b : Bounds) (given : List Given) (p : Promise) (x : Demand) → demand_of b given p ≡ Ok x → IsDemand b given p x
+unfolding demand_of
+demand-is b given p x h = go (promise_divides given p) h
   where
-    found : (r : Result (Formula Fact) _) → unfolded (scene_of b given) p ≡ r → unfolded_to r ≡ Ok f → f ≡ formula_at (scene_of b given) p b.horizon
-    found (Ok g) is e = let same : g ≡ f = cc in unfolded-is (scene_of b given) p f (is ∙ ap Ok same)
+    found : (r : Result (Formula Fact) _) → unfolded (scene_of b given) p ≡ r → unfolded_to r >>= (λ f. Ok (asking (topics_in p) f)) ≡ Ok x
+        → IsDemand b given p x
+    found (Ok g) is e =
+        let same : asking (topics_in p) g ≡ x = cc in
+        subst (IsDemand b given p) same (record { formula = unfolded-is (scene_of b given) p g is; topics = refl })
     found (Err e) is h = absurd cc
 
-    go : (so : Bool) → cond so (Err refusals.Outcome) (unfolded_to (unfolded (scene_of b given) p)) ≡ Ok f → f ≡ formula_at (scene_of b given) p b.horizon
+    go : (so : Bool) → cond so (Err refusals.Outcome) (unfolded_to (unfolded (scene_of b given) p) >>= (λ f. Ok (asking (topics_in p) f))) ≡ Ok x
+        → IsDemand b given p x
     go true e = absurd cc
     go false e = found (unfolded (scene_of b given) p) refl e
 
@@ -85,14 +105,14 @@ formula-is b given p f h = go (promise_divides given p) h
 record HasText (file : Declared) (ms : Members) (words : List ℕ) (asked : Asked) : Type 0 where
   pub given : List Given
   pub constants : given_in file asked.described.bounds.nodes ms ≡ Ok given
-  pub protocol : asked.described.protocol ≡ kind_of file asked.described.bounds.nodes given
   pub promise : Promise
+  pub protocol : asked.described.protocol ≡ kind_of file asked.described.bounds.nodes given (topics_in promise)
   pub text : said file given words (named words file.outcomes) ≡ Ok promise
-  pub formula : asked.formula ≡ formula_at (scene_of asked.described.bounds given) promise asked.described.bounds.horizon
+  pub formula : asked.formula ≡ formula_at (scene_of asked.described.bounds given) 0 promise asked.described.bounds.horizon
 
 record IsChosen (file : Declared) (ms : Members) (x : Settled) : Type 0 where
   pub constants : given_in file x.described.bounds.nodes ms ≡ Ok x.given
-  pub protocol : x.described.protocol ≡ kind_of file x.described.bounds.nodes x.given
+  pub protocol : x.described.protocol ≡ kind_of file x.described.bounds.nodes x.given []
 
 module _ (file : Declared) (ms : Members) where
   chosen-is : (x : Settled) → chosen_in file ms ≡ Ok x → IsChosen file ms x
@@ -106,7 +126,7 @@ module _ (file : Declared) (ms : Members) where
           bounds = bounded.0.bounds;
           max_sets = bounded.0.max_sets;
           delays = bounded.0.delays;
-          protocol = kind_of file bounded.0.bounds.nodes given.0;
+          protocol = kind_of file bounded.0.bounds.nodes given.0 [];
         };
         given = given.0;
       } in
@@ -119,25 +139,28 @@ module _ (file : Declared) (ms : Members) where
   text-is words asked there h =
       let chosen = step-inv (chosen_in file ms) _ h in
       let bounds = chosen.0.described.bounds in
-      let formula = step-inv (required ms keys.Outcome (outcome_in file chosen.0.given bounds)) _ chosen.2 in
-      let links = step-inv (all_links bounds.nodes chosen.0.described.delays.least chosen.0.described.delays.spread ms) _ formula.2 in
-      let made : Asked = record { described = chosen.0.described; formula = formula.0; links = links.0 } in
+      let demand = step-inv (required ms keys.Outcome (outcome_in file chosen.0.given bounds)) _ chosen.2 in
+      let links = step-inv (all_links bounds.nodes chosen.0.described.delays.least chosen.0.described.delays.spread ms) _ demand.2 in
+      let made : Asked = record { described = with_asked chosen.0.described demand.0.topics; formula = demand.0.formula; links = links.0 } in
       let same : made ≡ asked = cc in
       let is = chosen-is chosen.0 chosen.1 in
-      let read : text_formula file chosen.0.given bounds words ≡ Ok formula.0 = by_text formula.0 chosen.0 formula.1 in
-      let promise = step-inv (said file chosen.0.given words (named words file.outcomes)) (formula_of bounds chosen.0.given) read in
+      let read : text_demand file chosen.0.given bounds words ≡ Ok demand.0 = by_text demand.0 chosen.0 demand.1 in
+      let promise = step-inv (said file chosen.0.given words (named words file.outcomes)) (demand_of bounds chosen.0.given) read in
+      let own = demand-is bounds chosen.0.given promise.0 demand.0 promise.2 in
       subst (HasText file ms words) same
       (record {
         given = chosen.0.given;
         constants = is.constants;
-        protocol = is.protocol;
         promise = promise.0;
+        protocol =
+            ap (λ (k : Kind). with_topics k demand.0.topics) is.protocol
+            ∙ ap (λ (ts : List Topic). kind_of file bounds.nodes chosen.0.given ts) own.topics;
         text = promise.1;
-        formula = formula-is bounds chosen.0.given promise.0 formula.0 promise.2;
+        formula = own.formula;
       })
     where
-      by_text : (f : Formula Fact) (x : Settled) → required ms keys.Outcome (outcome_in file x.given x.described.bounds) ≡ Ok f
-          → text_formula file x.given x.described.bounds words ≡ Ok f
+      by_text : (f : Demand) (x : Settled) → required ms keys.Outcome (outcome_in file x.given x.described.bounds) ≡ Ok f
+          → text_demand file x.given x.described.bounds words ≡ Ok f
       by_text f x e =
           ap (found_or (Err (refusals.Missing keys.Outcome)) (outcome_in file x.given x.described.bounds keys.Outcome)) (sym there) ∙ e
 
@@ -146,16 +169,16 @@ module _ (file : Declared) (ms : Members) where
   promised words s there a =
       let t = text-is words a.asked there a.reading in
       let bounds : s.setting.spec ≡ a.asked.described.bounds = a.scenario.bounds in
-      let protocol : s.setting.machine ≡ kind_of file s.setting.spec.nodes t.given =
-      a.scenario.protocol ∙ t.protocol ∙ ap (λ (b : Bounds). kind_of file b.nodes t.given) (sym bounds) in
-      let formula : s.formula ≡ formula_at (scene_of s.setting.spec t.given) t.promise s.setting.spec.horizon =
-      a.scenario.formula ∙ t.formula ∙ ap (λ (b : Bounds). formula_at (scene_of b t.given) t.promise b.horizon) (sym bounds) in
+      let protocol : s.setting.machine ≡ kind_of file s.setting.spec.nodes t.given (topics_in t.promise) =
+      a.scenario.protocol ∙ t.protocol ∙ ap (λ (b : Bounds). kind_of file b.nodes t.given (topics_in t.promise)) (sym bounds) in
+      let formula : s.formula ≡ formula_at (scene_of s.setting.spec t.given) 0 t.promise s.setting.spec.horizon =
+      a.scenario.formula ∙ t.formula ∙ ap (λ (b : Bounds). formula_at (scene_of b t.given) 0 t.promise b.horizon) (sym bounds) in
       let nodes = s.setting.spec.nodes in
       let scene = scene_of s.setting.spec t.given in
       let last = s.setting.spec.horizon in
       let pause = s.setting.spec.pause_length in
       let arrival = arrival_of s.setting.network in
-      let m : Instance = record { definition = file.definition; nodes = nodes; given = given_table nodes t.given } in
+      let m : Instance = record { definition = file.definition; nodes = nodes; given = given_table nodes t.given; topics = topics_in t.promise } in
       record {
         given = t.given;
         promise = t.promise;
@@ -164,9 +187,11 @@ module _ (file : Declared) (ms : Members) where
         protocol = protocol;
         kept = λ faults.
             ap (reaches (world_of s.setting) faults) formula
-            ∙ subst (λ (k : Kind). reaches (world_by k last pause arrival) faults (formula_at scene t.promise last)
-            ≡ is_kept (world_by k last pause arrival) faults scene t.promise last) (sym protocol)
-            (formula-kept (world_by (kinds.Ruled m) last pause arrival) faults (opposed m last pause arrival faults) scene t.promise last);
+            ∙ subst (λ (k : Kind). reaches (world_by k last pause arrival) faults (formula_at scene 0 t.promise last)
+            ≡ is_kept (world_by k last pause arrival) faults file.definition scene t.promise last) (sym protocol)
+            (formula-kept (world_by (kinds.Ruled m) last pause arrival) faults (opposed m last pause arrival faults) file.definition scene (topics_in t.promise)
+            (enters m last pause arrival faults last) t.promise 0 last
+            (record { before = []; after = []; is = sym (append-nil (topics_in t.promise)); place = refl }));
         states = λ faults n t0.
             subst (λ (k : Kind). IsOfRules (world_by k last pause arrival) faults file nodes t.given n t0) (sym protocol)
             (let x = told m last pause arrival faults n t0 in record { own = x.own; state = x.state; facts = x.facts });

@@ -6,13 +6,14 @@ use Rattle.std.specs.List.{AllByRecursion, fold, flat_map, range_with_len}
 use Rattle.std.proofs.Math.Nat.{suc-mul}
 use Rattle.std.proofs.lemmas.Bool.{eqb-true, eq-eqb, le-leb, lt-leb, leb-true, leb-false}
 use Rattle.lf_rules.specs.Terms.{Term}
+use Rattle.lf_rules.specs.declared.topic.Topic.{Topic}
 use Rattle.lf_rule_machine.specs.declared.fact.Fact.{Fact as Told}
 use Rattle.lf_protocols.specs.declared.fact.Fact.{Fact}
 use Rattle.lf_outcome.specs.declared.formula.Formula.{Formula}
 use Rattle.lf_outcome.specs.declared.formula.Formula.TheVariants as kind
 use Rattle.lf_outcome.specs.Measures.{depth_of, atoms_of}
 use Rattle.lf_outcome.specs.Named.{shows_or_down}
-use Rattle.lf_outcome.proofs.Laws.{depth_of-parts, atoms_of-parts, depth_of-Shows, atoms_of-Shows, depth_of-Down, atoms_of-Down}
+use Rattle.lf_outcome.proofs.Laws.{depth_of-parts, atoms_of-parts, depth_of-Shows, atoms_of-Shows, depth_of-Down, atoms_of-Down, depth_of-One, atoms_of-One}
 use Rattle.lf_promises.specs.Inductions.{Steps}
 use Rattle.lf_promises.specs.Fronts.{opposite}
 use Rattle.lf_promises.specs.declared.promise.Many.{Many}
@@ -25,22 +26,28 @@ use Rattle.lf_own_scenario.specs.Elements.{Member}
 use Rattle.lf_own_scenario.specs.Members.{is_in, members, others}
 use Rattle.lf_own_scenario.specs.Quantities.{ruled, shows, each, any_of, all_but_one, where_any, so_many}
 use Rattle.lf_own_scenario.specs.Sizes.{depth_of_many, atoms_of_many}
-use Rattle.lf_own_scenario.specs.Unfolding.{formula_at}
+use Rattle.lf_own_scenario.specs.Topics.{count_topics}
+use Rattle.lf_own_scenario.specs.Unfolding.{formula_at, formulas_at}
 use Rattle.lf_own_scenario.proofs.MemberLemmas.{either, kept-at, range-at}
-use Rattle.lf_own_scenario.proofs.UnfoldingLemmas.{formula-All, formula-Any, formula-Always, formula-Ever, formula-Nodes, formula-Down, formula-At}
+use Rattle.lf_own_scenario.proofs.UnfoldingLemmas.{formula-All, formula-Any, formula-Always, formula-Ever, formula-Nodes, formula-Down, formula-At, formula-One}
 
--- ---- a measure that doesn't look at steps is the same at every step
+-- ---- a measure that looks neither at steps nor at the numbers of topics is the same whatever they are
 
-record IsStepless (m : Formula Fact → ℕ) : Type 0 where
+pub record IsStepless (m : Formula Fact → ℕ) : Type 0 where
   pub all : (fs gs : List (Formula Fact)) → map m fs ≡ map m gs → m (kind.All fs) ≡ m (kind.All gs)
   pub any : (fs gs : List (Formula Fact)) → map m fs ≡ map m gs → m (kind.Any fs) ≡ m (kind.Any gs)
   pub down : (n t u : ℕ) → m (kind.Down n t) ≡ m (kind.Down n u)
   pub shows : (n t u : ℕ) (fact : Fact) → m (kind.Shows n t fact) ≡ m (kind.Shows n u fact)
+  pub one : (nodes last i j : ℕ) → m (kind.One nodes last i) ≡ m (kind.One nodes last j)
 
 map-by : {X : Type 0} (m : Formula Fact → ℕ) (g h : X → Formula Fact) → ((x : X) → m (g x) ≡ m (h x)) → (xs : List X)
     → map m (map g xs) ≡ map m (map h xs)
 map-by m g h same [] = refl
 map-by m g h same (x ∷ xs) = ap (λ k. k ∷ map m (map g xs)) (same x) ∙ ap (λ ks. m (h x) ∷ ks) (map-by m g h same xs)
+
+map-both : (m : Formula Fact → ℕ) (fs gs : List (Formula Fact)) → map m (fs ++ gs) ≡ map m fs ++ map m gs
+map-both m [] gs = refl
+map-both m (f ∷ fs) gs = ap (λ ks. m f ∷ ks) (map-both m fs gs)
 
 module _ (m : Formula Fact → ℕ) (is : IsStepless m) where
   node-steady : (t u : ℕ) (fact : Fact) (n : ℕ) → m (shows_or_down t fact n) ≡ m (shows_or_down u fact n)
@@ -75,35 +82,59 @@ module _ (m : Formula Fact → ℕ) (is : IsStepless m) where
 
   module _ (s : Scene) where
     abbrev Steady : Promise → Type 0
-    Steady p = (t u : ℕ) → m (formula_at s p t) ≡ m (formula_at s p u)
+    Steady p = (i j t u : ℕ) → m (formula_at s i p t) ≡ m (formula_at s j p u)
 
-    parts-steady : (parts : List Promise) → AllByRecursion Steady parts → (t u : ℕ)
-        → map m (map (λ part. formula_at s part t) parts) ≡ map m (map (λ part. formula_at s part u) parts)
-    parts-steady [] each_steady t u = refl
-    parts-steady (p ∷ ps) each_steady t u =
-        ap (λ k. k ∷ map m (map (λ part. formula_at s part t) ps)) (each_steady.0 t u)
-        ∙ ap (λ ks. m (formula_at s p u) ∷ ks) (parts-steady ps each_steady.1 t u)
+    parts-steady : (parts : List Promise) → AllByRecursion Steady parts → (i j t u : ℕ)
+        → map m (formulas_at s i parts t) ≡ map m (formulas_at s j parts u)
+    parts-steady [] each_steady i j t u = refl
+    parts-steady (p ∷ ps) each_steady i j t u =
+        ap (λ k. k ∷ map m (formulas_at s (i + count_topics p) ps t)) (each_steady.0 i j t u)
+        ∙ ap (λ ks. m (formula_at s j p u) ∷ ks) (parts-steady ps each_steady.1 (i + count_topics p) (j + count_topics p) t u)
+
+    -- the same at all of some steps
+    always-steady : (parts : List Promise) → AllByRecursion Steady parts → (i j : ℕ) (ts : List ℕ)
+        → map m (flat_map (formulas_at s i parts) ts) ≡ map m (flat_map (formulas_at s j parts) ts)
+    always-steady parts each_steady i j [] = refl
+    always-steady parts each_steady i j (t ∷ ts) =
+        map-both m (formulas_at s i parts t) (flat_map (formulas_at s i parts) ts)
+        ∙ ap (λ ks. ks ++ map m (flat_map (formulas_at s i parts) ts)) (parts-steady parts each_steady i j t t)
+        ∙ ap (λ ks. map m (formulas_at s j parts t) ++ ks) (always-steady parts each_steady i j ts)
+        ∙ sym (map-both m (formulas_at s j parts t) (flat_map (formulas_at s j parts) ts))
 
     abbrev steps : Steps Steady
     steps = record {
-      all = λ parts each_steady t u.
-          ap m (formula-All s parts t)
-          ∙ is.all (map (λ part. formula_at s part t) parts) (map (λ part. formula_at s part u) parts) (parts-steady parts each_steady t u)
-          ∙ ap m (sym (formula-All s parts u));
-      any = λ parts each_steady t u.
-          ap m (formula-Any s parts t)
-          ∙ is.any (map (λ part. formula_at s part t) parts) (map (λ part. formula_at s part u) parts) (parts-steady parts each_steady t u)
-          ∙ ap m (sym (formula-Any s parts u));
-      always = λ parts each_steady t u. ap m (formula-Always s parts t) ∙ ap m (sym (formula-Always s parts u));
-      ever = λ parts each_steady t u. ap m (formula-Ever s parts t) ∙ ap m (sym (formula-Ever s parts u));
-      nodes = λ many fact of t u.
-          ap m (formula-Nodes s many fact of t) ∙ many-steady many t u fact (members s of) ∙ ap m (sym (formula-Nodes s many fact of u));
-      down = λ n t u. ap m (formula-Down s n t) ∙ is.down n t u ∙ ap m (sym (formula-Down s n u));
-      shows = λ n fact t u. ap m (formula-At s n fact t) ∙ is.shows n t u (ruled fact) ∙ ap m (sym (formula-At s n fact u));
+      all = λ parts each_steady i j t u.
+          ap m (formula-All s i parts t) ∙ is.all (formulas_at s i parts t) (formulas_at s j parts u) (parts-steady parts each_steady i j t u)
+          ∙ ap m (sym (formula-All s j parts u));
+      any = λ parts each_steady i j t u.
+          ap m (formula-Any s i parts t) ∙ is.any (formulas_at s i parts t) (formulas_at s j parts u) (parts-steady parts each_steady i j t u)
+          ∙ ap m (sym (formula-Any s j parts u));
+      always = λ parts each_steady i j t u.
+          let range = range_with_len 1 s.horizon in
+          ap m (formula-Always s i parts t)
+          ∙ is.all (flat_map (formulas_at s i parts) range) (flat_map (formulas_at s j parts) range) (always-steady parts each_steady i j range)
+          ∙ ap m (sym (formula-Always s j parts u));
+      ever = λ parts each_steady i j t u.
+          let range = range_with_len 1 s.horizon in
+          ap m (formula-Ever s i parts t)
+          ∙ is.any (flat_map (formulas_at s i parts) range) (flat_map (formulas_at s j parts) range) (always-steady parts each_steady i j range)
+          ∙ ap m (sym (formula-Ever s j parts u));
+      nodes = λ many fact of i j t u.
+          ap m (formula-Nodes s i many fact of t) ∙ many-steady many t u fact (members s of) ∙ ap m (sym (formula-Nodes s j many fact of u));
+      down = λ n i j t u. ap m (formula-Down s i n t) ∙ is.down n t u ∙ ap m (sym (formula-Down s j n u));
+      shows = λ n fact i j t u. ap m (formula-At s i n fact t) ∙ is.shows n t u (ruled fact) ∙ ap m (sym (formula-At s j n fact u));
+      one = λ topic i j t u. ap m (formula-One s i topic t) ∙ is.one s.nodes s.horizon i j ∙ ap m (sym (formula-One s j topic u));
     }
 
     steady : (p : Promise) → Steady p
     steady = by_induction Steady steps
+
+    -- so parts measure what each measures at step 0, with its topics from 0
+    pub at-none : (parts : List Promise) (i u : ℕ) → map m (formulas_at s i parts u) ≡ map (λ part. m (formula_at s 0 part 0)) parts
+    at-none [] i u = refl
+    at-none (p ∷ ps) i u =
+        ap (λ k. k ∷ map m (formulas_at s (i + count_topics p) ps u)) (steady p i 0 u 0)
+        ∙ ap (λ ks. m (formula_at s 0 p 0) ∷ ks) (at-none ps (i + count_topics p) u)
 
 depth-All : (fs : List (Formula Fact)) → depth_of (kind.All fs) ≡ fold max 0 (map depth_of fs) + 1
 depth-All fs = depth_of-parts (kind.All fs) fs (inl refl)
@@ -123,6 +154,7 @@ depth-stepless = record {
   any = λ fs gs same. depth-Any fs ∙ ap (λ ks. fold max 0 ks + 1) same ∙ sym (depth-Any gs);
   down = λ n t u. depth_of-Down Fact n t ∙ sym (depth_of-Down Fact n u);
   shows = λ n t u fact. depth_of-Shows n t fact ∙ sym (depth_of-Shows n u fact);
+  one = λ nodes last i j. depth_of-One Fact nodes last i ∙ sym (depth_of-One Fact nodes last j);
 }
 
 atoms-stepless : IsStepless (atoms_of {Fact = Fact})
@@ -131,12 +163,13 @@ atoms-stepless = record {
   any = λ fs gs same. atoms-Any fs ∙ ap sum same ∙ sym (atoms-Any gs);
   down = λ n t u. atoms_of-Down Fact n t ∙ sym (atoms_of-Down Fact n u);
   shows = λ n t u fact. atoms_of-Shows n t fact ∙ sym (atoms_of-Shows n u fact);
+  one = λ nodes last i j. atoms_of-One Fact nodes last i ∙ sym (atoms_of-One Fact nodes last j);
 }
 
-pub depth-steady : (s : Scene) (p : Promise) (t u : ℕ) → depth_of (formula_at s p t) ≡ depth_of (formula_at s p u)
+pub depth-steady : (s : Scene) (p : Promise) (i j t u : ℕ) → depth_of (formula_at s i p t) ≡ depth_of (formula_at s j p u)
 depth-steady = steady depth_of depth-stepless
 
-pub atoms-steady : (s : Scene) (p : Promise) (t u : ℕ) → atoms_of (formula_at s p t) ≡ atoms_of (formula_at s p u)
+pub atoms-steady : (s : Scene) (p : Promise) (i j t u : ℕ) → atoms_of (formula_at s i p t) ≡ atoms_of (formula_at s j p u)
 atoms-steady = steady atoms_of atoms-stepless
 
 -- ---- the deepest of some formulas, and how many atoms they have together
@@ -336,53 +369,45 @@ members-once s of = record { less = λ n m. one-less (is_in s of) n s.nodes 0 m 
 
 -- ---- the sizes of a promise's formula, from those of its parts
 
-apart-map : {X : Type 0} (m : Formula Fact → ℕ) (h : X → Formula Fact) (xs : List X) → map m (map h xs) ≡ map (λ x. m (h x)) xs
-apart-map m h [] = refl
-apart-map m h (x ∷ xs) = ap (λ ks. m (h x) ∷ ks) (apart-map m h xs)
-
 module _ (s : Scene) where
   -- the depths and the atoms of some parts at step 0
   abbrev depths : List Promise → List ℕ
-  depths parts = map (λ part. depth_of (formula_at s part 0)) parts
+  depths parts = map (λ part. depth_of (formula_at s 0 part 0)) parts
 
   abbrev counts : List Promise → List ℕ
-  counts parts = map (λ part. atoms_of (formula_at s part 0)) parts
+  counts parts = map (λ part. atoms_of (formula_at s 0 part 0)) parts
 
-  deep-at : (parts : List Promise) (u : ℕ) → deep (map (λ part. formula_at s part u) parts) ≡ fold max 0 (depths parts)
-  deep-at parts u =
-      ap (fold max 0) (map-by depth_of (λ part. formula_at s part u) (λ part. formula_at s part 0) (λ part. depth-steady s part u 0) parts
-      ∙ apart-map depth_of (λ part. formula_at s part 0) parts)
+  deep-at : (parts : List Promise) (u : ℕ) → deep (formulas_at s 0 parts u) ≡ fold max 0 (depths parts)
+  deep-at parts u = ap (fold max 0) (at-none depth_of depth-stepless s parts 0 u)
 
-  heavy-at : (parts : List Promise) (u : ℕ) → heavy (map (λ part. formula_at s part u) parts) ≡ sum (counts parts)
-  heavy-at parts u =
-      ap sum (map-by atoms_of (λ part. formula_at s part u) (λ part. formula_at s part 0) (λ part. atoms-steady s part u 0) parts
-      ∙ apart-map atoms_of (λ part. formula_at s part 0) parts)
+  heavy-at : (parts : List Promise) (u : ℕ) → heavy (formulas_at s 0 parts u) ≡ sum (counts parts)
+  heavy-at parts u = ap sum (at-none atoms_of atoms-stepless s parts 0 u)
 
   pub depth-at : (p : Promise) (parts : List Promise) → (p ≡ promises.All parts) ⊎ (p ≡ promises.Any parts)
-      → depth_of (formula_at s p 0) ≡ fold max 0 (depths parts) + 1
+      → depth_of (formula_at s 0 p 0) ≡ fold max 0 (depths parts) + 1
   depth-at p parts (inl is) =
-      ap (λ (q : Promise). depth_of (formula_at s q 0)) is ∙ ap depth_of (formula-All s parts 0)
-      ∙ depth-All (map (λ part. formula_at s part 0) parts) ∙ ap (λ k. k + 1) (deep-at parts 0)
+      ap (λ (q : Promise). depth_of (formula_at s 0 q 0)) is ∙ ap depth_of (formula-All s 0 parts 0)
+      ∙ depth-All (formulas_at s 0 parts 0) ∙ ap (λ k. k + 1) (deep-at parts 0)
   depth-at p parts (inr is) =
-      ap (λ (q : Promise). depth_of (formula_at s q 0)) is ∙ ap depth_of (formula-Any s parts 0)
-      ∙ depth-Any (map (λ part. formula_at s part 0) parts) ∙ ap (λ k. k + 1) (deep-at parts 0)
+      ap (λ (q : Promise). depth_of (formula_at s 0 q 0)) is ∙ ap depth_of (formula-Any s 0 parts 0)
+      ∙ depth-Any (formulas_at s 0 parts 0) ∙ ap (λ k. k + 1) (deep-at parts 0)
 
   pub atoms-at : (p : Promise) (parts : List Promise) → (p ≡ promises.All parts) ⊎ (p ≡ promises.Any parts)
-      → atoms_of (formula_at s p 0) ≡ sum (counts parts)
+      → atoms_of (formula_at s 0 p 0) ≡ sum (counts parts)
   atoms-at p parts (inl is) =
-      ap (λ (q : Promise). atoms_of (formula_at s q 0)) is ∙ ap atoms_of (formula-All s parts 0)
-      ∙ atoms-All (map (λ part. formula_at s part 0) parts) ∙ heavy-at parts 0
+      ap (λ (q : Promise). atoms_of (formula_at s 0 q 0)) is ∙ ap atoms_of (formula-All s 0 parts 0)
+      ∙ atoms-All (formulas_at s 0 parts 0) ∙ heavy-at parts 0
   atoms-at p parts (inr is) =
-      ap (λ (q : Promise). atoms_of (formula_at s q 0)) is ∙ ap atoms_of (formula-Any s parts 0)
-      ∙ atoms-Any (map (λ part. formula_at s part 0) parts) ∙ heavy-at parts 0
+      ap (λ (q : Promise). atoms_of (formula_at s 0 q 0)) is ∙ ap atoms_of (formula-Any s 0 parts 0)
+      ∙ atoms-Any (formulas_at s 0 parts 0) ∙ heavy-at parts 0
 
   -- the formulas of some parts at all steps
   abbrev throughout : List Promise → List (Formula Fact)
-  throughout parts = flat_map (λ u. map (λ part. formula_at s part u) parts) (range_with_len 1 s.horizon)
+  throughout parts = flat_map (formulas_at s 0 parts) (range_with_len 1 s.horizon)
 
   deep-throughout : (parts : List Promise) (h : ℕ) → s.horizon ≡ h
-      → deep (throughout parts) ≡ deep (flat_map (λ u. map (λ part. formula_at s part u) parts) (range_with_len 1 h))
-  deep-throughout parts h is = ap (λ k. deep (flat_map (λ u. map (λ part. formula_at s part u) parts) (range_with_len 1 k))) is
+      → deep (throughout parts) ≡ deep (flat_map (formulas_at s 0 parts) (range_with_len 1 h))
+  deep-throughout parts h is = ap (λ k. deep (flat_map (formulas_at s 0 parts) (range_with_len 1 k))) is
 
   deep-never : (parts : List Promise) → s.horizon ≡ 0 → deep (throughout parts) ≡ 0
   deep-never parts none = deep-throughout parts 0 none
@@ -390,17 +415,17 @@ module _ (s : Scene) where
   deep-always : (parts : List Promise) (h : ℕ) → s.horizon ≡ suc h → deep (throughout parts) ≡ fold max 0 (depths parts)
   deep-always parts h is =
       deep-throughout parts (suc h) is
-      ∙ deep-flat (λ u. map (λ part. formula_at s part u) parts) (fold max 0 (depths parts)) (deep-at parts) h 1
+      ∙ deep-flat (formulas_at s 0 parts) (fold max 0 (depths parts)) (deep-at parts) h 1
 
   depth-throughout : (p : Promise) (parts : List Promise) → (p ≡ promises.Always parts) ⊎ (p ≡ promises.Ever parts)
-      → depth_of (formula_at s p 0) ≡ deep (throughout parts) + 1
+      → depth_of (formula_at s 0 p 0) ≡ deep (throughout parts) + 1
   depth-throughout p parts (inl is) =
-      ap (λ (q : Promise). depth_of (formula_at s q 0)) is ∙ ap depth_of (formula-Always s parts 0) ∙ depth-All (throughout parts)
+      ap (λ (q : Promise). depth_of (formula_at s 0 q 0)) is ∙ ap depth_of (formula-Always s 0 parts 0) ∙ depth-All (throughout parts)
   depth-throughout p parts (inr is) =
-      ap (λ (q : Promise). depth_of (formula_at s q 0)) is ∙ ap depth_of (formula-Ever s parts 0) ∙ depth-Any (throughout parts)
+      ap (λ (q : Promise). depth_of (formula_at s 0 q 0)) is ∙ ap depth_of (formula-Ever s 0 parts 0) ∙ depth-Any (throughout parts)
 
   pub depth-never : (p : Promise) (parts : List Promise) → (p ≡ promises.Always parts) ⊎ (p ≡ promises.Ever parts) → s.horizon ≡ 0
-      → depth_of (formula_at s p 0) ≡ 1
+      → depth_of (formula_at s 0 p 0) ≡ 1
   depth-never p parts is none = depth-throughout p parts is ∙ ap (λ k. k + 1) (deep-never parts none)
 
   some_step : (parts : List Promise) (h : ℕ) → s.horizon ≡ h → h ≢ 0 → deep (throughout parts) ≡ fold max 0 (depths parts)
@@ -408,44 +433,53 @@ module _ (s : Scene) where
   some_step parts (suc h) is some = deep-always parts h is
 
   pub depth-always : (p : Promise) (parts : List Promise) → (p ≡ promises.Always parts) ⊎ (p ≡ promises.Ever parts) → s.horizon ≢ 0
-      → depth_of (formula_at s p 0) ≡ fold max 0 (depths parts) + 1
+      → depth_of (formula_at s 0 p 0) ≡ fold max 0 (depths parts) + 1
   depth-always p parts is some = depth-throughout p parts is ∙ ap (λ k. k + 1) (some_step parts s.horizon refl some)
 
   pub atoms-always : (p : Promise) (parts : List Promise) → (p ≡ promises.Always parts) ⊎ (p ≡ promises.Ever parts)
-      → atoms_of (formula_at s p 0) ≡ s.horizon * sum (counts parts)
+      → atoms_of (formula_at s 0 p 0) ≡ s.horizon * sum (counts parts)
   atoms-always p parts (inl is) =
-      ap (λ (q : Promise). atoms_of (formula_at s q 0)) is ∙ ap atoms_of (formula-Always s parts 0) ∙ atoms-All (throughout parts)
-      ∙ heavy-flat (λ u. map (λ part. formula_at s part u) parts) (sum (counts parts)) (heavy-at parts) s.horizon 1
+      ap (λ (q : Promise). atoms_of (formula_at s 0 q 0)) is ∙ ap atoms_of (formula-Always s 0 parts 0) ∙ atoms-All (throughout parts)
+      ∙ heavy-flat (formulas_at s 0 parts) (sum (counts parts)) (heavy-at parts) s.horizon 1
   atoms-always p parts (inr is) =
-      ap (λ (q : Promise). atoms_of (formula_at s q 0)) is ∙ ap atoms_of (formula-Ever s parts 0) ∙ atoms-Any (throughout parts)
-      ∙ heavy-flat (λ u. map (λ part. formula_at s part u) parts) (sum (counts parts)) (heavy-at parts) s.horizon 1
+      ap (λ (q : Promise). atoms_of (formula_at s 0 q 0)) is ∙ ap atoms_of (formula-Ever s 0 parts 0) ∙ atoms-Any (throughout parts)
+      ∙ heavy-flat (formulas_at s 0 parts) (sum (counts parts)) (heavy-at parts) s.horizon 1
 
   pub depth-nodes : (many : Many) (fact : Told) (of : Option Term)
-      → depth_of (formula_at s (promises.Nodes many fact of) 0) ≡ depth_of_many many (length (members s of))
-  depth-nodes many fact of = ap depth_of (formula-Nodes s many fact of 0) ∙ many-depth many 0 fact (members s of) (members-once s of)
+      → depth_of (formula_at s 0 (promises.Nodes many fact of) 0) ≡ depth_of_many many (length (members s of))
+  depth-nodes many fact of = ap depth_of (formula-Nodes s 0 many fact of 0) ∙ many-depth many 0 fact (members s of) (members-once s of)
 
   pub atoms-nodes : (many : Many) (fact : Told) (of : Option Term)
-      → atoms_of (formula_at s (promises.Nodes many fact of) 0) ≡ atoms_of_many many (length (members s of))
-  atoms-nodes many fact of = ap atoms_of (formula-Nodes s many fact of 0) ∙ many-atoms many 0 fact (members s of) (members-once s of)
+      → atoms_of (formula_at s 0 (promises.Nodes many fact of) 0) ≡ atoms_of_many many (length (members s of))
+  atoms-nodes many fact of = ap atoms_of (formula-Nodes s 0 many fact of 0) ∙ many-atoms many 0 fact (members s of) (members-once s of)
 
-  -- what speaks of one node is an atom
-  pub depth-single : (p : Promise) → ((n : ℕ) × (p ≡ promises.Down n)) ⊎ ((n : ℕ) × (fact : Told) × (p ≡ promises.At n fact))
-      → 1 ≡ min (depth_of (formula_at s p 0)) 4294967295
+  -- what has no parts and speaks of no set is an atom
+  abbrev pub IsAtom : Promise → Type 0
+  IsAtom p =
+      ((n : ℕ) × (p ≡ promises.Down n))
+      ⊎ (((n : ℕ) × (fact : Told) × (p ≡ promises.At n fact)) ⊎ ((topic : Topic) × (p ≡ promises.One topic)))
+
+  pub depth-single : (p : Promise) → IsAtom p → 1 ≡ min (depth_of (formula_at s 0 p 0)) 4294967295
   depth-single p (inl found) =
-      ap (λ (k : ℕ). min k 4294967295) (sym (ap (λ (q : Promise). depth_of (formula_at s q 0)) found.1
-      ∙ ap depth_of (formula-Down s found.0 0) ∙ depth_of-Down Fact found.0 0))
-  depth-single p (inr found) =
-      ap (λ (k : ℕ). min k 4294967295) (sym (ap (λ (q : Promise). depth_of (formula_at s q 0)) found.2
-      ∙ ap depth_of (formula-At s found.0 found.1 0) ∙ depth_of-Shows found.0 0 (ruled found.1)))
+      ap (λ (k : ℕ). min k 4294967295) (sym (ap (λ (q : Promise). depth_of (formula_at s 0 q 0)) found.1
+      ∙ ap depth_of (formula-Down s 0 found.0 0) ∙ depth_of-Down Fact found.0 0))
+  depth-single p (inr (inl found)) =
+      ap (λ (k : ℕ). min k 4294967295) (sym (ap (λ (q : Promise). depth_of (formula_at s 0 q 0)) found.2
+      ∙ ap depth_of (formula-At s 0 found.0 found.1 0) ∙ depth_of-Shows found.0 0 (ruled found.1)))
+  depth-single p (inr (inr found)) =
+      ap (λ (k : ℕ). min k 4294967295) (sym (ap (λ (q : Promise). depth_of (formula_at s 0 q 0)) found.1
+      ∙ ap depth_of (formula-One s 0 found.0 0) ∙ depth_of-One Fact s.nodes s.horizon 0))
 
-  pub atoms-single : (p : Promise) → ((n : ℕ) × (p ≡ promises.Down n)) ⊎ ((n : ℕ) × (fact : Told) × (p ≡ promises.At n fact))
-      → 1 ≡ min (atoms_of (formula_at s p 0)) 4294967295
+  pub atoms-single : (p : Promise) → IsAtom p → 1 ≡ min (atoms_of (formula_at s 0 p 0)) 4294967295
   atoms-single p (inl found) =
-      ap (λ (k : ℕ). min k 4294967295) (sym (ap (λ (q : Promise). atoms_of (formula_at s q 0)) found.1
-      ∙ ap atoms_of (formula-Down s found.0 0) ∙ atoms_of-Down Fact found.0 0))
-  atoms-single p (inr found) =
-      ap (λ (k : ℕ). min k 4294967295) (sym (ap (λ (q : Promise). atoms_of (formula_at s q 0)) found.2
-      ∙ ap atoms_of (formula-At s found.0 found.1 0) ∙ atoms_of-Shows found.0 0 (ruled found.1)))
+      ap (λ (k : ℕ). min k 4294967295) (sym (ap (λ (q : Promise). atoms_of (formula_at s 0 q 0)) found.1
+      ∙ ap atoms_of (formula-Down s 0 found.0 0) ∙ atoms_of-Down Fact found.0 0))
+  atoms-single p (inr (inl found)) =
+      ap (λ (k : ℕ). min k 4294967295) (sym (ap (λ (q : Promise). atoms_of (formula_at s 0 q 0)) found.2
+      ∙ ap atoms_of (formula-At s 0 found.0 found.1 0) ∙ atoms_of-Shows found.0 0 (ruled found.1)))
+  atoms-single p (inr (inr found)) =
+      ap (λ (k : ℕ). min k 4294967295) (sym (ap (λ (q : Promise). atoms_of (formula_at s 0 q 0)) found.1
+      ∙ ap atoms_of (formula-One s 0 found.0 0) ∙ atoms_of-One Fact s.nodes s.horizon 0))
 
 -- ---- counting up to a limit
 
@@ -461,10 +495,10 @@ small x k low = elim (either (nat_le x k)) [
 ]
 
 pub both-small : (x y depth atoms : ℕ) → depth ≡ min x 4294967295 → atoms ≡ min y 4294967295
-    → (nat_le depth 8 && nat_le atoms 512) ≡ (nat_le x 8 && nat_le y 512)
+    → (nat_le depth 8 && nat_le atoms 4096) ≡ (nat_le x 8 && nat_le y 4096)
 both-small x y depth atoms deep_is heavy_is =
-    ap (λ (k : ℕ). nat_le k 8 && nat_le atoms 512) deep_is ∙ ap (λ (k : ℕ). nat_le (min x 4294967295) 8 && nat_le k 512) heavy_is
-    ∙ ap (λ b. b && nat_le (min y 4294967295) 512) (small x 8 (omega arith)) ∙ ap (λ b. nat_le x 8 && b) (small y 512 (omega arith))
+    ap (λ (k : ℕ). nat_le k 8 && nat_le atoms 4096) deep_is ∙ ap (λ (k : ℕ). nat_le (min x 4294967295) 8 && nat_le k 4096) heavy_is
+    ∙ ap (λ b. b && nat_le (min y 4294967295) 4096) (small x 8 (omega arith)) ∙ ap (λ b. nat_le x 8 && b) (small y 4096 (omega arith))
 
 times-some : (h x limit : ℕ) → limit < x → min (suc h * limit) limit ≡ min (suc h * x) limit
 times-some h x limit past = omega (arith, suc-mul h limit, suc-mul h x, past)

@@ -1,8 +1,9 @@
 -- In a run of a protocol of rules each view is a state of rules.
-use Rattle.std.proofs.Common.{◌≡◌, ℕ, zero, suc, Bool, true, false, not, List, refl, sym, ap, ◌∙◌, subst}
-use Rattle.std.specs.Prelude.{if◌then◌else◌, nat_le}
+use Rattle.std.proofs.Common.{◌≡◌, ℕ, zero, suc, Bool, true, false, not, List, refl, sym, ap, subst}
+use Rattle.std.specs.Prelude.{Some, if◌then◌else◌, nat_le, slice_get}
 use Rattle.lf_faults.specs.declared.fault.Parts.{Parts}
 use Rattle.lf_faults.specs.Faults.{set_wakes}
+use Rattle.lf_rules.specs.declared.topic.Topic.{Topic}
 use Rattle.lf_rule_machine.specs.declared.state.State.{State as RuleState}
 use Rattle.lf_rule_machine.specs.Instances.{Instance}
 use Rattle.lf_rule_machine.specs.Machines as rules
@@ -20,6 +21,7 @@ use Rattle.lf_sim.specs.Outs.{nothing}
 use Rattle.lf_sim.specs.Runs.{World, Past, is_up, before_step, letters, turn, history, did, view}
 use Rattle.lf_promises.specs.Fronts.{opposite}
 use Rattle.lf_own_scenario.specs.Quantities.{ruled}
+use Rattle.lf_own_scenario.proofs.KeptLemmas.{entry_on}
 
 record IsOwn (s : State) : Type 0 where
   pub own : RuleState
@@ -99,3 +101,12 @@ module _ (m : Instance) (last pause : ℕ) (arrival : ℕ → ℕ → ℕ → �
     told n t =
         let p = view-own n t in
         record { own = p.own; state = p.is; facts = λ fact. ap (λ z. w.rules.shows n z (ruled fact)) p.is }
+
+    -- what a view enters under a topic is what the values of the topic's expressions say
+    pub enters : (last : ℕ) (first : ℕ) (topic : Topic) → slice_get m.topics first ≡ Some topic → (n t : ℕ)
+        → w.rules.entry n (view w faults n t) first
+        ≡ entry_on m.definition (record { nodes = m.nodes; horizon = last; given = m.given }) n (view w faults n t) topic
+    enters last first topic is n t =
+        let p = view-own n t in
+        subst (λ z. w.rules.entry n z first ≡ entry_on m.definition (record { nodes = m.nodes; horizon = last; given = m.given }) n z topic) (sym p.is)
+        (ap (rules.entry_by m.definition m.nodes m.given n p.own) is)

@@ -1,6 +1,7 @@
 pub mod Elements
 pub mod Members
 pub mod Quantities
+pub mod Topics
 pub mod Unfolding
 pub mod Sizes
 pub mod Keeping

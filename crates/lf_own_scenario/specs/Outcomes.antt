@@ -7,6 +7,7 @@ use Rattle.lf_faults.specs.declared.spec.Bounds.{Bounds}
 use Rattle.lf_rules.specs.declared.definition.Constant.{Constant}
 use Rattle.lf_rules.specs.declared.definition.Definition.{Definition}
 use Rattle.lf_rules.specs.declared.definition.Given.{Given}
+use Rattle.lf_rules.specs.declared.topic.Topic.{Topic}
 use Rattle.lf_rules.specs.declared.sort.Scope.TheVariants as scopes
 use Rattle.lf_rules.specs.declared.sort.Within.TheVariants as withins
 use Rattle.lf_rule_machine.specs.Constants.{given_table}
@@ -29,6 +30,8 @@ use Rattle.lf_scenario.specs.declared.error.ScenarioError.TheVariants as refusal
 use Rattle.lf_scenario.specs.Values.{Reading, ◌>>=◌}
 use Rattle.lf_scenario.specs.Outcomes.{list_formula}
 use Rattle.lf_own_scenario.specs.Machines.{kind_of}
+use Rattle.lf_own_scenario.specs.Topics.{topics_in}
+use Rattle.lf_own_scenario.specs.declared.outcomes.Demand.{Demand}
 use Rattle.lf_own_scenario.specs.Zeros.{promise_divides}
 
 abbrev pub seen_promise : Option (Bor Promise) → Option Promise
@@ -63,9 +66,9 @@ with_values [] vs = []
 with_values (x ∷ xs) [] = []
 with_values (x ∷ xs) (v ∷ vs) = record { name = x.name; sort = x.sort; value = v } ∷ with_values xs vs
 
--- what the text of an outcome may name of a protocol: its variables and facts, and its constants, which are what they are in the scenario
+-- what the text of an outcome may name of a protocol: its variables, named expressions and facts, and its constants, which are what they are in the scenario
 abbrev pub told_in : Definition → List Given → Definition
-told_in d given = record { variables = d.variables; notes = []; given = with_values d.given given; lets = []; facts = d.facts; chains = []; trace = [] }
+told_in d given = record { variables = d.variables; notes = []; given = with_values d.given given; lets = d.lets; facts = d.facts; chains = []; trace = [] }
 
 abbrev pub told_place : Declared → Definition → Context
 told_place file d = record { definition = d; fields = []; names = file.names; scope = scopes.Who; within = withins.Nothing }
@@ -84,20 +87,30 @@ abbrev pub unfolded_to : Result (Formula Fact) UnfoldError → Reading (Formula 
 unfolded_to (Ok formula) = Ok formula
 unfolded_to (Err e) = Err refusals.Outcome
 
--- the formula of a promise, which divides by no constant that is 0
-unfoldable pub formula_of : Bounds → List Given → Promise → Reading (Formula Fact)
-formula_of b given promise = if promise_divides given promise then Err refusals.Outcome else unfolded_to (unfolded (scene_of b given) promise)
+-- a formula that asks about topics
+abbrev pub asking : List Topic → Formula Fact → Demand
+asking topics formula = record { formula = formula; topics = topics }
+
+-- what a promise demands: its formula, which divides by no constant that is 0, and its topics
+unfoldable pub demand_of : Bounds → List Given → Promise → Reading Demand
+demand_of b given promise =
+    if promise_divides given promise then Err refusals.Outcome
+    else unfolded_to (unfolded (scene_of b given) promise) >>= (λ formula. Ok (asking (topics_in promise) formula))
 
 -- a text is the name of an outcome, or a promise itself
 abbrev pub said : Declared → List Given → List ℕ → Option Promise → Reading Promise
 said file given text (Some promise) = Ok promise
 said file given text None = promise_in file given text
 
-abbrev pub text_formula : Declared → List Given → Bounds → List ℕ → Reading (Formula Fact)
-text_formula file given b text = said file given text (named text file.outcomes) >>= formula_of b given
+abbrev pub text_demand : Declared → List Given → Bounds → List ℕ → Reading Demand
+text_demand file given b text = said file given text (named text file.outcomes) >>= demand_of b given
+
+-- a list demands a formula alone
+abbrev pub list_demand : Declared → List Given → Bounds → Data → Reading Demand
+list_demand file given b d = list_formula (kind_of file b.nodes given []) b d >>= (λ formula. Ok (asking [] formula))
 
 -- what the key `outcome` takes
-abbrev pub outcome_in : Declared → List Given → Bounds → Key → Data → Reading (Formula Fact)
-outcome_in file given b key (string text) = text_formula file given b text
-outcome_in file given b key (array ds) = list_formula (kind_of file b.nodes given) b (array ds)
+abbrev pub outcome_in : Declared → List Given → Bounds → Key → Data → Reading Demand
+outcome_in file given b key (string text) = text_demand file given b text
+outcome_in file given b key (array ds) = list_demand file given b (array ds)
 outcome_in file given b key _ = Err (refusals.WrongKind key)

@@ -19,6 +19,7 @@ use Rattle.lf_rules.specs.declared.definition.Given.TheVariants as givens
 use Rattle.lf_rules.specs.declared.definition.Guard.{Guard}
 use Rattle.lf_rules.specs.declared.definition.Named.{Named}
 use Rattle.lf_rules.specs.declared.definition.Definition.{Definition}
+use Rattle.lf_rules.specs.declared.topic.Topic.{Topic}
 use Rattle.lf_promises.specs.declared.promise.Promise.{Promise, fold-Promise}
 use Rattle.lf_promises.specs.declared.promise.Promise.TheOpen.{Promise-F}
 
@@ -87,6 +88,10 @@ module _ (given : List Given) where
   group_divides None = false
   group_divides (Some e) = divides_by_zero e
 
+  -- a topic
+  abbrev pub topic_divides : Topic → Bool
+  topic_divides x = divides_by_zero x.value || (divides_by_zero x.key || divides_by_zero x.guard)
+
   -- one level of a promise, with the truth of each part in its place
   abbrev pub divides_step : Promise-F Bool → Bool
   divides_step (Promise-F.All parts) = list_any (λ b. b) parts
@@ -96,6 +101,7 @@ module _ (given : List Given) where
   divides_step (Promise-F.Nodes many fact of) = group_divides of
   divides_step (Promise-F.Down n) = false
   divides_step (Promise-F.At n fact) = false
+  divides_step (Promise-F.One topic) = topic_divides topic
 
   abbrev pub promise_divides : Promise → Bool
   promise_divides = fold-Promise Bool divides_step

@@ -14,7 +14,7 @@ pub(crate) fn names_nodes(nodes: u32, promise: &Promise) -> bool
     match promise {
         Promise::All(parts) | Promise::Any(parts) | Promise::Always(parts) | Promise::Ever(parts) =>
             { all_name_nodes(nodes, parts.as_slice()) }
-        Promise::Nodes { .. } => true,
+        Promise::Nodes { .. } | Promise::One(_) => true,
         Promise::Down { node } | Promise::At { node, .. } => *node < nodes,
     }
 }

@@ -1,10 +1,10 @@
-//! Copies of constants, variables and named guards.
+//! Copies of constants, variables, named expressions and guards, and topics.
 
 ghost use Rattle.std.specs.Prelude.{◌≡◌, IfOk};
 ghost use Rattle.lf_rules.specs.Terms.{term_of};
 
 use lf_list::Listed;
-use lf_rules::{Expr, Given, Guard, Name, Tree, Value, Variable};
+use lf_rules::{Expr, Given, Guard, Name, Named, Topic, Tree, Value, Variable};
 use std::alloc::{AllocError, Global};
 
 /// A copy of a tree.
@@ -155,4 +155,42 @@ pub(crate) fn copied_facts(alloc: Global, facts: &[Guard]) -> Result<Listed<Guar
         }
     }
     Ok(Listed::from_vec(copies))
+}
+
+/// A copy of a named expression.
+fn copied_let(alloc: Global, named: &Named) -> Result<Named, AllocError>
+    ensures { IfOk result (λ copy. copy ≡ named.now) }
+{
+    let name = copied_name(alloc, &named.name)?;
+    let value = copied_expr(alloc, &named.value)?;
+    Ok(Named {
+        name,
+        sort: named.sort,
+        value,
+    })
+}
+
+/// Copies of named expressions.
+pub(crate) fn copied_lets(alloc: Global, lets: &[Named]) -> Result<Listed<Named>, AllocError>
+    ensures { IfOk result (λ copies. copies ≡ lets.now) }
+{
+    let mut copies = Vec::new(alloc);
+    'lets: for named in lets {
+        let copy = copied_let(alloc, named)?;
+        match copies.push(copy) {
+            Ok(()) => {}
+            Err(_) => return Err(AllocError),
+        }
+    }
+    Ok(Listed::from_vec(copies))
+}
+
+/// A copy of a topic.
+pub(crate) fn copied_topic(alloc: Global, topic: &Topic) -> Result<Topic, AllocError>
+    ensures { IfOk result (λ copy. copy ≡ topic.now) }
+{
+    let value = copied_expr(alloc, &topic.value)?;
+    let key = copied_expr(alloc, &topic.key)?;
+    let guard = copied_expr(alloc, &topic.guard)?;
+    Ok(Topic { value, key, guard })
 }

@@ -1,34 +1,41 @@
 //! The outcome, in the protocol's words.
 
-ghost use Rattle.std.specs.Prelude.{◌≡◌, true, IfOk, IfSome, Ok};
-ghost use Rattle.toml.specs.View.{table_view};
+ghost use Rattle.std.specs.Prelude.{◌≡◌, true, [], IfOk, IfSome, Ok};
+ghost use Rattle.toml.specs.View.{table_view, view};
 ghost use Rattle.lf_faults.specs.Allowed.{IsInLimits};
 ghost use Rattle.lf_promises.specs.Facts.{names_facts};
 ghost use Rattle.lf_own_scenario.specs.Unfolding.{unfolded};
 ghost use Rattle.lf_outcome.specs.Formulas.{IsFormulaOf};
 ghost use Rattle.lf_scenario.specs.Ranges.{IsInRange};
 ghost use Rattle.lf_scenario.specs.Values.{required};
-ghost use Rattle.lf_own_scenario.specs.Machines.{kind_of};
+ghost use Rattle.lf_own_scenario.specs.Machines.{kind_of, with_topics};
 ghost use Rattle.lf_own_scenario.specs.Values.{Gives};
 ghost use Rattle.lf_promises.specs.Promises.{promise_of};
-ghost use Rattle.lf_own_scenario.specs.Outcomes.{seen_promise, named, text_refusal, wanted, told_place, promise_in, scene_of, unfolded_to, formula_of};
-ghost use Rattle.lf_own_scenario.specs.Outcomes.{text_formula, outcome_in};
+ghost use Rattle.lf_own_scenario.specs.Outcomes.{seen_promise, named, text_refusal, wanted, told_place, promise_in, scene_of, unfolded_to, demand_of};
+ghost use Rattle.lf_own_scenario.specs.Outcomes.{text_demand, list_demand, outcome_in};
 
 use crate::telling::told_in;
 use crate::zeros::promise_divides;
-use crate::{Scene, UnfoldError, unfold};
+use crate::{Scene, UnfoldError, topics_in, unfold};
 use lf_faults::FaultSpec;
 use lf_grammar::{Place, Token};
+use lf_list::Listed;
 use lf_outcome::Formula;
 use lf_promises::{Promise, PromiseError, read_promise};
 use lf_protocol_file::ProtocolFile;
 use lf_protocols::Fact;
 use lf_rule_machine::given_table;
-use lf_rules::{Definition, Given, Scope, Within};
+use lf_rules::{Definition, Given, Scope, Topics, Within};
 use lf_scenario::{Described, Key, ScenarioError, at, list_formula};
 use lf_texts::{TextError, text_tokens};
 use std::alloc::Global;
 use toml::{Table, Value};
+
+/// What an outcome demands of a run: a formula, and the topics that it asks about, by number.
+pub(crate) struct Demand {
+    pub formula: Formula<Fact>,
+    pub topics: Topics,
+}
 
 /// The promise of a file's outcome with a name.
 fn named<'a>(file: &'a ProtocolFile, name: &str) -> Option<&'a Promise>
@@ -124,68 +131,90 @@ fn unfolded_in(
     }
 }
 
-/// The formula of a promise, where it divides by no constant that is 0, and isn't too large.
-#[tactic(auto, unfolding(crate::specs::Outcomes::formula_of))]
-fn formula_of(
+/// What a promise demands, where it divides by no constant that is 0, and isn't too large.
+#[tactic(auto, unfolding(crate::specs::Outcomes::demand_of))]
+fn demand_of(
     alloc: Global,
     file: &ProtocolFile,
     given: &[Given],
     bounds: &FaultSpec,
     promise: &Promise,
-) -> Result<Formula<Fact>, ScenarioError>
+) -> Result<Demand, ScenarioError>
     requires limits { IsInLimits bounds.now }
     requires facts { names_facts file.now.definition promise.now ≡ true }
-    ensures value { Gives (λ f. f) (formula_of bounds.now given.now promise.now) result }
-    ensures fits { IfOk result (IsFormulaOf (kind_of file.now bounds.now.nodes given.now) bounds.now) }
+    ensures value { Gives (λ d. d) (demand_of bounds.now given.now promise.now) result }
+    ensures fits { IfOk result (λ d. IsFormulaOf (kind_of file.now bounds.now.nodes given.now d.topics) bounds.now d.formula) }
 {
     if promise_divides(given, promise) {
         return Err(ScenarioError::Outcome);
     }
     let scene = scene_of(bounds, given);
-    unfolded_in(alloc, &scene, promise)
+    let formula = unfolded_in(alloc, &scene, promise)?;
+    match topics_in(alloc, promise) {
+        Ok(topics) => Ok(Demand { formula, topics }),
+        Err(_) => Err(ScenarioError::Memory),
+    }
 }
 
-/// The formula of a text: that of the file's outcome with this name, or else of the promise that it is itself.
-fn text_formula(
+/// What a text demands: that of the file's outcome with this name, or else of the promise that it is itself.
+fn text_demand(
     alloc: Global,
     file: &ProtocolFile,
     given: &[Given],
     bounds: &FaultSpec,
     text: &str,
-) -> Result<Formula<Fact>, ScenarioError>
+) -> Result<Demand, ScenarioError>
     requires { IsInLimits bounds.now }
-    ensures value { Gives (λ f. f) (text_formula file.now given.now bounds.now text.now) result }
-    ensures fits { IfOk result (IsFormulaOf (kind_of file.now bounds.now.nodes given.now) bounds.now) }
+    ensures value { Gives (λ d. d) (text_demand file.now given.now bounds.now text.now) result }
+    ensures fits { IfOk result (λ d. IsFormulaOf (kind_of file.now bounds.now.nodes given.now d.topics) bounds.now d.formula) }
 {
     match named(file, text) {
-        Some(promise) => formula_of(alloc, file, given, bounds, promise),
+        Some(promise) => demand_of(alloc, file, given, bounds, promise),
         None => {
             let promise = promise_in(alloc, file, given, text)?;
-            formula_of(alloc, file, given, bounds, &promise)
+            demand_of(alloc, file, given, bounds, &promise)
         }
     }
 }
 
-/// The formula of the table: of a text, or of a list as for any protocol.
+/// What a list demands, as for any protocol. It asks about no topic.
+fn list_demand(
+    alloc: Global,
+    value: &Value,
+    file: &ProtocolFile,
+    given: &[Given],
+    described: &Described,
+) -> Result<Demand, ScenarioError>
+    requires range { IsInRange described.now }
+    requires protocol { described.now.protocol ≡ kind_of file.now described.now.bounds.nodes given.now [] }
+    ensures value { Gives (λ d. d) (list_demand file.now given.now described.now.bounds (view value.now)) result }
+    ensures fits { IfOk result (λ d. IsFormulaOf (kind_of file.now described.now.bounds.nodes given.now d.topics) described.now.bounds d.formula) }
+{
+    let formula = list_formula(alloc, value, described)?;
+    let topics = Listed::from_vec(Vec::new(alloc));
+    Ok(Demand { formula, topics })
+}
+
+/// What the outcome of the table demands: a text, or a list as for any protocol.
 #[tactic(auto, unfolding(lf_scenario::specs::Values::required))]
-pub(crate) fn formula_in(
+pub(crate) fn demand_in(
     alloc: Global,
     table: &Table,
     file: &ProtocolFile,
     given: &[Given],
     described: &Described,
-) -> Result<Formula<Fact>, ScenarioError>
+) -> Result<Demand, ScenarioError>
     requires range { IsInRange described.now }
-    requires protocol { described.now.protocol ≡ kind_of file.now described.now.bounds.nodes given.now }
-    ensures value { Gives (λ f. f) (required (table_view table.now) Key.Outcome (outcome_in file.now given.now described.now.bounds)) result }
-    ensures fits { IfOk result (IsFormulaOf described.now.protocol described.now.bounds) }
+    requires protocol { described.now.protocol ≡ kind_of file.now described.now.bounds.nodes given.now [] }
+    ensures value { Gives (λ d. d) (required (table_view table.now) Key.Outcome (outcome_in file.now given.now described.now.bounds)) result }
+    ensures fits { IfOk result (λ d. IsFormulaOf (with_topics described.now.protocol d.topics) described.now.bounds d.formula) }
 {
     match at(table, Key::Outcome.name()) {
         Some(value) => match value {
             Value::String(text) => {
-                text_formula(alloc, file, given, &described.bounds, text.as_str())
+                text_demand(alloc, file, given, &described.bounds, text.as_str())
             }
-            Value::Array(_) => list_formula(alloc, value, described),
+            Value::Array(_) => list_demand(alloc, value, file, given, described),
             _ => Err(ScenarioError::WrongKind(Key::Outcome)),
         },
         None => Err(ScenarioError::Missing(Key::Outcome)),

@@ -1,24 +1,24 @@
 //! The reader of scenarios of protocol files.
 
-ghost use Rattle.std.specs.Prelude.{◌≡◌, ◌≢◌, ◌<◌, ◌≤◌, true, IfOk, length, MatchResult, IsErrAnd, Ok, Err};
+ghost use Rattle.std.specs.Prelude.{◌≡◌, ◌≢◌, ◌<◌, ◌≤◌, true, IfOk, length, MatchResult, IsErrAnd, [], Ok, Err};
 ghost use Rattle.toml.specs.Data.{Members};
 ghost use Rattle.toml.specs.View.{table_view};
 ghost use Rattle.lf_scenario.specs.Limits.{longest};
 ghost use Rattle.lf_scenario.specs.Ranges.{IsInRange};
 ghost use Rattle.lf_scenario.specs.Scenarios.{IsDocument};
 ghost use Rattle.lf_rule_machine.specs.Machines.{is_machine};
-ghost use Rattle.lf_own_scenario.specs.Machines.{kind_of};
+ghost use Rattle.lf_own_scenario.specs.Machines.{kind_of, with_topics};
 ghost use Rattle.lf_own_scenario.specs.Values.{Gives};
-ghost use Rattle.lf_own_scenario.specs.Scenarios.{chosen_in, asked_with, IsAskedWith, IsRefusedWith, IsTextWith};
+ghost use Rattle.lf_own_scenario.specs.Scenarios.{asking, chosen_in, asked_with, IsAskedWith, IsRefusedWith, IsTextWith};
 
 use crate::constants::given_in;
 use crate::keys::{Bounded, bounded_in, settled_in};
-use crate::outcomes::formula_in;
+use crate::outcomes::{Demand, demand_in};
 use lf_outcome::Scenario;
 use lf_protocol_file::ProtocolFile;
-use lf_protocols::Protocol;
+use lf_protocols::{Kind, Protocol};
 use lf_rule_machine::Ruled;
-use lf_rules::Given;
+use lf_rules::{Given, Topics};
 use lf_scenario::{Described, LONGEST, ScenarioError, Usual, all_links, assembled};
 use std::alloc::Global;
 use toml::Table;
@@ -58,14 +58,49 @@ fn read_table(alloc: Global, table: &Table, file: &ProtocolFile) -> Result<Scena
         (λ e. e ≢ ScenarioError.Memory → asked_with file.now (table_view table.now) ≡ Err e) }
 {
     let Chosen { described, given } = chosen_in(alloc, table, file)?;
-    let formula = formula_in(alloc, table, file, given.as_slice(), &described)?;
+    let Demand { formula, topics } = demand_in(alloc, table, file, given.as_slice(), &described)?;
     let usual = Usual {
         nodes: described.bounds.nodes(),
         least: described.delays.least,
         spread: described.delays.spread,
     };
     let links = all_links(alloc, table, usual)?;
+    let described = asking(alloc, described, topics)?;
     Ok(assembled(described, formula, links))
+}
+
+/// The same, where the nodes of a protocol of rules enter what these topics say.
+fn asking(alloc: Global, described: Described, topics: Topics) -> Result<Described, ScenarioError>
+    requires range { IsInRange described }
+    ensures value { MatchResult result (λ x. x ≡ asking described topics) (λ e. e ≡ ScenarioError.Memory) }
+    ensures range { IfOk result IsInRange }
+{
+    let Described {
+        bounds,
+        max_sets,
+        delays,
+        protocol,
+    } = described;
+    let protocol = with_topics(alloc, protocol, topics)?;
+    Ok(Described {
+        bounds,
+        max_sets,
+        delays,
+        protocol,
+    })
+}
+
+/// The protocol with these topics in place of its own, if it is one of rules.
+fn with_topics(alloc: Global, protocol: Protocol, topics: Topics) -> Result<Protocol, ScenarioError>
+    ensures { MatchResult result (λ made. made ≡ with_topics protocol topics) (λ e. e ≡ ScenarioError.Memory) }
+{
+    match protocol.kind() {
+        Kind::Ruled(ruled) => match ruled.with_topics(alloc, topics) {
+            Ok(ruled) => Ok(Protocol::ruled(ruled)),
+            Err(_) => Err(ScenarioError::Memory),
+        },
+        _ => Ok(protocol),
+    }
 }
 
 /// What a table says but the outcome and the links.
@@ -73,7 +108,7 @@ fn read_table(alloc: Global, table: &Table, file: &ProtocolFile) -> Result<Scena
 fn chosen_in(alloc: Global, table: &Table, file: &ProtocolFile) -> Result<Chosen, ScenarioError>
     ensures value { Gives (λ x. record { described = x.described; given = x.given.items }) (chosen_in file.now (table_view table.now)) result }
     ensures range { IfOk result (λ x. IsInRange x.described) }
-    ensures protocol { IfOk result (λ x. x.described.protocol ≡ kind_of file.now x.described.bounds.nodes x.given.items) }
+    ensures protocol { IfOk result (λ x. x.described.protocol ≡ kind_of file.now x.described.bounds.nodes x.given.items []) }
 {
     let Bounded {
         bounds,
@@ -93,7 +128,7 @@ fn chosen_in(alloc: Global, table: &Table, file: &ProtocolFile) -> Result<Chosen
     Ok(Chosen { described, given })
 }
 
-/// The protocol among so many nodes, with these values of its constants.
+/// The protocol among so many nodes, with these values of its constants and no topics.
 fn kind_of(
     alloc: Global,
     file: &ProtocolFile,
@@ -101,7 +136,7 @@ fn kind_of(
     given: &[Given],
 ) -> Result<Protocol, ScenarioError>
     requires fitting { is_machine file.now.definition nodes given.now ≡ true }
-    ensures { MatchResult result (λ protocol. protocol ≡ kind_of file.now nodes given.now) (λ e. e ≡ ScenarioError.Memory) }
+    ensures { MatchResult result (λ protocol. protocol ≡ kind_of file.now nodes given.now []) (λ e. e ≡ ScenarioError.Memory) }
 {
     let Ok(rules) = file.rules() else {
         return Err(ScenarioError::Memory);

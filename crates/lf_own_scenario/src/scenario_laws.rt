@@ -14,6 +14,7 @@ ghost use Rattle.lf_outcome.specs.declared.formula.Formula.{Formula};
 ghost use Rattle.lf_promises.specs.declared.promise.Promise.{Promise};
 ghost use Rattle.lf_promises.specs.Facts.{names_facts};
 ghost use Rattle.lf_own_scenario.specs.declared.scene.Scene.{Scene};
+ghost use Rattle.lf_own_scenario.specs.Topics.{topics_in};
 ghost use Rattle.lf_own_scenario.specs.Unfolding.{unfolded};
 ghost use Rattle.lf_protocol_file.specs.declared.declared.Declared.{Declared};
 ghost use Rattle.lf_outcome.specs.Formulas.{IsFormulaOf};
@@ -22,7 +23,7 @@ ghost use Rattle.lf_own_scenario.specs.Constants.{given_in};
 /// The formula of a promise that names facts of its protocol alone is a formula of the scenario, for every protocol of rules and all bounds.
 pub fn promises_are_formulas()
     ensures { (m : Instance) (b : Bounds) (s : Scene) (promise : Promise) (formula : Formula Fact) →
-        IsInLimits b → s.nodes ≡ b.nodes → s.horizon ≡ b.horizon → names_facts m.definition promise ≡ true →
+        IsInLimits b → s.nodes ≡ b.nodes → s.horizon ≡ b.horizon → m.topics ≡ topics_in promise → names_facts m.definition promise ≡ true →
         unfolded s promise ≡ Ok formula → IsFormulaOf (kinds.Ruled m) b formula }
 {}
 

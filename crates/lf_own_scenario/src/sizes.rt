@@ -1,6 +1,6 @@
 //! How large the formula of a promise is, counted before anything of it is made.
 //!
-//! A formula is as large at one step as at another, so it is counted at step 0.
+//! A formula is as large at one step as at another, and whatever numbers its topics have, so it is counted at step 0 with topics from 0.
 
 ghost use Rattle.std.specs.Prelude.{◌≡◌, ◌&&◌, length, map, max, min, nat_le, sum};
 ghost use Rattle.std.specs.List.{fold};
@@ -16,12 +16,15 @@ use lf_promises::{Many, Promise};
 pub const DEEPEST: u32 = 8;
 
 /// The most atoms of the formula of a promise.
-pub const MOST_ATOMS: u32 = 512;
+pub const MOST_ATOMS: u32 = 4096;
+
+/// The most topics of a promise.
+pub const MOST_TOPICS: u32 = 256;
 
 /// Whether the formula of a promise at the last step isn't too deep and hasn't too many atoms.
 pub(crate) fn fits(scene: &Scene, promise: &Promise) -> bool
-    ensures { result ≡ (nat_le (depth_of (formula_at scene.now promise.now scene.now.horizon)) 8
-        && nat_le (atoms_of (formula_at scene.now promise.now scene.now.horizon)) 512) }
+    ensures { result ≡ (nat_le (depth_of (formula_at scene.now 0 promise.now scene.now.horizon)) 8
+        && nat_le (atoms_of (formula_at scene.now 0 promise.now scene.now.horizon)) 4096) }
 {
     depth(scene, promise) <= DEEPEST && atoms(scene, promise) <= MOST_ATOMS
 }
@@ -29,7 +32,7 @@ pub(crate) fn fits(scene: &Scene, promise: &Promise) -> bool
 /// How deep the formula of a promise is. Past 2^32 - 1 it is that.
 #[cycle(depths)]
 fn depth(scene: &Scene, promise: &Promise) -> u32
-    ensures { result ≡ min (depth_of (formula_at scene.now promise.now 0)) 4294967295 }
+    ensures { result ≡ min (depth_of (formula_at scene.now 0 promise.now 0)) 4294967295 }
 {
     match promise {
         Promise::All(parts) | Promise::Any(parts) => {
@@ -43,14 +46,14 @@ fn depth(scene: &Scene, promise: &Promise) -> u32
             }
         }
         Promise::Nodes { many, of, .. } => depth_of_many(*many, count_members(scene, of)),
-        Promise::Down { .. } | Promise::At { .. } => 1,
+        Promise::Down { .. } | Promise::At { .. } | Promise::One(_) => 1,
     }
 }
 
 /// How deep the deepest formula of some parts is.
 #[cycle(depths)]
 fn deepest(scene: &Scene, parts: &[Promise]) -> u32
-    ensures { result ≡ min (fold max 0 (map (λ part. depth_of (formula_at scene.now part 0)) parts.now)) 4294967295 }
+    ensures { result ≡ min (fold max 0 (map (λ part. depth_of (formula_at scene.now 0 part 0)) parts.now)) 4294967295 }
 {
     let mut deepest = 0;
     'parts: for part in parts {
@@ -76,7 +79,7 @@ fn depth_of_many(many: Many, nodes: u32) -> u32
 /// How many atoms the formula of a promise has. Past 2^32 - 1 it is that.
 #[cycle(counts)]
 fn atoms(scene: &Scene, promise: &Promise) -> u32
-    ensures { result ≡ min (atoms_of (formula_at scene.now promise.now 0)) 4294967295 }
+    ensures { result ≡ min (atoms_of (formula_at scene.now 0 promise.now 0)) 4294967295 }
 {
     match promise {
         Promise::All(parts) | Promise::Any(parts) => atoms_of_parts(scene, parts.as_slice()),
@@ -85,14 +88,14 @@ fn atoms(scene: &Scene, promise: &Promise) -> u32
             scene.horizon.saturating_mul(at_each_step)
         }
         Promise::Nodes { many, of, .. } => atoms_of_many(*many, count_members(scene, of)),
-        Promise::Down { .. } | Promise::At { .. } => 1,
+        Promise::Down { .. } | Promise::At { .. } | Promise::One(_) => 1,
     }
 }
 
 /// How many atoms the formulas of some parts have together.
 #[cycle(counts)]
 fn atoms_of_parts(scene: &Scene, parts: &[Promise]) -> u32
-    ensures { result ≡ min (sum (map (λ part. atoms_of (formula_at scene.now part 0)) parts.now)) 4294967295 }
+    ensures { result ≡ min (sum (map (λ part. atoms_of (formula_at scene.now 0 part 0)) parts.now)) 4294967295 }
 {
     let mut count: u32 = 0;
     'parts: for part in parts {

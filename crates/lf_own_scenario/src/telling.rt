@@ -3,12 +3,13 @@
 ghost use Rattle.std.specs.Prelude.{◌≡◌, ◌∷◌, ◌++◌, [], IfOk};
 ghost use Rattle.lf_own_scenario.specs.Outcomes.{told_in, with_values};
 
-use crate::copying::{copied, copied_facts, copied_name, copied_variables};
+use crate::copying::{copied, copied_facts, copied_lets, copied_name, copied_variables};
 use lf_list::Listed;
 use lf_rules::{Constant, Definition, Given};
 use std::alloc::{AllocError, Global};
 
-/// What the text of an outcome may name of a protocol: its variables, its named guards, and its constants, which are what they are in the scenario.
+/// What the text of an outcome may name of a protocol: its variables, its named expressions and guards, and its constants, which are what they are in the
+/// scenario.
 pub(crate) fn told_in(
     alloc: Global,
     definition: &Definition,
@@ -19,12 +20,13 @@ pub(crate) fn told_in(
     let mut constants = Vec::new(alloc);
     put_values(alloc, definition.given.as_slice(), given, &mut constants)?;
     let variables = copied_variables(alloc, definition.variables.as_slice())?;
+    let lets = copied_lets(alloc, definition.lets.as_slice())?;
     let facts = copied_facts(alloc, definition.facts.as_slice())?;
     Ok(Definition {
         variables,
         notes: Listed::from_vec(Vec::new(alloc)),
         given: Listed::from_vec(constants),
-        lets: Listed::from_vec(Vec::new(alloc)),
+        lets,
         facts,
         chains: Listed::from_vec(Vec::new(alloc)),
         trace: Listed::from_vec(Vec::new(alloc)),

@@ -1,13 +1,15 @@
 //! The formula of a promise.
 
-ghost use Rattle.std.specs.Prelude.{◌≡◌, ◌≢◌, ◌++◌, IfOk, MatchResult, map, Ok, Err};
+ghost use Rattle.std.specs.Prelude.{◌≡◌, ◌≢◌, ◌≤◌, ◌+◌, ◌++◌, IfOk, MatchResult, Ok, Err};
 ghost use Rattle.std.specs.List.{flat_map, range_with_len};
-ghost use Rattle.lf_own_scenario.specs.Unfolding.{formula_at, unfolded};
+ghost use Rattle.lf_own_scenario.specs.Topics.{count_topics, count_all};
+ghost use Rattle.lf_own_scenario.specs.Unfolding.{formula_at, formulas_at, unfolded};
 
 use crate::checking::names_nodes;
 use crate::members::members;
 use crate::quantities::so_many;
-use crate::sizes::fits;
+use crate::sizes::{MOST_TOPICS, fits};
+use crate::topics::count_topics;
 use crate::{Scene, UnfoldError};
 use lf_list::Listed;
 use lf_outcome::{Formula, Formulas};
@@ -28,10 +30,11 @@ use std::alloc::{AllocError, Global};
 /// | some node shows it | `Any` of `Shows n fact`, for each node n, ascending |
 /// | at most one shows it | `Any`, for each node n, of `All` of `Any [Down m, Shows m opposite]` for the other nodes m; `All []` where there is no node |
 /// | `Down`, `At` | `Down`, `Shows` |
+/// | `One` | `One` of all nodes up to the last step, under the topic's number: how many topics stand to the left of it, as `topics_in` has them |
 ///
-/// It is refused where it names a node by its number that there isn't, and else where the formula is too large. How large it would be
-/// is counted first, so nothing is made of a formula that is too large.
-#[tactic(auto, unfolding(crate::specs::Unfolding::unfolded, crate::specs::Unfolding::limited))]
+/// It is refused where it names a node by its number that there isn't, and else where the formula is too large, or has more than 256 topics. How large it would
+/// be is counted first, so nothing is made of a formula that is too large.
+#[tactic(auto, unfolding(crate::specs::Unfolding::unfolded, crate::specs::Unfolding::asked_of, crate::specs::Unfolding::limited))]
 pub fn unfold(alloc: Global, scene: &Scene, promise: &Promise) -> Result<Formula<Fact>, UnfoldError>
     ensures { MatchResult result (λ formula. unfolded scene.now promise.now ≡ Ok formula)
         (λ e. e ≢ UnfoldError.Memory → unfolded scene.now promise.now ≡ Err e) }
@@ -39,30 +42,56 @@ pub fn unfold(alloc: Global, scene: &Scene, promise: &Promise) -> Result<Formula
     if !names_nodes(scene.nodes, promise) {
         return Err(UnfoldError::NoNode);
     }
+    if MOST_TOPICS < count_topics(promise) {
+        return Err(UnfoldError::TooLarge);
+    }
     if !fits(scene, promise) {
         return Err(UnfoldError::TooLarge);
     }
-    match formula_at(alloc, scene, promise, scene.horizon) {
+    match formula_at(alloc, scene, 0, promise, scene.horizon) {
         Ok(formula) => Ok(formula),
         Err(_) => Err(UnfoldError::Memory),
     }
 }
 
-/// The formula of a promise at a step.
+/// The formula of a promise at a step, whose first topic has a number. No number may be above 255.
 #[cycle(unfolding)]
 fn formula_at(
     alloc: Global,
     scene: &Scene,
+    first: u32,
     promise: &Promise,
     step: u32,
 ) -> Result<Formula<Fact>, AllocError>
-    ensures { IfOk result (λ formula. formula ≡ formula_at scene.now promise.now step) }
+    ensures { IfOk result (λ formula. first + count_topics promise.now ≤ 256 → formula ≡ formula_at scene.now first promise.now step) }
 {
     match promise {
-        Promise::All(parts) => Ok(Formula::All(parts_at(alloc, scene, parts.as_slice(), step)?)),
-        Promise::Any(parts) => Ok(Formula::Any(parts_at(alloc, scene, parts.as_slice(), step)?)),
-        Promise::Always(parts) => Ok(Formula::All(parts_always(alloc, scene, parts.as_slice())?)),
-        Promise::Ever(parts) => Ok(Formula::Any(parts_always(alloc, scene, parts.as_slice())?)),
+        Promise::All(parts) => Ok(Formula::All(parts_at(
+            alloc,
+            scene,
+            first,
+            parts.as_slice(),
+            step,
+        )?)),
+        Promise::Any(parts) => Ok(Formula::Any(parts_at(
+            alloc,
+            scene,
+            first,
+            parts.as_slice(),
+            step,
+        )?)),
+        Promise::Always(parts) => Ok(Formula::All(parts_always(
+            alloc,
+            scene,
+            first,
+            parts.as_slice(),
+        )?)),
+        Promise::Ever(parts) => Ok(Formula::Any(parts_always(
+            alloc,
+            scene,
+            first,
+            parts.as_slice(),
+        )?)),
         Promise::Nodes { many, fact, of } => {
             let nodes = members(alloc, scene, of)?;
             so_many(alloc, *many, nodes.as_slice(), step, *fact)
@@ -73,53 +102,74 @@ fn formula_at(
             step,
             fact: Fact::Ruled(*fact),
         }),
+        Promise::One(_) => Ok(Formula::One {
+            nodes: scene.nodes,
+            last: scene.horizon,
+            topic: number(first),
+        }),
     }
 }
 
-/// The formulas of parts at a step.
+/// The number of a topic, which is at most 255.
+fn number(first: u32) -> u8
+    ensures { first ≤ 255 → result ≡ first }
+{
+    match u8::try_from(first) {
+        Ok(number) => number,
+        Err(_) => u8::MAX,
+    }
+}
+
+/// The formulas of parts at a step, the first topic of which has a number.
 #[cycle(unfolding)]
 fn parts_at(
     alloc: Global,
     scene: &Scene,
+    first: u32,
     parts: &[Promise],
     step: u32,
 ) -> Result<Formulas<Fact>, AllocError>
-    ensures { IfOk result (λ formulas. formulas ≡ map (λ part. formula_at scene.now part step) parts.now) }
+    ensures { IfOk result (λ formulas. first + count_all parts.now ≤ 256 → formulas ≡ formulas_at scene.now first parts.now step) }
 {
     let mut formulas = Vec::new(alloc);
-    put_parts(alloc, scene, parts, step, &mut formulas)?;
+    put_parts(alloc, scene, first, parts, step, &mut formulas)?;
     Ok(Listed::from_vec(formulas))
 }
 
-/// The formulas of parts at all steps.
+/// The formulas of parts at all steps. A topic has the same number at each.
 #[cycle(unfolding)]
 fn parts_always(
     alloc: Global,
     scene: &Scene,
+    first: u32,
     parts: &[Promise],
 ) -> Result<Formulas<Fact>, AllocError>
-    ensures { IfOk result (λ formulas. formulas ≡ flat_map (λ t. map (λ part. formula_at scene.now part t) parts.now) (range_with_len 1 scene.now.horizon)) }
+    ensures { IfOk result (λ formulas. first + count_all parts.now ≤ 256 → formulas ≡ flat_map (formulas_at scene.now first parts.now) (range_with_len 1 scene.now.horizon)) }
 {
     let mut formulas = Vec::new(alloc);
     'steps: for before in 0..scene.horizon {
-        put_parts(alloc, scene, parts, before + 1, &mut formulas)?;
+        put_parts(alloc, scene, first, parts, before + 1, &mut formulas)?;
     }
     Ok(Listed::from_vec(formulas))
 }
 
-/// Puts the formulas of parts at a step behind others.
+/// Puts the formulas of parts at a step behind others. The topics of each are numbered on from those to the left of it.
 #[cycle(unfolding)]
 fn put_parts(
     alloc: Global,
     scene: &Scene,
+    first: u32,
     parts: &[Promise],
     step: u32,
     formulas: &mut Vec<Formula<Fact>>,
 ) -> Result<(), AllocError>
-    ensures { IfOk result (λ _. formulas.new.items ≡ formulas.old.items ++ map (λ part. formula_at scene.now part step) parts.now) }
+    ensures { IfOk result (λ _. first + count_all parts.now ≤ 256 → formulas.new.items ≡ formulas.old.items ++ formulas_at scene.now first parts.now step) }
 {
+    let mut next = first;
     'parts: for part in parts {
-        match formulas.push(formula_at(alloc, scene, part, step)?) {
+        let formula = formula_at(alloc, scene, next, part, step)?;
+        next = next.saturating_add(count_topics(part));
+        match formulas.push(formula) {
             Ok(()) => {}
             Err(_) => return Err(AllocError),
         }

@@ -5,12 +5,12 @@ ghost use Rattle.std.specs.List.{list_any};
 ghost use Rattle.lf_rules.specs.Terms.{term_of};
 ghost use Rattle.lf_own_scenario.specs.Zeros.{is_zero, has_zero, is_zero_at, is_division, is_zero_leaf, divides_by_zero};
 ghost use Rattle.lf_own_scenario.specs.Zeros.{set_divides, target_divides, send_divides, rule_divides, chain_divides, fact_divides, let_divides};
-ghost use Rattle.lf_own_scenario.specs.Zeros.{definition_divides, promise_divides, group_divides};
+ghost use Rattle.lf_own_scenario.specs.Zeros.{definition_divides, promise_divides, group_divides, topic_divides};
 
 use lf_promises::Promise;
 use lf_rules::{
     Assignment, Binary, Chain, Definition, Expr, Given, Guard, Leaf, Named, Rule, Send, Target,
-    Tree, Value,
+    Topic, Tree, Value,
 };
 
 /// Whether a value is the number 0.
@@ -246,7 +246,7 @@ pub(crate) fn definition_divides(given: &[Given], definition: &Definition) -> bo
         || some_let_divides(given, definition.lets.as_slice())
 }
 
-/// Whether a promise speaks of a set that divides by a constant that is 0 at some node.
+/// Whether a promise speaks of a set or asks about a value that divides by a constant that is 0 at some node.
 #[cycle(promises)]
 pub(crate) fn promise_divides(given: &[Given], promise: &Promise) -> bool
     ensures { result ≡ promise_divides given.now promise.now }
@@ -256,6 +256,7 @@ pub(crate) fn promise_divides(given: &[Given], promise: &Promise) -> bool
             { some_divides(given, parts.as_slice()) }
         Promise::Nodes { of, .. } => group_divides(given, of),
         Promise::Down { .. } | Promise::At { .. } => false,
+        Promise::One(topic) => topic_divides(given, topic),
     }
 }
 
@@ -270,6 +271,13 @@ fn some_divides(given: &[Given], parts: &[Promise]) -> bool
         }
     }
     false
+}
+
+/// Whether a topic does.
+fn topic_divides(given: &[Given], topic: &Topic) -> bool
+    ensures { result ≡ topic_divides given.now topic.now }
+{
+    divides(given, &topic.value) || divides(given, &topic.key) || divides(given, &topic.guard)
 }
 
 /// Whether a set does, where there is one.

@@ -1,11 +1,12 @@
 -- What is read names facts of its definition alone.
 use Rattle.std.proofs.Common.{◌≡◌, ℕ, zero, suc, ◌+◌, ◌<◌, Bool, true, false, ◌&&◌, List, [], ◌∷◌, ◌++◌, length, codes, min}
-use Rattle.std.proofs.Common.{Option, Some, None, refl, sym, ap, ◌∙◌, subst, arith, inl, inr}
-use Rattle.std.specs.Prelude.{◌⊎◌, ⊤, find, slice_get, if◌then◌else◌}
+use Rattle.std.proofs.Common.{Option, Some, None, refl, sym, ap, ◌∙◌, arith, inl, inr}
+use Rattle.std.specs.Prelude.{◌⊎◌, find, slice_get, if◌then◌else◌}
 use Rattle.std.specs.List.{list_all, flat_map, range_with_len}
 use Rattle.std.proofs.lemmas.Bool.{and_from, and_parts, cases_Bool, lt-ltb}
 use Rattle.std.proofs.lemmas.List.Concat.{flat_map-cons}
-use Rattle.std.proofs.lemmas.List.Folds.{list_all-append, list_all-map}
+use Rattle.std.proofs.lemmas.List.Folds.{list_all-append}
+use Rattle.lf_rules.specs.declared.topic.Topic.{Topic}
 use Rattle.lf_rules.specs.Terms.{Term}
 use Rattle.lf_rules.specs.declared.kind.Kind.{Kind}
 use Rattle.lf_rules.specs.declared.kind.Kind.TheVariants as kinds
@@ -16,50 +17,44 @@ use Rattle.lf_rule_machine.specs.declared.fact.Told.{Told}
 use Rattle.lf_rule_machine.specs.declared.fact.Told.TheVariants as tolds
 use Rattle.lf_rule_machine.specs.declared.fact.Fact.{Fact}
 use Rattle.lf_naming.specs.Facts.{both, numbers, own_words, if_flag, own_flag, guard_facts, word_facts, flag_facts, facts_of, has_name}
-use Rattle.lf_grammar.specs.declared.sign.Sign.TheVariants as signs
 use Rattle.lf_grammar.specs.declared.token.Token.{Token}
 use Rattle.lf_grammar.specs.declared.token.Token.TheVariants as tokens
 use Rattle.lf_grammar.specs.Places.{Context}
 use Rattle.lf_grammar.specs.Typing.{◌>>=◌}
-use Rattle.lf_grammar.specs.Fronts.{behind_word, behind_sign}
+use Rattle.lf_grammar.specs.Fronts.{behind_word}
 use Rattle.lf_grammar.specs.Expressions.{cases_of}
-use Rattle.lf_promises.specs.declared.fronts.Time.{Time}
-use Rattle.lf_promises.specs.declared.fronts.Time.TheVariants as times
-use Rattle.lf_promises.specs.declared.reading.Joint.{Joint}
 use Rattle.lf_promises.specs.declared.reading.Joint.TheVariants as joints
 use Rattle.lf_promises.specs.declared.promise.Many.{Many}
 use Rattle.lf_promises.specs.declared.promise.Promise.{Promise, fold-roll-Promise}
-use Rattle.lf_promises.specs.declared.promise.Promise.TheVariants.{rolls-All, rolls-Any, rolls-Always, rolls-Ever, rolls-Nodes, rolls-Down, rolls-At}
+use Rattle.lf_promises.specs.declared.promise.Promise.TheVariants.{rolls-All, rolls-Any, rolls-Always, rolls-Ever, rolls-Nodes, rolls-Down, rolls-At, rolls-One}
 use Rattle.lf_promises.specs.declared.promise.Promise.TheVariants as promises
 use Rattle.lf_promises.specs.declared.promise.Promise.TheOpen.{Promise-F}
 use Rattle.lf_promises.specs.Facts.{is_number, has_word, is_flag_kind, is_flag, has_told, facts_step, names_facts}
-use Rattle.lf_promises.specs.Fronts.{Found, found, behind_time, behind_many, first_node, fact_of, first_named, opposite, first_fact}
-use Rattle.lf_promises.specs.Units.{first_group, first_nodes, first_down, first_at, first_unit}
-use Rattle.lf_promises.specs.Promises.{Next, Joined, Part, More, Whole, Round, Timed, read, steps, behind_joint, of_parts, at_times, to_the_end, promise_of}
+use Rattle.lf_promises.specs.Fronts.{Found, found, behind_many, behind_one_value, first_node, fact_of, first_named, opposite, first_fact}
+use Rattle.lf_promises.specs.Units.{first_group, first_nodes, first_down, first_at, first_shown, first_unit, first_one}
+use Rattle.lf_promises.specs.Units.{first_value, first_key, first_guard, topic_in, asking}
+use Rattle.lf_promises.specs.Promises.{Joined, promise_of}
 use Rattle.lf_promises.specs.Readings.{IsRead}
+use Rattle.lf_promises.proofs.PropertyLemmas as properties
+use Rattle.lf_promises.proofs.PropertyLemmas.{Gives, given, nothing, onward, by_cases, IsOfParts, whole-All, whole-Any, whole-Always, whole-Ever, kept-whole}
 
 -- ---- the facts that a promise names, by what it is
 
 module _ (d : Definition) where
+  of-parts : IsOfParts (facts_step d)
+  of-parts = record { all = λ parts. refl; any = λ parts. refl; always = λ parts. refl; ever = λ parts. refl }
+
   pub facts-All : (parts : List Promise) → names_facts d (promises.All parts) ≡ list_all (names_facts d) parts
-  facts-All parts =
-      ap (names_facts d) (sym (rolls-All parts)) ∙ fold-roll-Promise Bool (facts_step d) (Promise-F.All parts)
-      ∙ list_all-map (λ b. b) (names_facts d) parts
+  facts-All = whole-All (facts_step d) of-parts
 
   pub facts-Any : (parts : List Promise) → names_facts d (promises.Any parts) ≡ list_all (names_facts d) parts
-  facts-Any parts =
-      ap (names_facts d) (sym (rolls-Any parts)) ∙ fold-roll-Promise Bool (facts_step d) (Promise-F.Any parts)
-      ∙ list_all-map (λ b. b) (names_facts d) parts
+  facts-Any = whole-Any (facts_step d) of-parts
 
   pub facts-Always : (parts : List Promise) → names_facts d (promises.Always parts) ≡ list_all (names_facts d) parts
-  facts-Always parts =
-      ap (names_facts d) (sym (rolls-Always parts)) ∙ fold-roll-Promise Bool (facts_step d) (Promise-F.Always parts)
-      ∙ list_all-map (λ b. b) (names_facts d) parts
+  facts-Always = whole-Always (facts_step d) of-parts
 
   pub facts-Ever : (parts : List Promise) → names_facts d (promises.Ever parts) ≡ list_all (names_facts d) parts
-  facts-Ever parts =
-      ap (names_facts d) (sym (rolls-Ever parts)) ∙ fold-roll-Promise Bool (facts_step d) (Promise-F.Ever parts)
-      ∙ list_all-map (λ b. b) (names_facts d) parts
+  facts-Ever = whole-Ever (facts_step d) of-parts
 
   pub facts-Nodes : (many : Many) (fact : Fact) (of : Option Term) → names_facts d (promises.Nodes many fact of) ≡ has_told d fact.told
   facts-Nodes many fact of =
@@ -70,6 +65,9 @@ module _ (d : Definition) where
 
   pub facts-At : (n : ℕ) (fact : Fact) → names_facts d (promises.At n fact) ≡ has_told d fact.told
   facts-At n fact = ap (names_facts d) (sym (rolls-At n fact)) ∙ fold-roll-Promise Bool (facts_step d) (Promise-F.At n fact)
+
+  pub facts-One : (topic : Topic) → names_facts d (promises.One topic) ≡ true
+  facts-One topic = ap (names_facts d) (sym (rolls-One topic)) ∙ fold-roll-Promise Bool (facts_step d) (Promise-F.One topic)
 
   -- a promise with parts
   pub facts-parts : (p : Promise) (parts : List Promise)
@@ -171,40 +169,16 @@ module _ (d : Definition) where
   unfolding fact_of
   named-there word fact is = found-passes is_there (has_name d word) (facts_of d) all-there fact is
 
--- ---- what is read, if something is, has a property
-
-abbrev Gives : {A : Type 0} → (A → Type 0) → Option A → Type 0
-Gives {A} P o = (x : A) → o ≡ Some x → P x
-
-given : {A : Type 0} (P : A → Type 0) (x : A) → P x → Gives P (Some x)
-given {A} P x h y is = let same : x ≡ y = cc in subst P same h
-
-nothing : {A : Type 0} (P : A → Type 0) → Gives P None
-nothing P x is = absurd cc
-
-onward : {A B : Type 0} (P : B → Type 0) (o : Option A) (f : A → Option B) → ((x : A) → o ≡ Some x → Gives P (f x)) → Gives P (o >>= f)
-onward P (Some x) f h = h x refl
-onward P None f h = nothing P
-
-by_cases : {A B : Type 0} (P : B → Type 0) (o : Option A) (absent : Option B) (f : A → Option B) → Gives P absent → ((x : A) → Gives P (f x))
-    → Gives P (cases_of o absent f)
-by_cases P (Some x) absent f h k = k x
-by_cases P None absent f h k = h
-
 module _ (at : Context) where
   -- a fact that is read
   record IsOwn (x : Found Fact) : Type 0 where
     pub there : has_told at.definition x.value.told ≡ true
 
-  -- a promise that is read
-  record IsFine (x : Found Promise) : Type 0 where
-    pub names : names_facts at.definition x.value ≡ true
-
-  abbrev all_fine : List Promise → Type 0
-  all_fine parts = list_all (names_facts at.definition) parts ≡ true
+  abbrev IsFine : Found Promise → Type 0
+  IsFine = properties.IsFine (names_facts at.definition)
 
   fine : (promise : Promise) (rest : List Token) → names_facts at.definition promise ≡ true → Gives IsFine (found promise rest)
-  fine promise rest h = given IsFine (record { value = promise; rest = rest }) (record { names = h })
+  fine = properties.fine (names_facts at.definition)
 
   named-own : (ts : List Token) → Gives IsOwn (first_named at.definition ts)
   unfolding first_named
@@ -248,89 +222,41 @@ module _ (at : Context) where
       (λ y node. let own = fact-own ts x is in
       fine (promises.At y.value x.value) y.rest (facts-At at.definition y.value x.value ∙ own.there))))
 
-  unit-fine : (ts : List Token) → Gives IsFine (first_unit at ts)
-  unfolding first_unit
-  unit-fine ts =
+  shown-fine : (ts : List Token) → Gives IsFine (first_shown at ts)
+  unfolding first_shown
+  shown-fine ts =
       by_cases IsFine (behind_many ts) (cases_of (behind_word (codes "down") ts) (first_at at ts) (λ after. first_down after))
       (λ x. first_nodes at x.value x.rest)
       (by_cases IsFine (behind_word (codes "down") ts) (first_at at ts) (λ after. first_down after) (at-fine ts) down-fine)
       (λ x. nodes-fine x.value x.rest)
 
-  one-fine : (p : Promise) → names_facts at.definition p ≡ true → all_fine (p ∷ [])
-  one-fine p h = and_from (names_facts at.definition p) true h refl
+  abbrev one_of : Term → Term → Term → Promise
+  one_of value key guard = promises.One (record { value = value; key = key; guard = guard })
 
-  more-fine : (parts : List Promise) (p : Promise) → all_fine parts → names_facts at.definition p ≡ true → all_fine (parts ++ p ∷ [])
-  more-fine parts p h k =
-      list_all-append (names_facts at.definition) parts (p ∷ [])
-      ∙ and_from (list_all (names_facts at.definition) parts) (list_all (names_facts at.definition) (p ∷ [])) h (one-fine p k)
+  -- a topic's facts are those of its expressions
+  topic-fine : (inner : Context) (ts : List Token) → Gives IsFine (topic_in inner ts)
+  unfolding topic_in
+  topic-fine inner ts =
+      onward IsFine (first_value inner ts) (λ v. first_key inner v.rest >>= λ k. first_guard inner k.rest >>= λ g. found (one_of v.value k.value g.value) g.rest)
+      (λ v is. onward IsFine (first_key inner v.rest) (λ k. first_guard inner k.rest >>= λ g. found (one_of v.value k.value g.value) g.rest)
+      (λ k key. onward IsFine (first_guard inner k.rest) (λ g. found (one_of v.value k.value g.value) g.rest)
+      (λ g guard. fine (one_of v.value k.value g.value) g.rest (facts-One at.definition (record { value = v.value; key = k.value; guard = g.value })))))
 
-  joined-fine : (joint : Joint) (parts : List Promise) → all_fine parts → names_facts at.definition (of_parts joint parts) ≡ true
-  joined-fine joints.Or parts h = facts-Any at.definition parts ∙ h
-  joined-fine joints.And parts h = facts-All at.definition parts ∙ h
+  asked-fine : (timed : Bool) (ts : List Token) → Gives IsFine (first_one at timed ts)
+  asked-fine true ts = nothing IsFine
+  asked-fine false ts =
+      onward IsFine (behind_word (codes "of") ts) (λ after. topic_in (asking at) after) (λ after is. topic-fine (asking at) after)
 
-  timed-fine : (time : Time) (p : Promise) → names_facts at.definition p ≡ true → names_facts at.definition (at_times time p) ≡ true
-  timed-fine times.Always p h = facts-Always at.definition (p ∷ []) ∙ one-fine p h
-  timed-fine times.Ever p h = facts-Ever at.definition (p ∷ []) ∙ one-fine p h
+  unit-fine : (timed : Bool) (ts : List Token) → Gives IsFine (first_unit at timed ts)
+  unfolding first_unit
+  unit-fine timed ts =
+      by_cases IsFine (behind_one_value ts) (first_shown at ts) (λ after. first_one at timed after) (shown-fine ts) (λ after. asked-fine timed after)
 
-  -- the parts before a joint name such facts alone
-  abbrev IsReady : Next → Type 0
-  IsReady (Joined joint) = ⊤
-  IsReady (Part joint) = ⊤
-  IsReady (More joint parts) = all_fine parts
-  IsReady Whole = ⊤
-  IsReady Round = ⊤
-  IsReady (Timed time) = ⊤
-
-  read-fine : (n : ℕ) (timed : Bool) (next : Next) (ts : List Token) → IsReady next → Gives IsFine (read at n timed next ts)
-  unfolding read
-  read-fine zero timed next ts ready = nothing IsFine
-  read-fine (suc n) timed (Joined joint) ts ready =
-      onward IsFine (read at n timed (Part joint) ts)
-      (λ x. cases_of (behind_joint joint x.rest) (found x.value x.rest) (λ after. read at n timed (More joint (x.value ∷ [])) after))
-      (λ x is. let part = read-fine n timed (Part joint) ts tt x is in
-      by_cases IsFine (behind_joint joint x.rest) (found x.value x.rest) (λ after. read at n timed (More joint (x.value ∷ [])) after)
-      (fine x.value x.rest part.names) (λ after. read-fine n timed (More joint (x.value ∷ [])) after (one-fine x.value part.names)))
-  read-fine (suc n) timed (Part joints.Or) ts ready = read-fine n timed (Joined joints.And) ts tt
-  read-fine (suc n) timed (Part joints.And) ts ready = read-fine n timed Whole ts tt
-  read-fine (suc n) timed (More joint parts) ts ready =
-      onward IsFine (read at n timed (Part joint) ts)
-      (λ x. cases_of (behind_joint joint x.rest) (found (of_parts joint (parts ++ x.value ∷ [])) x.rest)
-      (λ after. read at n timed (More joint (parts ++ x.value ∷ [])) after))
-      (λ x is. let part = read-fine n timed (Part joint) ts tt x is in
-      let all = more-fine parts x.value ready part.names in
-      by_cases IsFine (behind_joint joint x.rest) (found (of_parts joint (parts ++ x.value ∷ [])) x.rest)
-      (λ after. read at n timed (More joint (parts ++ x.value ∷ [])) after)
-      (fine (of_parts joint (parts ++ x.value ∷ [])) x.rest (joined-fine joint (parts ++ x.value ∷ []) all))
-      (λ after. read-fine n timed (More joint (parts ++ x.value ∷ [])) after all))
-  read-fine (suc n) timed Whole ts ready =
-      by_cases IsFine (behind_sign signs.OpenRound ts) (cases_of (behind_time ts) (first_unit at ts) (λ x. read at n timed (Timed x.value) x.rest))
-      (λ after. read at n timed Round after)
-      (by_cases IsFine (behind_time ts) (first_unit at ts) (λ x. read at n timed (Timed x.value) x.rest) (unit-fine ts)
-      (λ x. read-fine n timed (Timed x.value) x.rest tt))
-      (λ after. read-fine n timed Round after tt)
-  read-fine (suc n) timed Round ts ready =
-      onward IsFine (read at n timed (Joined joints.Or) ts) (λ x. behind_sign signs.CloseRound x.rest >>= λ rest. found x.value rest)
-      (λ x is. let inner = read-fine n timed (Joined joints.Or) ts tt x is in
-      onward IsFine (behind_sign signs.CloseRound x.rest) (λ rest. found x.value rest) (λ rest closes. fine x.value rest inner.names))
-  read-fine (suc n) true (Timed time) ts ready = nothing IsFine
-  read-fine (suc n) false (Timed time) ts ready =
-      onward IsFine (read at n true Whole ts) (λ x. found (at_times time x.value) x.rest)
-      (λ x is. let inner = read-fine n true Whole ts tt x is in fine (at_times time x.value) x.rest (timed-fine time x.value inner.names))
+  kept : properties.IsKept (names_facts at.definition)
+  kept = kept-whole (facts_step at.definition) (of-parts at.definition)
 
   pub reads-fine : (ts rest : List Token) (p : Promise) → IsRead at false (Joined joints.Or) ts (found p rest) → names_facts at.definition p ≡ true
-  reads-fine ts rest p h =
-      let n = suc (steps (Joined joints.Or) ts) in
-      let is = read-fine n false (Joined joints.Or) ts tt (record { value = p; rest = rest }) (h.runs n (omega arith)) in
-      is.names
-
-  -- what is read to the end
-  to-end : (p : Promise) (rest : List Token) → names_facts at.definition p ≡ true → Gives (λ q. names_facts at.definition q ≡ true) (to_the_end p rest)
-  to-end p [] names = given (λ q. names_facts at.definition q ≡ true) p names
-  to-end p (t ∷ ts) names = nothing (λ q. names_facts at.definition q ≡ true)
+  reads-fine = properties.reads-fine (names_facts at.definition) at kept unit-fine
 
   pub promise-fine : (ts : List Token) (p : Promise) → promise_of at ts ≡ Some p → names_facts at.definition p ≡ true
-  unfolding promise_of
-  promise-fine ts p h =
-      let n = suc (steps (Joined joints.Or) ts) in
-      onward (λ q. names_facts at.definition q ≡ true) (read at n false (Joined joints.Or) ts) (λ x. to_the_end x.value x.rest)
-      (λ x is. let fine_one = read-fine n false (Joined joints.Or) ts tt x is in to-end x.value x.rest fine_one.names) p h
+  promise-fine = properties.promise-fine (names_facts at.definition) at kept unit-fine

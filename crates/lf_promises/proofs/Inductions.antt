@@ -2,7 +2,7 @@
 use Rattle.std.proofs.Common.{List, [], ◌∷◌, sym, subst, map}
 use Rattle.std.specs.List.{AllByRecursion}
 use Rattle.lf_promises.specs.declared.promise.Promise.{Promise}
-use Rattle.lf_promises.specs.declared.promise.Promise.TheVariants.{rolls-All, rolls-Any, rolls-Always, rolls-Ever, rolls-Nodes, rolls-Down, rolls-At}
+use Rattle.lf_promises.specs.declared.promise.Promise.TheVariants.{rolls-All, rolls-Any, rolls-Always, rolls-Ever, rolls-Nodes, rolls-Down, rolls-At, rolls-One}
 use Rattle.lf_promises.specs.declared.promise.Promise.TheOpen.{Promise-F}
 use Rattle.lf_promises.specs.declared.promise.Promise.TheFolds.{ind-Promise, map-Promise}
 use Rattle.lf_promises.specs.declared.promise.Promise.TheViews.{roll-Promise}
@@ -26,6 +26,7 @@ module _ (Q : Promise → Type 0) where
   layer steps (Promise-F.Nodes many fact of) = subst Q (sym (rolls-Nodes many fact of)) (steps.nodes many fact of)
   layer steps (Promise-F.Down n) = subst Q (sym (rolls-Down n)) (steps.down n)
   layer steps (Promise-F.At n fact) = subst Q (sym (rolls-At n fact)) (steps.shows n fact)
+  layer steps (Promise-F.One topic) = subst Q (sym (rolls-One topic)) (steps.one topic)
 
   pub by_induction : Steps Q → (p : Promise) → Q p
   by_induction steps = ind-Promise Q (λ x y is. subst (λ z. Q (roll-Promise z)) is (layer steps y))

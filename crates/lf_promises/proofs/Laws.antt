@@ -1,4 +1,4 @@
--- What crates above may cite of this one beside its contracts: the facts that a promise names, by what it is, and induction.
+-- What crates above may cite of this one beside its contracts: the facts that a promise names, by what it is, what is read, and induction.
 use Rattle.std.proofs.Common.{◌≡◌, ℕ, true, List, Option, Some}
 use Rattle.std.specs.List.{list_all}
 use Rattle.lf_rules.specs.Terms.{Term}
@@ -12,8 +12,10 @@ use Rattle.lf_grammar.specs.Places.{Context}
 use Rattle.lf_promises.specs.Facts.{has_told, names_facts}
 use Rattle.lf_promises.specs.Inductions.{Steps}
 use Rattle.lf_promises.specs.Promises.{promise_of}
+use Rattle.lf_promises.specs.Topics.{asks_sorted}
 use Rattle.lf_promises.proofs.FactLemmas as facts
 use Rattle.lf_promises.proofs.Inductions as inductions
+use Rattle.lf_promises.proofs.TopicLemmas as topics
 
 module _ (d : Definition) where
   -- a promise that all parts are kept names facts of the definition alone where each part does
@@ -43,6 +45,10 @@ module _ (d : Definition) where
 -- the promise that tokens are names facts of its definition alone
 pub promise-named : (at : Context) (ts : List Token) (p : Promise) → promise_of at ts ≡ Some p → names_facts at.definition p ≡ true
 promise-named = facts.promise-fine
+
+-- and the topics that it asks of have a value and a key of some sort, and a truth as their guard
+pub promise-asked : (at : Context) (ts : List Token) (p : Promise) → promise_of at ts ≡ Some p → asks_sorted at.definition p ≡ true
+promise-asked = topics.promise-asked
 
 -- what holds of each kind of promise whose parts have it holds of every promise
 pub by_induction : (Q : Promise → Type 0) → Steps Q → (p : Promise) → Q p

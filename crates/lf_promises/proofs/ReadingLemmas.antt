@@ -104,12 +104,12 @@ module _ (at : Context) (timed : Bool) where
     unit-timed time after no_bracket begins shorter inner =
         from_steps Whole ts o (λ n enough. rw (no_bracket, begins) (inner.runs n (omega arith)))
 
-    pub unit-plain : behind_sign signs.OpenRound ts ≡ None → behind_time ts ≡ None → first_unit at ts ≡ o → IsRead at timed Whole ts o
+    pub unit-plain : behind_sign signs.OpenRound ts ≡ None → behind_time ts ≡ None → first_unit at timed ts ≡ o → IsRead at timed Whole ts o
     unfolding read
     unit-plain no_bracket no_time is = from_steps Whole ts o (λ n enough. rw (no_bracket, no_time) is)
 
   pub unit-found : (ts : List Token) → behind_sign signs.OpenRound ts ≡ None → behind_time ts ≡ None
-      → (result : Result (Promise × Bor (List Token)) Unread) → Finds (first_unit at ts) result → Reads at timed Whole ts result
+      → (result : Result (Promise × Bor (List Token)) Unread) → Finds (first_unit at timed ts) result → Reads at timed Whole ts result
   unit-found ts no_bracket no_time (Ok r) h = unit-plain ts _ no_bracket no_time h
   unit-found ts no_bracket no_time (Err e) h = λ fault. unit-plain ts None no_bracket no_time (h fault)
 

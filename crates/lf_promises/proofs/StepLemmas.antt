@@ -4,6 +4,8 @@ use Rattle.std.proofs.Common.{codes, Option, Some, None, refl, sym, ap, ◌∙�
 use Rattle.std.specs.Prelude.{if◌then◌else◌, nat_lt}
 use Rattle.std.specs.Str.{bytes_eq}
 use Rattle.std.proofs.lemmas.Option.{none-some}
+use Rattle.lf_rules.specs.declared.expr.Leaf.TheVariants as leaves
+use Rattle.lf_rules.specs.Terms as terms
 use Rattle.lf_rules.specs.Terms.{Term}
 use Rattle.lf_grammar.specs.declared.sign.Sign.{Sign}
 use Rattle.lf_grammar.specs.declared.sign.Sign.TheVariants as signs
@@ -12,7 +14,7 @@ use Rattle.lf_grammar.specs.declared.token.Token.TheVariants as tokens
 use Rattle.lf_grammar.specs.Places.{Context}
 use Rattle.lf_grammar.specs.Typing.{◌>>=◌, as_set}
 use Rattle.lf_grammar.specs.Fronts.{behind_word, behind_sign, same_sign}
-use Rattle.lf_grammar.specs.Expressions.{cases_of, first_sum}
+use Rattle.lf_grammar.specs.Expressions.{cases_of, first_operand, first_sum}
 use Rattle.lf_rules.specs.declared.definition.Definition.{Definition}
 use Rattle.lf_promises.specs.declared.fronts.Time.{Time}
 use Rattle.lf_promises.specs.declared.fronts.Time.TheVariants as times
@@ -21,10 +23,12 @@ use Rattle.lf_promises.specs.declared.reading.Joint.TheVariants as joints
 use Rattle.lf_promises.specs.declared.promise.Many.{Many}
 use Rattle.lf_promises.specs.declared.promise.Many.TheVariants as manys
 use Rattle.lf_promises.specs.declared.promise.Promise.{Promise}
-use Rattle.lf_promises.specs.Fronts.{Found, found, behind_time, behind_many, behind_at_most_one, first_node, first_named, first_fact, fact_of, opposite}
-use Rattle.lf_promises.specs.Units.{set_of, first_group, first_nodes, first_down, first_at, first_unit}
+use Rattle.lf_promises.specs.Fronts.{Found, found, behind_time, behind_many, behind_at_most_one, behind_one_value, first_node, first_named, first_fact}
+use Rattle.lf_promises.specs.Fronts.{fact_of, opposite}
+use Rattle.lf_promises.specs.Units.{set_of, first_group, first_nodes, first_down, first_at, first_shown, first_unit}
+use Rattle.lf_promises.specs.Units.{asking, sized, truth_by, first_value, first_key, first_guard, topic_in, first_one}
 use Rattle.lf_promises.specs.Promises.{Next, Joined, Part, More, Whole, Round, Timed, behind_joint, of_parts, at_times, read, depth_of, steps}
-use Rattle.lf_grammar.proofs.Laws.{sum-shorter}
+use Rattle.lf_grammar.proofs.Laws.{operand-shorter, sum-shorter}
 
 -- ---- what stands before a step
 
@@ -128,6 +132,12 @@ many-shorter ts e =
     (λ after is g. omega (arith, word-shorter (codes "no") ts is, rest-found manys.No after g)))
     (λ after is f. omega (arith, word-shorter (codes "each") ts is, rest-found manys.Each after f))
 
+one-value-shorter : {rest : List Token} (ts : List Token) → behind_one_value ts ≡ Some rest → length rest ≤ length ts
+unfolding behind_one_value
+one-value-shorter ts e =
+    let i = step-inv (behind_word (codes "one") ts) (λ after. behind_word (codes "value") after) e in
+    omega (arith, word-shorter (codes "one") ts i.1, word-shorter (codes "value") i.0 i.2)
+
 node-shorter : {x : Found ℕ} (ts : List Token) → first_node ts ≡ Some x → length x.rest ≤ length ts
 unfolding first_node
 node-shorter [] e = absurd (none-some _ e)
@@ -188,14 +198,61 @@ module _ (at : Context) where
       let k = step-inv (first_node j.0) _ j.2 in
       omega (arith, fact-shorter at.definition ts i.1, word-shorter (codes "at") i.0.rest j.1, node-shorter j.0 k.1, rest-found _ k.0.rest k.2)
 
-  unit-shorter : (ts : List Token) (x : Found Promise) → first_unit at ts ≡ Some x → length x.rest ≤ length ts
-  unfolding first_unit
-  unit-shorter ts x e =
+  shown-shorter : (ts : List Token) (x : Found Promise) → first_shown at ts ≡ Some x → length x.rest ≤ length ts
+  unfolding first_shown
+  shown-shorter ts x e =
       cases-go (behind_many ts) (cases_of (behind_word (codes "down") ts) (first_at at ts) (λ after. first_down after)) (λ y. first_nodes at y.value y.rest) e
       (λ none f. cases-go (behind_word (codes "down") ts) (first_at at ts) (λ after. first_down after) f
       (λ none g. at-shorter ts x g)
       (λ after is g. omega (arith, word-shorter (codes "down") ts is, down-shorter after x g)))
       (λ y is f. omega (arith, many-shorter ts is, nodes-shorter y.value y.rest x f))
+
+  value-shorter : (ts : List Token) → {x : Found Term} → first_value at ts ≡ Some x → length x.rest ≤ length ts
+  unfolding first_value
+  value-shorter ts e =
+      let i = step-inv (first_operand at ts) (λ x. sized x.said.term >>= λ term. found term x.rest) e in
+      let j = step-inv (sized i.0.said.term) (λ term. found term i.0.rest) i.2 in
+      omega (arith, operand-shorter at ts i.0 i.1, rest-found j.0 i.0.rest j.2)
+
+  key-shorter : (ts : List Token) → {x : Found Term} → first_key at ts ≡ Some x → length x.rest ≤ length ts
+  unfolding first_key
+  key-shorter ts e =
+      cases-go (behind_word (codes "per") ts) (found (terms.Leaf (leaves.Number 0)) ts) (λ after. first_value at after) e
+      (λ none f. rest-found (terms.Leaf (leaves.Number 0)) ts f)
+      (λ after is f. omega (arith, word-shorter (codes "per") ts is, value-shorter after f))
+
+  guard-shorter : (ts : List Token) → {x : Found Term} → first_guard at ts ≡ Some x → length x.rest ≤ length ts
+  unfolding first_guard
+  guard-shorter ts e =
+      cases-go (behind_word (codes "where") ts) (found (terms.Leaf (leaves.Truth true)) ts)
+      (λ after. first_operand at after >>= λ x. truth_by x.said.sort x.said.term >>= λ term. found term x.rest) e
+      (λ none f. rest-found (terms.Leaf (leaves.Truth true)) ts f)
+      (λ after is f.
+      let i = step-inv (first_operand at after) (λ x. truth_by x.said.sort x.said.term >>= λ term. found term x.rest) f in
+      let j = step-inv (truth_by i.0.said.sort i.0.said.term) (λ term. found term i.0.rest) i.2 in
+      omega (arith, word-shorter (codes "where") ts is, operand-shorter at after i.0 i.1, rest-found j.0 i.0.rest j.2))
+
+  topic-shorter : (ts : List Token) (x : Found Promise) → topic_in at ts ≡ Some x → length x.rest ≤ length ts
+  unfolding topic_in
+  topic-shorter ts x e =
+      let i = step-inv (first_value at ts) _ e in
+      let j = step-inv (first_key at i.0.rest) _ i.2 in
+      let k = step-inv (first_guard at j.0.rest) _ j.2 in
+      omega (arith, value-shorter ts i.1, key-shorter i.0.rest j.1, guard-shorter j.0.rest k.1, rest-found _ k.0.rest k.2)
+
+one-shorter : (at : Context) (timed : Bool) (ts : List Token) (x : Found Promise) → first_one at timed ts ≡ Some x → length x.rest ≤ length ts
+one-shorter at true ts x e = absurd (none-some _ e)
+one-shorter at false ts x e =
+    let i = step-inv (behind_word (codes "of") ts) (λ after. topic_in (asking at) after) e in
+    omega (arith, word-shorter (codes "of") ts i.1, topic-shorter (asking at) i.0 x i.2)
+
+module _ (at : Context) where
+  unit-shorter : (timed : Bool) (ts : List Token) (x : Found Promise) → first_unit at timed ts ≡ Some x → length x.rest ≤ length ts
+  unfolding first_unit
+  unit-shorter timed ts x e =
+      cases-go (behind_one_value ts) (first_shown at ts) (λ after. first_one at timed after) e
+      (λ none f. shown-shorter at ts x f)
+      (λ after is f. omega (arith, one-value-shorter ts is, one-shorter at timed after x f))
 
   promise-shorter : (n : ℕ) (timed : Bool) (next : Next) (ts : List Token) (x : Found Promise) → read at n timed next ts ≡ Some x
       → length x.rest ≤ length ts
@@ -226,9 +283,9 @@ module _ (at : Context) where
       ))
   promise-shorter (suc n) timed Whole ts x e =
       cases-go (behind_sign signs.OpenRound ts)
-      (cases_of (behind_time ts) (first_unit at ts) (λ y. read at n timed (Timed y.value) y.rest)) (λ after. read at n timed Round after) e
-      (λ none f. cases-go (behind_time ts) (first_unit at ts) (λ y. read at n timed (Timed y.value) y.rest) f
-      (λ none g. unit-shorter ts x g)
+      (cases_of (behind_time ts) (first_unit at timed ts) (λ y. read at n timed (Timed y.value) y.rest)) (λ after. read at n timed Round after) e
+      (λ none f. cases-go (behind_time ts) (first_unit at timed ts) (λ y. read at n timed (Timed y.value) y.rest) f
+      (λ none g. unit-shorter timed ts x g)
       (λ y is g. omega (arith, time-shorter ts is, promise-shorter n timed (Timed y.value) y.rest x g)))
       (λ after is f. omega (arith, sign-shorter signs.OpenRound ts is, promise-shorter n timed Round after x f))
   promise-shorter (suc n) timed Round ts x e =

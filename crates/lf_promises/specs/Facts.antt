@@ -46,7 +46,8 @@ facts_step d (Promise-F.Ever parts) = list_all (λ b. b) parts
 facts_step d (Promise-F.Nodes many fact of) = has_told d fact.told
 facts_step d (Promise-F.Down n) = true
 facts_step d (Promise-F.At n fact) = has_told d fact.told
+facts_step d (Promise-F.One topic) = true
 
--- each fact that it names is one of the definition's, denied or not
+-- each fact that it names is one of the definition's, denied or not; of the expressions of a topic nothing is asked
 abbrev pub names_facts : Definition → Promise → Bool
 names_facts d = fold-Promise Bool (facts_step d)

@@ -40,6 +40,10 @@ behind_many ts =
     (λ after. found manys.No after))
     (λ after. found manys.Each after)
 
+-- the words for one value of something. A fact may be named `one`, too
+unfoldable pub behind_one_value : List Token → Option (List Token)
+behind_one_value ts = behind_word (codes "one") ts >>= λ after. behind_word (codes "value") after
+
 -- the number of a node
 unfoldable pub first_node : List Token → Option (Found ℕ)
 first_node (tokens.Number n ∷ rest) = if nat_lt n 8 then found n rest else None

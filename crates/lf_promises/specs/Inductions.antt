@@ -1,6 +1,7 @@
 -- What is shown for each kind of promise holds of all promises.
 use Rattle.std.specs.Prelude.{ℕ, List, Option}
 use Rattle.std.specs.List.{AllByRecursion}
+use Rattle.lf_rules.specs.declared.topic.Topic.{Topic}
 use Rattle.lf_rules.specs.Terms.{Term}
 use Rattle.lf_rule_machine.specs.declared.fact.Fact.{Fact}
 use Rattle.lf_promises.specs.declared.promise.Many.{Many}
@@ -16,3 +17,4 @@ pub record Steps (Q : Promise → Type 0) : Type 0 where
   pub nodes : (many : Many) (fact : Fact) (of : Option Term) → Q (promises.Nodes many fact of)
   pub down : (n : ℕ) → Q (promises.Down n)
   pub shows : (n : ℕ) (fact : Fact) → Q (promises.At n fact)
+  pub one : (topic : Topic) → Q (promises.One topic)

@@ -4,3 +4,4 @@ pub mod Promises
 pub mod Readings
 pub mod Facts
 pub mod Inductions
+pub mod Topics

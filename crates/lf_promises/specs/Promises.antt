@@ -54,7 +54,7 @@ module _ (at : Context) where
       (found (of_parts joint (parts ++ x.value ∷ [])) x.rest) (λ after. read n timed (More joint (parts ++ x.value ∷ [])) after)
   read (suc n) timed Whole ts =
       cases_of (behind_sign signs.OpenRound ts)
-      (cases_of (behind_time ts) (first_unit at ts) (λ x. read n timed (Timed x.value) x.rest)) (λ after. read n timed Round after)
+      (cases_of (behind_time ts) (first_unit at timed ts) (λ x. read n timed (Timed x.value) x.rest)) (λ after. read n timed Round after)
   read (suc n) timed Round ts = read n timed (Joined joints.Or) ts >>= λ x. behind_sign signs.CloseRound x.rest >>= λ rest. found x.value rest
   read (suc n) true (Timed time) ts = None
   read (suc n) false (Timed time) ts = read n true Whole ts >>= λ x. found (at_times time x.value) x.rest

@@ -6,7 +6,7 @@ use thiserror::Error;
 /// Why tokens are no promise.
 #[derive(Clone, Copy, Debug, PartialEq, Eq, Error)]
 pub enum PromiseError {
-    #[error("no promise, which is of units as `each FACT`, `no FACT of SET`, `some FACT`, `at most one FACT`, `down NODE` and `FACT at NODE`")]
+    #[error("no promise, which has units as `each FACT`, `no FACT of SET`, `some FACT`, `at most one FACT`, `down NODE`, `FACT at NODE` and `one value of X`")]
     Unfit(Slip),
     #[error("out of memory")]
     Memory,

@@ -1,7 +1,7 @@
 //! What a unit of a promise begins with.
 
 ghost use Rattle.std.specs.Prelude.{◌≡◌, ◌<◌, ◌≤◌, length, IfSome, IfOk, MatchOption, Some, None};
-ghost use Rattle.lf_promises.specs.Fronts.{behind_time, behind_many, behind_at_most_one, first_node, first_named, first_fact, fact_of};
+ghost use Rattle.lf_promises.specs.Fronts.{behind_time, behind_many, behind_at_most_one, behind_one_value, first_node, first_named, first_fact, fact_of};
 ghost use Rattle.lf_promises.specs.Readings.{Begins, Finds};
 
 use crate::Many;
@@ -62,6 +62,16 @@ fn behind_at_most_one(tokens: &[Token]) -> Option<&[Token]>
     let most = behind_word(tokens, "at")?;
     let single = behind_word(most, "most")?;
     behind_word(single, "one")
+}
+
+/// The tokens behind `one value`.
+#[tactic(auto, unfolding(crate::specs::Fronts::behind_one_value))]
+pub(crate) fn behind_one_value(tokens: &[Token]) -> Option<&[Token]>
+    ensures behind { MatchOption result (behind_one_value tokens.now ≡ None) (λ rest. behind_one_value tokens.now ≡ Some rest.now) }
+    ensures shorter { IfSome result (λ rest. length rest.now < length tokens.now) }
+{
+    let value = behind_word(tokens, "one")?;
+    behind_word(value, "value")
 }
 
 /// A node that a promise names, and the tokens behind its number.

@@ -12,7 +12,8 @@ use lf_rules::{Definition, Kind, Variable};
 /// Whether each fact that a promise names is one of the definition's, denied or not.
 ///
 /// A named guard, a variable and its word are there by their numbers, which are at most 255, and a flag is a variable of that kind. A table is no fact, and
-/// its words are none. That a value was clamped or a note replaced is a fact of every definition.
+/// its words are none. That a value was clamped or a note replaced is a fact of every definition. What a topic's expressions name isn't looked at: of a promise
+/// that is read, `read_promise` says that they are of some sort.
 #[cycle(naming)]
 pub fn names_facts(definition: &Definition, promise: &Promise) -> bool
     ensures { result ≡ names_facts definition.now promise.now }
@@ -21,7 +22,7 @@ pub fn names_facts(definition: &Definition, promise: &Promise) -> bool
         Promise::All(parts) | Promise::Any(parts) | Promise::Always(parts) | Promise::Ever(parts) =>
             { all_name_facts(definition, parts.as_slice()) }
         Promise::Nodes { fact, .. } | Promise::At { fact, .. } => has_told(definition, fact.told),
-        Promise::Down { .. } => true,
+        Promise::Down { .. } | Promise::One(_) => true,
     }
 }
 

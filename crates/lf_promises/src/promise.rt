@@ -2,7 +2,7 @@
 
 use lf_list::Listed;
 use lf_rule_machine::Fact;
-use lf_rules::Expr;
+use lf_rules::{Expr, Topic};
 
 /// What a protocol promises, as it is written. It is kept at the last step of a run, or at other steps where it says so.
 #[derive(Debug, Drop)]
@@ -30,6 +30,9 @@ pub enum Promise {
         node: u32,
         fact: Fact,
     },
+    /// What the nodes enter under a topic by their states after all steps at which they are up is one value for each key. What is read has it outside of
+    /// `Always` and `Ever`.
+    One(Topic),
 }
 
 /// The parts of a promise.

@@ -3,6 +3,7 @@
 ghost use Rattle.std.specs.Prelude.{◌≡◌, ◌≢◌, ◌<◌, ◌≤◌, [], ◌∷◌, ◌++◌, length, IfSome, IfOk, MatchOption, MatchResult, Some, None, true};
 ghost use Rattle.lf_grammar.specs.Places.{context_of};
 ghost use Rattle.lf_promises.specs.Facts.{names_facts};
+ghost use Rattle.lf_promises.specs.Topics.{asks_sorted};
 ghost use Rattle.lf_promises.specs.Promises.{Joined, Part, More, Whole, Round, Timed, behind_joint, of_parts, at_times, promise_of};
 ghost use Rattle.lf_promises.specs.Readings.{Reads};
 
@@ -35,6 +36,7 @@ pub fn read_promise(
     ensures value { MatchResult result (λ promise. promise_of (context_of place.now) tokens.now ≡ Some promise)
         (λ e. e ≢ PromiseError.Memory → promise_of (context_of place.now) tokens.now ≡ None) }
     ensures facts { IfOk result (λ promise. names_facts place.now.definition.now promise ≡ true) }
+    ensures asked { IfOk result (λ promise. asks_sorted place.now.definition.now promise ≡ true) }
 {
     match read_joined(alloc, place, false, Joint::Or, tokens) {
         Ok((promise, [])) => Ok(promise),
@@ -115,7 +117,7 @@ fn read_any_unit<'t>(alloc: Global, place: &Place<'_>, timed: bool, tokens: &'t 
         Some(after) => read_round(alloc, place, timed, after),
         None => match behind_time(tokens) {
             Some((time, after)) => read_timed(alloc, place, timed, time, after),
-            None => read_unit(alloc, place, tokens),
+            None => read_unit(alloc, place, timed, tokens),
         },
     }
 }

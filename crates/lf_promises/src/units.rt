@@ -1,22 +1,150 @@
 //! What promises are made of.
 
-ghost use Rattle.std.specs.Prelude.{◌≢◌, ◌≤◌, length, IfOk};
+ghost use Rattle.std.specs.Prelude.{◌≡◌, ◌≢◌, ◌≤◌, length, IfOk};
 ghost use Rattle.lf_grammar.specs.Places.{context_of};
 ghost use Rattle.lf_grammar.specs.Readings.{said};
-ghost use Rattle.lf_promises.specs.Units.{first_unit, first_nodes, first_group, set_of, first_down, first_at};
+ghost use Rattle.lf_promises.specs.Units.{first_unit, first_one, asking, topic_in, first_value, first_key, first_guard, sized, truth_by};
+ghost use Rattle.lf_promises.specs.Units.{first_shown, first_nodes, first_group, set_of, first_down, first_at};
 ghost use Rattle.lf_promises.specs.Readings.{Finds, Gives};
 
-use crate::fronts::{behind_many, read_fact, read_node};
+use crate::fronts::{behind_many, behind_one_value, read_fact, read_node};
 use crate::reading::Read;
 use crate::{Many, Promise};
-use lf_grammar::{Place, Slip, Token, Typed, Unread, Why, as_set, behind_word, read_sum, wrong};
-use lf_rules::{Expr, Sort};
+use lf_grammar::{
+    Place, Slip, Token, Typed, Unread, Why, as_set, behind_word, read_operand, read_sum, wrong,
+};
+use lf_rules::{Expr, Leaf, Scope, Sort, Topic, Within};
 use std::alloc::Global;
 
-/// Reads a unit that has no other promise in it.
+/// Reads a unit that has no other promise in it. `timed` says whether it stands behind `always` or `ever`.
 #[tactic(auto, unfolding(crate::specs::Units::first_unit))]
-pub(crate) fn read_unit<'t>(alloc: Global, place: &Place<'_>, tokens: &'t [Token]) -> Read<'t>
-    ensures unit { Finds (first_unit (context_of place.now) tokens.now) result }
+pub(crate) fn read_unit<'t>(
+    alloc: Global,
+    place: &Place<'_>,
+    timed: bool,
+    tokens: &'t [Token],
+) -> Read<'t>
+    ensures unit { Finds (first_unit (context_of place.now) timed tokens.now) result }
+    ensures shorter { IfOk result (λ r. length r.1.now ≤ length tokens.now) }
+{
+    match behind_one_value(tokens) {
+        Some(after) => read_one(alloc, place, timed, after),
+        None => read_shown(alloc, place, tokens),
+    }
+}
+
+/// Reads what is to have one value. It speaks of all steps, so it doesn't stand behind `always` or `ever`.
+fn read_one<'t>(alloc: Global, place: &Place<'_>, timed: bool, tokens: &'t [Token]) -> Read<'t>
+    ensures one { Finds (first_one (context_of place.now) timed tokens.now) result }
+    ensures shorter { IfOk result (λ r. length r.1.now ≤ length tokens.now) }
+{
+    if timed {
+        return Err(wrong(Why::Time, tokens.len().saturating_add(2)));
+    }
+    match behind_word(tokens, "of") {
+        Some(after) => read_topic(alloc, &asking(place), after),
+        None => Err(wrong(Why::Of, tokens.len())),
+    }
+}
+
+/// Where a topic stands: more may be named there than in the rest of a promise.
+fn asking<'a>(place: &Place<'a>) -> Place<'a>
+    ensures { context_of result ≡ asking (context_of place.now) }
+{
+    Place {
+        definition: place.definition,
+        names: place.names,
+        fields: place.fields,
+        scope: Scope::Outcome,
+        within: Within::Nothing,
+    }
+}
+
+/// Reads a value, its key and when it counts.
+#[tactic(auto, unfolding(crate::specs::Units::topic_in))]
+fn read_topic<'t>(alloc: Global, place: &Place<'_>, tokens: &'t [Token]) -> Read<'t>
+    ensures topic { Finds (topic_in (context_of place.now) tokens.now) result }
+    ensures shorter { IfOk result (λ r. length r.1.now ≤ length tokens.now) }
+{
+    let (value, after_value) = read_value(alloc, place, tokens)?;
+    let (key, after_key) = read_key(alloc, place, after_value)?;
+    let (guard, rest) = read_guard(alloc, place, after_key)?;
+    Ok((Promise::One(Topic { value, key, guard }), rest))
+}
+
+/// Reads a value of any sort.
+#[tactic(auto, unfolding(crate::specs::Units::first_value))]
+fn read_value<'t>(
+    alloc: Global,
+    place: &Place<'_>,
+    tokens: &'t [Token],
+) -> Result<(Expr, &'t [Token]), Unread>
+    ensures value { Finds (first_value (context_of place.now) tokens.now) result }
+    ensures shorter { IfOk result (λ r. length r.1.now ≤ length tokens.now) }
+{
+    let (value, rest) = read_operand(alloc, place, tokens)?;
+    Ok((sized(value)?, rest))
+}
+
+/// Reads the key behind `per`. Without it there is but one.
+#[tactic(auto, unfolding(crate::specs::Units::first_key))]
+fn read_key<'t>(
+    alloc: Global,
+    place: &Place<'_>,
+    tokens: &'t [Token],
+) -> Result<(Expr, &'t [Token]), Unread>
+    ensures key { Finds (first_key (context_of place.now) tokens.now) result }
+    ensures shorter { IfOk result (λ r. length r.1.now ≤ length tokens.now) }
+{
+    match behind_word(tokens, "per") {
+        Some(after) => read_value(alloc, place, after),
+        None => Ok((Expr::leaf(Leaf::Number(0)), tokens)),
+    }
+}
+
+/// Reads the truth behind `where`. Without it every point counts.
+#[tactic(auto, unfolding(crate::specs::Units::first_guard))]
+fn read_guard<'t>(
+    alloc: Global,
+    place: &Place<'_>,
+    tokens: &'t [Token],
+) -> Result<(Expr, &'t [Token]), Unread>
+    ensures guard { Finds (first_guard (context_of place.now) tokens.now) result }
+    ensures shorter { IfOk result (λ r. length r.1.now ≤ length tokens.now) }
+{
+    match behind_word(tokens, "where") {
+        Some(after) => {
+            let (value, rest) = read_operand(alloc, place, after)?;
+            Ok((truth_of(value)?, rest))
+        }
+        None => Ok((Expr::leaf(Leaf::Truth(true)), tokens)),
+    }
+}
+
+/// The expression that a value is, unless it is too large.
+fn sized(value: Typed) -> Result<Expr, Unread>
+    ensures { Gives (sized (said value).term) result }
+{
+    match Expr::new(value.tree) {
+        Some(expr) => Ok(expr),
+        None => Err(misfit(value.from, value.to)),
+    }
+}
+
+/// The expression that a truth is.
+fn truth_of(value: Typed) -> Result<Expr, Unread>
+    ensures { Gives (truth_by value.sort (said value).term) result }
+{
+    match value.sort {
+        Sort::Truth => sized(value),
+        _ => Err(misfit(value.from, value.to)),
+    }
+}
+
+/// Reads a unit of facts that nodes show, or of a node that isn't up.
+#[tactic(auto, unfolding(crate::specs::Units::first_shown))]
+fn read_shown<'t>(alloc: Global, place: &Place<'_>, tokens: &'t [Token]) -> Read<'t>
+    ensures shown { Finds (first_shown (context_of place.now) tokens.now) result }
     ensures shorter { IfOk result (λ r. length r.1.now ≤ length tokens.now) }
 {
     match behind_many(tokens) {
@@ -64,16 +192,13 @@ fn set_of(value: Typed) -> Result<Expr, Unread>
     ensures { Gives (set_of (said value)) result }
 {
     match value.sort {
-        Sort::Nodes => match Expr::new(value.tree) {
-            Some(set) => Ok(set),
-            None => Err(no_set(value.from, value.to)),
-        },
-        _ => Err(no_set(value.from, value.to)),
+        Sort::Nodes => sized(value),
+        _ => Err(misfit(value.from, value.to)),
     }
 }
 
-/// The refusal of a value that is no set, by how many tokens are left where it begins, and behind it.
-fn no_set(from: usize, to: usize) -> Unread
+/// The refusal of a value that isn't what may stand there, by how many tokens are left where it begins, and behind it.
+fn misfit(from: usize, to: usize) -> Unread
     ensures { result ≢ Unread.Memory }
 {
     Unread::Wrong(Slip {

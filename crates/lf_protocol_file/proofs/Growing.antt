@@ -7,7 +7,7 @@ use Rattle.lf_rules.specs.Forms.{is_from, has_words, is_kind, is_word_of, is_var
 use Rattle.lf_rules.specs.Forms.{is_assigned, is_whole, within_of, is_set, is_assignment, are_fields, are_sent, same_truth, is_send, is_rule_in, is_event}
 use Rattle.lf_rules.specs.Forms.{scope_of, sends_of, is_chain, is_shown}
 use Rattle.lf_rules.specs.Kinds.{sort_of}
-use Rattle.lf_rules.specs.Sorts.{same_sort, is_of, where_so, names_constants, names_state, names_lets, is_rule, constant_sort, let_sort, fact_sort}
+use Rattle.lf_rules.specs.Sorts.{same_sort, is_of, where_so, names_constants, names_state, names_lets, names_facts, is_rule, constant_sort, let_sort, fact_sort}
 use Rattle.lf_rules.specs.Sorts.{has_bodies, variable_sort, cell_sort, field_sort, word_sort, heard_sort, leaf_sort, row_sort, unary_sort, made, binary_sort}
 use Rattle.lf_rules.specs.Sorts.{at_sort, comes_of, over_sort, tree_sort, is_a}
 use Rattle.lf_rules.specs.Tables.{is_each_node, is_cells, is_table}
@@ -128,7 +128,7 @@ module _ {d e : Definition} (g : Grows d e) where
   leaf-stays scope within (leaves.Let i) s h =
       stays (λ o. where_so (names_lets scope) (let_sort o)) (where-none (names_lets scope)) (slice_get d.lets i) (slice_get e.lets i) (g.lets i) s h
   leaf-stays scope within (leaves.Fact i) s h =
-      stays (λ o. where_so (is_rule scope) (fact_sort o)) (where-none (is_rule scope)) (slice_get d.facts i) (slice_get e.facts i) (g.facts i) s h
+      stays (λ o. where_so (names_facts scope) (fact_sort o)) (where-none (names_facts scope)) (slice_get d.facts i) (slice_get e.facts i) (g.facts i) s h
   leaf-stays scope within other s h = h
 
   row-stays : (scope : Scope) (x : Row) (s : Sort) → row_sort d scope x ≡ Some s → row_sort e scope x ≡ Some s

@@ -82,6 +82,7 @@ fn used_by_promise(promise: &Promise, room: u32, uses: Uses) -> Uses {
         }
         Promise::At { fact, .. } => with_fact(*fact, uses),
         Promise::Down { .. } => uses,
+        Promise::One(topic) => uses.and(&topic.value).and(&topic.key).and(&topic.guard),
     }
 }
 

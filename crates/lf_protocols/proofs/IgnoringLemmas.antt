@@ -4,7 +4,6 @@ use Rattle.std.specs.Prelude.{◌⊎◌, ◌≢◌, ◌==◌, fold, not, slice_i
 use Rattle.std.proofs.lemmas.Bool.{both_ways, ne_eqb}
 use Rattle.std.proofs.lemmas.List.Folds.{fold_stays}
 use Rattle.lf_sim.specs.declared.letter.Letter.{Letter}
-use Rattle.lf_sim.specs.declared.out.Stepped.{Stepped}
 use Rattle.lf_protocols.specs.declared.protocol.Kind.{Kind}
 use Rattle.lf_protocols.specs.declared.protocol.Kind.TheVariants as kinds
 use Rattle.lf_protocols.specs.declared.state.State.{State}

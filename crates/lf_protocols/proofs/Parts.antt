@@ -18,6 +18,7 @@ use Rattle.lf_rules.specs.contracts.rule.Rule as rule
 use Rattle.lf_rules.specs.contracts.rule.Chain as chain
 use Rattle.lf_rules.specs.contracts.definition.Definition as definition
 use Rattle.lf_rules.specs.contracts.rules.Rules as rules
+use Rattle.lf_rules.specs.contracts.topic.Topic as topic
 use Rattle.lf_rule_machine.specs.contracts.indexed.Indexed as indexed
 use Rattle.lf_rule_machine.specs.contracts.machine.Ruled as ruled
 use Rattle.lf_protocols.specs.contracts.protocol.Kind as which
@@ -130,11 +131,17 @@ indexed_send = search (rules_send, rules_sync, crosses, sendable) depth 60 fits 
 pub indexed_sync : IsSync indexed.the_row
 indexed_sync = search (rules_send, rules_sync, crosses, sendable) depth 60 fits 20000
 
+pub topic_send : IsSend topic.the_row
+topic_send = search (expr_send, crosses, sendable) depth 60 fits 20000
+
+pub topic_sync : IsSync topic.the_row
+topic_sync = search (expr_sync, crosses, sendable) depth 60 fits 20000
+
 pub ruled_send : IsSend ruled.the_row
-ruled_send = search (indexed_send, indexed_sync, crosses, sendable) depth 60 fits 20000
+ruled_send = search (indexed_send, indexed_sync, topic_send, topic_sync, crosses, sendable) depth 60 fits 20000
 
 pub ruled_sync : IsSync ruled.the_row
-ruled_sync = search (indexed_send, indexed_sync, crosses, sendable) depth 60 fits 20000
+ruled_sync = search (indexed_send, indexed_sync, topic_send, topic_sync, crosses, sendable) depth 60 fits 20000
 
 pub which_field_send : IsSend (which.the_field).row
 which_field_send = search (ruled_send, crosses, sendable) depth 60 fits 20000

@@ -1,5 +1,6 @@
 -- Each protocol's machine, put together from its table.
-use Rattle.std.specs.Prelude.{ℕ, Bool, true, false, not, ◌==◌, nat_le, if◌then◌else◌, List}
+use Rattle.std.specs.Prelude.{ℕ, Bool, true, false, not, ◌==◌, nat_le, if◌then◌else◌, List, length, Option, None}
+use Rattle.lf_sim.specs.declared.entry.Entry.{Entry}
 use Rattle.lf_sim.specs.declared.letter.Letter.{Letter}
 use Rattle.lf_sim.specs.declared.out.Stepped.{Stepped}
 use Rattle.lf_sim.specs.Machines.{Rules}
@@ -107,6 +108,16 @@ abbrev pub shows_of : Kind → ℕ → State → Fact → Bool
 shows_of (kinds.Ruled m) node (states.Ruled own) (facts.Ruled fact) = rules.shows_of m.definition m.nodes m.given node own fact
 shows_of k node last fact = state_shows last fact
 
+-- how many topics a protocol has: none but those that a scenario of a protocol of rules asks about
+abbrev pub topics_of : Kind → ℕ
+topics_of (kinds.Ruled m) = length m.topics
+topics_of k = 0
+
+-- what a state enters under a topic: of rules by the protocol, which says what its topics are
+abbrev pub entry_of : Kind → ℕ → State → ℕ → Option Entry
+entry_of (kinds.Ruled m) node (states.Ruled own) topic = rules.entry_of m.definition m.nodes m.given m.topics node own topic
+entry_of k node last topic = None
+
 abbrev pub rules_of : Kind → Rules State Note Fact
 rules_of k = record {
   nodes = nodes_of k;
@@ -114,4 +125,5 @@ rules_of k = record {
   step = step_of k;
   wake = wake_of k;
   shows = shows_of k;
+  entry = entry_of k;
 }

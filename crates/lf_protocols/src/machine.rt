@@ -7,7 +7,7 @@ use crate::{
     Fact, Holding, Kind, Note, Phase, Protocol, Relay, State, commit, primary_backup, redundant,
     retry, ruled, three_phase, two_phase,
 };
-use lf_sim::{Letter, Machine, Out, Stepped};
+use lf_sim::{Entry, Letter, Machine, Out, Stepped, Turns};
 
 impl Machine for Protocol {
     ghost use Rattle.lf_protocols.specs.Protocols.{rules_of};
@@ -103,16 +103,14 @@ impl Machine for Protocol {
         t: u32,
         state: State,
         inbox: &[Letter<Note>],
-        turns: &mut Vec<Stepped<State, Note>>,
+        turns: &mut Turns<State, Note>,
     ) {
         match (self.kind(), state) {
             (Kind::Retry { nodes, tries }, State::Retry(holding)) => {
-                let turn = retry::step(*nodes, *tries, node, t, holding, inbox);
-                turns.push_reserved(wrapped(State::Retry, turn));
+                retry::put_step(*nodes, *tries, node, t, holding, inbox, turns);
             }
             (Kind::Redundant { nodes, tries }, State::Redundant(relay)) => {
-                let turn = redundant::step(*nodes, *tries, node, relay, inbox);
-                turns.push_reserved(wrapped(State::Redundant, turn));
+                redundant::put_step(*nodes, *tries, node, relay, inbox, turns);
             }
             (
                 Kind::TwoPhase {
@@ -122,8 +120,7 @@ impl Machine for Protocol {
                 },
                 State::TwoPhase(progress),
             ) => {
-                let turn = two_phase::step(*nodes, *patience, *votes, node, t, progress, inbox);
-                turns.push_reserved(wrapped(State::TwoPhase, turn));
+                two_phase::put_step(*nodes, *patience, *votes, node, t, progress, inbox, turns);
             }
             (
                 Kind::ThreePhase {
@@ -133,20 +130,15 @@ impl Machine for Protocol {
                 },
                 State::ThreePhase(progress),
             ) => {
-                let turn = three_phase::step(*nodes, *patience, *votes, node, t, progress, inbox);
-                turns.push_reserved(wrapped(State::ThreePhase, turn));
+                three_phase::put_step(*nodes, *patience, *votes, node, t, progress, inbox, turns);
             }
             (Kind::PrimaryBackup { nodes, patience }, State::PrimaryBackup(replica)) => {
-                let turn = primary_backup::step(*nodes, *patience, node, t, replica, inbox);
-                turns.push_reserved(wrapped(State::PrimaryBackup, turn));
+                primary_backup::put_step(*nodes, *patience, node, t, replica, inbox, turns);
             }
             (Kind::Ruled(rules), State::Ruled(own)) => {
-                turns.push_reserved(ruled::step(rules, node, t, own, inbox));
+                ruled::put_step(rules, node, t, own, inbox, turns);
             }
-            (_, other) => turns.push_reserved(Stepped {
-                state: other,
-                out: Out::none(),
-            }),
+            (_, other) => turns.push_silent(other),
         }
     }
 
@@ -184,6 +176,13 @@ impl Machine for Protocol {
                 progress, fact,
             ),
             State::PrimaryBackup(replica) => primary_backup::shows(replica, fact),
+        }
+    }
+
+    fn entry(&self, node: u32, state: &State, topic: u8) -> Option<Entry> {
+        match (self.kind(), state) {
+            (Kind::Ruled(ruled), State::Ruled(own)) => ruled.entry(node, own, topic),
+            _ => None,
         }
     }
 

@@ -3,6 +3,8 @@
 ghost use Rattle.std.specs.Prelude.{◌≡◌};
 ghost use Rattle.lf_protocols.specs.Words.{note_word};
 
+use lf_sim::Alike;
+
 /// A note of one of the protocols.
 #[derive(Clone, Copy, Debug, PartialEq, Eq, PartialOrd, Ord)]
 pub enum Note {
@@ -34,6 +36,12 @@ pub enum Note {
     Claim,
     /// What a node of a protocol of rules sends another one in one step: one note or more.
     Ruled(lf_rule_machine::Packet),
+}
+
+impl Alike for Note {
+    fn is_alike(&self, other: &Note) -> bool {
+        self == other
+    }
 }
 
 impl Note {

@@ -1,13 +1,16 @@
 //! What a node of primary_backup does.
 
-ghost use Rattle.std.specs.Prelude.{◌≡◌, ℕ, false};
+ghost use Rattle.std.specs.Prelude.{◌≡◌, ℕ, ◌<◌, false, [], ◌∷◌, ◌++◌, length};
+ghost use Rattle.lf_sim.specs.Turns.{turns_of, room_of};
+ghost use Rattle.lf_protocols.specs.declared.state.State.TheVariants.{PrimaryBackup};
+ghost use Rattle.lf_protocols.specs.Protocols.{wrapped};
 ghost use Rattle.lf_protocols.specs.PrimaryBackupTable.{primary_backup_start, primary_backup_wake, primary_backup_step, primary_backup_shows};
 ghost use Rattle.lf_protocols.specs.PrimaryBackupTable.{primary_hear, primary_end, backup_hear, backup_end, primary_step, backup_step};
 ghost use Rattle.lf_protocols.specs.Folds.{primary_backup_begin, primary_backup_hear_one, primary_backup_finish};
 ghost use Rattle.lf_protocols.specs.PrimaryBackupTable.{claim, client_open, client_hear, client_step};
 
-use crate::{Fact, Note, Replica, turns};
-use lf_sim::{Letter, Out, Stepped};
+use crate::{Fact, Note, Replica, State, turns};
+use lf_sim::{Letter, Out, Stepped, Turns};
 
 /// What a node has come to in a step: its state, and the notes set so far.
 type Turn = Stepped<Replica, Note>;
@@ -203,6 +206,27 @@ pub fn step(
         1 => backup_step(nodes, patience, t, state, inbox),
         _ => client_step(node, t, state, inbox),
     }
+}
+
+/// Puts what a node does at step `t` behind other turns, where there is memory for it.
+pub fn put_step(
+    nodes: u32,
+    patience: u32,
+    node: u32,
+    t: u32,
+    state: Replica,
+    inbox: &[Letter<Note>],
+    turns: &mut Turns<State, Note>,
+)
+    requires room { length (turns_of turns.old) < room_of turns.old }
+    ensures items { turns_of turns.new ≡ turns_of turns.old ++ wrapped PrimaryBackup (primary_backup_step nodes patience node t state inbox.now) ∷ [] }
+    ensures capacity { room_of turns.new ≡ room_of turns.old }
+{
+    let turn = step(nodes, patience, node, t, state, inbox);
+    turns.push_short(&Stepped {
+        state: State::PrimaryBackup(turn.state),
+        out: turn.out,
+    });
 }
 
 /// Whether a state shows a fact.

@@ -1,10 +1,13 @@
 //! What a node of retry does.
 
-ghost use Rattle.std.specs.Prelude.{◌≡◌};
+ghost use Rattle.std.specs.Prelude.{◌≡◌, ◌<◌, [], ◌∷◌, ◌++◌, length};
+ghost use Rattle.lf_sim.specs.Turns.{turns_of, room_of};
+ghost use Rattle.lf_protocols.specs.declared.state.State.TheVariants.{Retry};
+ghost use Rattle.lf_protocols.specs.Protocols.{wrapped};
 ghost use Rattle.lf_protocols.specs.RetryTable.{retry_start, retry_hear, retry_hear_all, retry_send, retry_step, retry_shows};
 
-use crate::{Fact, Holding, Note};
-use lf_sim::{Letter, Out, Stepped};
+use crate::{Fact, Holding, Note, State};
+use lf_sim::{Letter, Out, Stepped, Turns};
 
 /// The state before step 1.
 pub fn start(node: u32) -> Holding
@@ -65,6 +68,28 @@ pub fn step(
     Stepped {
         state,
         out: send(nodes, tries, node, t),
+    }
+}
+
+/// Puts what a node does at step `t` behind other turns, where there is memory for it.
+pub fn put_step(
+    nodes: u32,
+    tries: u32,
+    node: u32,
+    t: u32,
+    state: Holding,
+    inbox: &[Letter<Note>],
+    turns: &mut Turns<State, Note>,
+)
+    requires room { length (turns_of turns.old) < room_of turns.old }
+    ensures items { turns_of turns.new ≡ turns_of turns.old ++ wrapped Retry (retry_step nodes tries node t state inbox.now) ∷ [] }
+    ensures capacity { room_of turns.new ≡ room_of turns.old }
+{
+    let state = State::Retry(hear_all(state, inbox));
+    if node == 0 && t <= tries {
+        turns.push_to_others(state, nodes, node, Note::Payload);
+    } else {
+        turns.push_silent(state);
     }
 }
 

@@ -1,6 +1,7 @@
 //! What a node of a protocol of rules does, among the others.
 
-ghost use Rattle.std.specs.Prelude.{◌≡◌};
+ghost use Rattle.std.specs.Prelude.{◌≡◌, ◌<◌, [], ◌∷◌, ◌++◌, length};
+ghost use Rattle.lf_sim.specs.Turns.{turns_of, room_of};
 ghost use Rattle.std.specs.List.{fold};
 ghost use Rattle.lf_protocols.specs.RuledTurns.{as_any, as_ruled, any_out, ruled_out, any_turn, ruled_turn, begin_by_rules};
 ghost use Rattle.lf_protocols.specs.RuledTurns.{hear_by_rules, end_by_rules, step_by_rules};
@@ -8,7 +9,7 @@ ghost use Rattle.lf_protocols.specs.RuledTurns.{hear_by_rules, end_by_rules, ste
 use crate::{Note, State};
 use lf_rule_machine as rules;
 use lf_rule_machine::Ruled;
-use lf_sim::{Letter, Out, Stepped};
+use lf_sim::{Letter, Out, Stepped, Turns};
 
 /// What a node has come to within a step.
 pub type Turn = Stepped<rules::State, rules::Packet>;
@@ -29,6 +30,22 @@ pub fn step(
     }
     ruled.end(node, t, &mut turn);
     any_turn(&turn)
+}
+
+/// Puts what a node does at step `t` behind other turns, where there is memory for it.
+pub fn put_step(
+    ruled: &Ruled,
+    node: u32,
+    t: u32,
+    state: rules::State,
+    inbox: &[Letter<Note>],
+    turns: &mut Turns<State, Note>,
+)
+    requires room { length (turns_of turns.old) < room_of turns.old }
+    ensures items { turns_of turns.new ≡ turns_of turns.old ++ any_turn (step_by_rules ruled.now node t state inbox.now) ∷ [] }
+    ensures capacity { room_of turns.new ≡ room_of turns.old }
+{
+    turns.push_short(&step(ruled, node, t, state, inbox));
 }
 
 /// Takes in a letter. A note of another protocol is ignored.

@@ -1,12 +1,15 @@
 //! What a node of three_phase does.
 
-ghost use Rattle.std.specs.Prelude.{◌≡◌, ◌<◌};
+ghost use Rattle.std.specs.Prelude.{◌≡◌, ◌<◌, [], ◌∷◌, ◌++◌, length};
+ghost use Rattle.lf_sim.specs.Turns.{turns_of, room_of};
+ghost use Rattle.lf_protocols.specs.declared.state.State.TheVariants.{ThreePhase};
+ghost use Rattle.lf_protocols.specs.Protocols.{wrapped};
 ghost use Rattle.lf_protocols.specs.Folds.{three_phase_hear_one, three_phase_finish};
 ghost use Rattle.lf_protocols.specs.ThreePhaseTable.{three_phase_hear, three_phase_end, three_phase_join, three_phase_wait, three_phase_step};
 
 use crate::commit::Turn;
-use crate::{Nodes, Note, Phase, Progress, commit, turns};
-use lf_sim::{Letter, Stepped};
+use crate::{Nodes, Note, Phase, Progress, State, commit, turns};
+use lf_sim::{Letter, Stepped, Turns};
 
 /// What node 0 does with a letter.
 fn hear(mut turn: Turn, from: u32, note: Note) -> Turn
@@ -128,4 +131,27 @@ pub fn step(
         });
         wait(patience, t, heard)
     }
+}
+
+/// Puts what a node does at step `t` behind other turns, where there is memory for it.
+pub fn put_step(
+    nodes: u32,
+    patience: u32,
+    votes: [bool; 8],
+    node: u32,
+    t: u32,
+    state: Progress,
+    inbox: &[Letter<Note>],
+    turns: &mut Turns<State, Note>,
+)
+    requires node { node < 8 }
+    requires room { length (turns_of turns.old) < room_of turns.old }
+    ensures items { turns_of turns.new ≡ turns_of turns.old ++ wrapped ThreePhase (three_phase_step nodes patience votes node t state inbox.now) ∷ [] }
+    ensures capacity { room_of turns.new ≡ room_of turns.old }
+{
+    let turn = step(nodes, patience, votes, node, t, state, inbox);
+    turns.push_short(&Stepped {
+        state: State::ThreePhase(turn.state),
+        out: turn.out,
+    });
 }

@@ -1,11 +1,14 @@
 //! What a node of two_phase does.
 
-ghost use Rattle.std.specs.Prelude.{◌≡◌, ◌<◌};
+ghost use Rattle.std.specs.Prelude.{◌≡◌, ◌<◌, [], ◌∷◌, ◌++◌, length};
+ghost use Rattle.lf_sim.specs.Turns.{turns_of, room_of};
+ghost use Rattle.lf_protocols.specs.declared.state.State.TheVariants.{TwoPhase};
+ghost use Rattle.lf_protocols.specs.Protocols.{wrapped};
 ghost use Rattle.lf_protocols.specs.Folds.{two_phase_hear_one, two_phase_finish};
 ghost use Rattle.lf_protocols.specs.TwoPhaseTable.{two_phase_end, two_phase_step};
 
-use crate::{Note, Phase, Progress, commit, turns};
-use lf_sim::{Letter, Stepped};
+use crate::{Note, Phase, Progress, State, commit, turns};
+use lf_sim::{Letter, Stepped, Turns};
 
 /// What node 0 does once it has handled its inbox.
 fn end(nodes: u32, patience: u32, t: u32, turn: commit::Turn) -> commit::Turn
@@ -75,4 +78,27 @@ pub fn step(
             commit::participate(t, vote, turn, letter.note)
         })
     }
+}
+
+/// Puts what a node does at step `t` behind other turns, where there is memory for it.
+pub fn put_step(
+    nodes: u32,
+    patience: u32,
+    votes: [bool; 8],
+    node: u32,
+    t: u32,
+    state: Progress,
+    inbox: &[Letter<Note>],
+    turns: &mut Turns<State, Note>,
+)
+    requires node { node < 8 }
+    requires room { length (turns_of turns.old) < room_of turns.old }
+    ensures items { turns_of turns.new ≡ turns_of turns.old ++ wrapped TwoPhase (two_phase_step nodes patience votes node t state inbox.now) ∷ [] }
+    ensures capacity { room_of turns.new ≡ room_of turns.old }
+{
+    let turn = step(nodes, patience, votes, node, t, state, inbox);
+    turns.push_short(&Stepped {
+        state: State::TwoPhase(turn.state),
+        out: turn.out,
+    });
 }

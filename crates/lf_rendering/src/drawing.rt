@@ -59,7 +59,7 @@ pub fn picture<M: Worded>(
         layout: drawing.layout,
     };
     arrows.push(&mut text)?;
-    let marks = Marks::of(setting, formula, run);
+    let marks = Marks::of(alloc, setting, formula, run)?;
     drawing.push_rings(&marks, Mark::Asked, Look::Asked, &mut text)?;
     drawing.push_rings(&marks, Mark::Fails, Look::Fails, &mut text)?;
     drawing.push_states(alloc, Look::Dot, &mut text)?;

@@ -2,8 +2,10 @@
 
 ghost use Rattle.lf_sim.specs.Settings.{IsRun, world_of};
 
+use crate::entries::{differing, entries};
 use lf_outcome::{Formula, first_failing};
 use lf_sim::{Machine, Run, Setting};
+use std::alloc::{AllocError, Global};
 
 /// What an outcome makes of a point.
 #[derive(Clone, Copy, PartialEq, Eq)]
@@ -23,22 +25,28 @@ pub(crate) struct Marks {
 }
 
 impl Marks {
-    /// Those of an outcome in a run of the setting.
+    /// Those of an outcome in a run of the setting. The error is that memory has run out.
     pub(crate) fn of<M: Machine>(
+        alloc: Global,
         setting: &Setting<M>,
         formula: &Formula<M::Fact>,
         run: &Run<M>,
-    ) -> Marks
+    ) -> Result<Marks, AllocError>
         requires { IsRun (world_of setting.now) run.now }
     {
+        let looking = Looking {
+            alloc,
+            setting,
+            run,
+        };
         let mut marks = Marks {
             marks: [[Mark::Passed; 49]; 8],
         };
-        marks.ask(formula);
+        looking.ask(formula, &mut marks)?;
         if let Some(first) = first_failing(setting, formula, run) {
-            marks.blame(setting, formula, run, first);
+            looking.blame(formula, first, &mut marks)?;
         }
-        marks
+        Ok(marks)
     }
 
     /// The mark of a point.
@@ -57,65 +65,113 @@ impl Marks {
             }
         }
     }
+}
 
-    /// Marks all points at which the formula looks.
+/// What is looked at.
+#[derive(Drop)]
+struct Looking<'a, M: Machine> {
+    alloc: Global,
+    setting: &'a Setting<M>,
+    run: &'a Run<M>,
+}
+
+impl<M: Machine> Looking<'_, M> {
+    /// Marks all points at which the formula looks: of one value for each key those at which something is entered.
     #[cycle(ask)]
-    fn ask<F>(&mut self, formula: &Formula<F>) {
+    fn ask(&self, formula: &Formula<M::Fact>, marks: &mut Marks) -> Result<(), AllocError>
+        requires { IsRun (world_of self.now.setting.now) self.now.run.now }
+    {
         match formula {
-            Formula::All(parts) | Formula::Any(parts) => self.ask_all(parts.as_slice()),
+            Formula::All(parts) | Formula::Any(parts) => self.ask_all(parts.as_slice(), marks),
             Formula::Down { node, step } | Formula::Shows { node, step, .. } => {
-                self.put(*node, *step, Mark::Asked);
+                marks.put(*node, *step, Mark::Asked);
+                Ok(())
             }
+            Formula::One { nodes, last, topic } => self.ask_one(*nodes, *last, *topic, marks),
         }
     }
 
     /// The same of each part.
     #[cycle(ask)]
-    fn ask_all<F>(&mut self, parts: &[Formula<F>]) {
+    fn ask_all(&self, parts: &[Formula<M::Fact>], marks: &mut Marks) -> Result<(), AllocError>
+        requires { IsRun (world_of self.now.setting.now) self.now.run.now }
+    {
         for part in parts {
-            self.ask(part);
+            self.ask(part, marks)?;
         }
+        Ok(())
+    }
+
+    /// Marks the points at which so many nodes enter something under a topic, up to a last step.
+    fn ask_one(&self, nodes: u32, last: u32, topic: u8, marks: &mut Marks) -> Result<(), AllocError>
+        requires { IsRun (world_of self.now.setting.now) self.now.run.now }
+    {
+        let entries = entries(self.alloc, self.setting, self.run, nodes, last, topic)?;
+        for entered in entries.as_slice() {
+            marks.put(entered.point.node, entered.point.step, Mark::Asked);
+        }
+        Ok(())
     }
 
     /// Marks the points by which a formula is seen to fail that is first seen so by this step: of an `All` those of the parts that are seen to fail by then,
-    /// and of an `Any` those of all parts, as all are.
+    /// of an `Any` those of all parts, as all are, and of one value for each key those whose entries have one key and different values by then.
     #[cycle(blame)]
-    fn blame<M: Machine>(
-        &mut self,
-        setting: &Setting<M>,
+    fn blame(
+        &self,
         formula: &Formula<M::Fact>,
-        run: &Run<M>,
         first: u32,
-    )
-        requires { IsRun (world_of setting.now) run.now }
+        marks: &mut Marks,
+    ) -> Result<(), AllocError>
+        requires { IsRun (world_of self.now.setting.now) self.now.run.now }
     {
         match formula {
             Formula::All(parts) | Formula::Any(parts) => {
-                self.blame_all(setting, parts.as_slice(), run, first);
+                self.blame_all(parts.as_slice(), first, marks)
             }
             Formula::Down { node, step } | Formula::Shows { node, step, .. } => {
-                self.put(*node, *step, Mark::Fails);
+                marks.put(*node, *step, Mark::Fails);
+                Ok(())
+            }
+            Formula::One { nodes, last, topic } => {
+                self.blame_one(*nodes, (*last).min(first), *topic, marks)
             }
         }
     }
 
     /// The same of each part that is seen to fail by this step, by its own first step.
     #[cycle(blame)]
-    fn blame_all<M: Machine>(
-        &mut self,
-        setting: &Setting<M>,
+    fn blame_all(
+        &self,
         parts: &[Formula<M::Fact>],
-        run: &Run<M>,
         last: u32,
-    )
-        requires { IsRun (world_of setting.now) run.now }
+        marks: &mut Marks,
+    ) -> Result<(), AllocError>
+        requires { IsRun (world_of self.now.setting.now) self.now.run.now }
     {
         for part in parts {
-            if let Some(first) = first_failing(setting, part, run) {
+            if let Some(first) = first_failing(self.setting, part, self.run) {
                 if first <= last {
-                    self.blame(setting, part, run, first);
+                    self.blame(part, first, marks)?;
                 }
             }
         }
+        Ok(())
+    }
+
+    /// Marks the points up to a last step at which so many nodes enter different values for one key under a topic.
+    fn blame_one(
+        &self,
+        nodes: u32,
+        last: u32,
+        topic: u8,
+        marks: &mut Marks,
+    ) -> Result<(), AllocError>
+        requires { IsRun (world_of self.now.setting.now) self.now.run.now }
+    {
+        let points = differing(self.alloc, self.setting, self.run, nodes, last, topic)?;
+        for point in points.as_slice() {
+            marks.put(point.node, point.step, Mark::Fails);
+        }
+        Ok(())
     }
 }

@@ -1,6 +1,7 @@
 -- A protocol of rules as a machine, among so many nodes and with the values that the constants have at each node.
 use Rattle.std.specs.Prelude.{ℕ, Bool, not, ◌&&◌, ◌==◌, List, Option, None, Some, if◌then◌else◌, slice_get, replicate}
 use Rattle.std.specs.List.{fold}
+use Rattle.lf_sim.specs.declared.entry.Entry.{Entry}
 use Rattle.lf_sim.specs.declared.letter.Letter.{Letter}
 use Rattle.lf_sim.specs.declared.out.Stepped.{Stepped}
 use Rattle.lf_sim.specs.Machines.{Rules}
@@ -17,9 +18,10 @@ use Rattle.lf_rule_machine.specs.declared.state.Packet.{Packet}
 use Rattle.lf_rule_machine.specs.declared.fact.Told.{Told}
 use Rattle.lf_rule_machine.specs.declared.fact.Told.TheVariants as tolds
 use Rattle.lf_rule_machine.specs.declared.fact.Fact.{Fact}
+use Rattle.lf_rules.specs.declared.topic.Topic.{Topic}
 use Rattle.lf_rule_machine.specs.Sets.{is_true}
 use Rattle.lf_rule_machine.specs.States.{zeros}
-use Rattle.lf_rule_machine.specs.Values.{zero_or, value_of_fact}
+use Rattle.lf_rule_machine.specs.Values.{zero_or, value_of, value_of_fact}
 use Rattle.lf_rule_machine.specs.Events.{act}
 use Rattle.lf_rule_machine.specs.Constants.{are_given}
 
@@ -82,5 +84,15 @@ module _ (d : Definition) (nodes : ℕ) (given : List (List ℕ)) where
   abbrev pub shows_of : ℕ → State → Fact → Bool
   shows_of n s fact = if fact.denied then not (is_told n s fact.told) else is_told n s fact.told
 
-  abbrev pub rules_by : Rules State Packet Fact
-  rules_by = record { nodes = nodes; start = start_of; step = step_of; wake = wake_of; shows = shows_of }
+  -- what a state enters under a topic: where the guard is true, a value for a key
+  abbrev pub entry_by : ℕ → State → Option Topic → Option Entry
+  entry_by n s None = None
+  entry_by n s (Some topic) =
+      let at = moment nodes given n 0 0 no_fields in
+      if is_true (value_of d at s topic.guard) then Some (record { key = value_of d at s topic.key; value = value_of d at s topic.value }) else None
+
+  abbrev pub entry_of : List Topic → ℕ → State → ℕ → Option Entry
+  entry_of topics n s i = entry_by n s (slice_get topics i)
+
+  abbrev pub rules_by : List Topic → Rules State Packet Fact
+  rules_by topics = record { nodes = nodes; start = start_of; step = step_of; wake = wake_of; shows = shows_of; entry = entry_of topics }

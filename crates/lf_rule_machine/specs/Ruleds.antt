@@ -7,4 +7,4 @@ use Rattle.lf_rule_machine.specs.declared.fact.Fact.{Fact}
 use Rattle.lf_rule_machine.specs.Machines.{rules_by}
 
 abbrev pub rules_of : Instance → Rules State Packet Fact
-rules_of m = rules_by m.definition m.nodes m.given
+rules_of m = rules_by m.definition m.nodes m.given m.topics

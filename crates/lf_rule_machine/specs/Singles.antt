@@ -19,7 +19,8 @@ use Rattle.lf_rule_machine.specs.declared.fact.Fact.{Fact}
 use Rattle.lf_rule_machine.specs.States.{zeros, same_note}
 use Rattle.lf_rule_machine.specs.Values.{value_of}
 use Rattle.lf_rule_machine.specs.Events.{is_passed, is_receiver, Draft, assign, drafted, first_true}
-use Rattle.lf_rule_machine.specs.Machines.{moment, no_fields, shows_of}
+use Rattle.lf_rules.specs.declared.topic.Topic.{Topic}
+use Rattle.lf_rule_machine.specs.Machines.{moment, no_fields, shows_of, entry_of}
 use Rattle.lf_rule_machine.specs.Instances.{Instance}
 
 -- there was another note
@@ -114,9 +115,10 @@ module _ (d : Definition) (nodes : ℕ) (given : List (List ℕ)) where
   abbrev pub wake_of : ℕ → ℕ → State → State
   wake_of n t s = (act_alone n t events.Wake (opened s)).state
 
-  abbrev pub rules_by : Rules State Note Fact
-  rules_by = record { nodes = nodes; start = start_of; step = step_of; wake = wake_of; shows = shows_of d nodes given }
+  abbrev pub rules_by : List Topic → Rules State Note Fact
+  rules_by topics =
+      record { nodes = nodes; start = start_of; step = step_of; wake = wake_of; shows = shows_of d nodes given; entry = entry_of d nodes given topics }
 
 -- the rules of a protocol where a node sends another one a single note in a step
 abbrev pub rules_of_notes : Instance → Rules State Note Fact
-rules_of_notes m = rules_by m.definition m.nodes m.given
+rules_of_notes m = rules_by m.definition m.nodes m.given m.topics

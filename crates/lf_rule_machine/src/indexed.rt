@@ -1,17 +1,17 @@
 //! A protocol of rules with what is worked out of it once, and what a node does by it.
 
-ghost use Rattle.std.specs.Prelude.{◌≡◌, ◌≤◌, map};
+ghost use Rattle.std.specs.Prelude.{◌≡◌, ◌≤◌, Some, map};
 ghost use Rattle.std.specs.Arc.{arc_value};
 ghost use Rattle.std.specs.List.{fold};
 ghost use Rattle.lf_rule_machine.specs.Moments.{seen};
 ghost use Rattle.lf_rule_machine.specs.Indexes.{rows_of};
 ghost use Rattle.lf_rule_machine.specs.Events.{act};
-ghost use Rattle.lf_rule_machine.specs.Machines.{moment, act_alone, hear_note, hear_of, is_told, shows_of};
+ghost use Rattle.lf_rule_machine.specs.Machines.{moment, act_alone, entry_by, hear_note, hear_of, is_told, shows_of};
 
 use crate::places::item;
-use crate::{Fact, Moment, Note, Packet, State, Told, fact_value, go_through, index};
-use lf_rules::{Event, Rules};
-use lf_sim::{Letter, Stepped};
+use crate::{Fact, Moment, Note, Packet, State, Told, fact_value, go_through, index, value_of};
+use lf_rules::{Event, Rules, Topic};
+use lf_sim::{Entry, Letter, Stepped};
 use std::sync::Arc;
 
 /// A protocol of rules among so many nodes, with the values of its constants, and which chains each node goes through at each event.
@@ -122,6 +122,20 @@ impl Indexed {
             fields,
             it: 0,
         }
+    }
+
+    /// What a state enters under a topic.
+    pub fn entry(&self, node: u32, state: &State, topic: &Topic) -> Option<Entry>
+        ensures { result ≡ entry_by (arc_value self.now.rules) self.now.nodes self.now.given node state.now (Some topic.now) }
+    {
+        let at = self.moment(node, 0, 0, [0; 7]);
+        let rules = self.rules.definition();
+        if value_of(rules, &at, state, &topic.guard) == 0 {
+            return None;
+        }
+        let key = value_of(rules, &at, state, &topic.key);
+        let value = value_of(rules, &at, state, &topic.value);
+        Some(Entry { key, value })
     }
 
     /// Whether a state shows a fact.

@@ -1,6 +1,6 @@
 //! Protocols of rules as machines.
 
-ghost use Rattle.std.specs.Prelude.{◌≡◌, ◌↔◌, true, IsSome, IsTrue, IfSome, IfOk, slice_get};
+ghost use Rattle.std.specs.Prelude.{◌≡◌, ◌↔◌, true, [], IsSome, IsTrue, IfSome, IfOk, slice_get};
 ghost use Rattle.lf_rules.specs.Forms.{is_well_formed};
 ghost use Rattle.std.specs.Arc.{arc_value};
 ghost use Rattle.lf_rule_machine.specs.Constants.{given_table};
@@ -10,16 +10,19 @@ ghost use Rattle.lf_rule_machine.specs.Machines.{is_machine, moment, opened, beg
 use crate::constants::{are_given, constants_at, given_table};
 use crate::indexed::Indexed;
 use crate::{Fact, Moment, Packet, State, index};
-use lf_rules::{Definition, Event, Given, Rules};
-use lf_sim::{Letter, Machine, Out, Stepped};
+use lf_list::Listed;
+use lf_rules::{Definition, Event, Given, Rules, Topic, Topics, same_topics};
+use lf_sim::{Entry, Letter, Machine, Out, Stepped};
 use std::alloc::{AllocError, Global};
 use std::marker::Model;
 use std::sync::Arc;
 
-/// A protocol of rules among so many nodes, with the values that its constants have at each of them.
+/// A protocol of rules among so many nodes, with the values that its constants have at each of them, and with topics: what its nodes' states enter is asked by
+/// a topic's number.
 #[derive(Debug, Drop)]
 pub struct Ruled {
     indexed: Arc<Indexed>,
+    topics: Arc<Topics>,
 }
 
 impl Model for Ruled {
@@ -30,12 +33,12 @@ impl Model for Ruled {
 
     ghost coded = { instance_code };
 
-    ghost view = { λ m. instance_of (arc_value m.indexed) };
+    ghost view = { λ m. instance_of (arc_value m.indexed) (arc_value m.topics) };
 }
 
 impl Ruled {
     /// The machine of a protocol among so many nodes, with a value for each of its constants. None where there aren't 2 to 8 nodes, where the values don't fit
-    /// the constants, or where a list hasn't an item for each node. The error is that memory has run out.
+    /// the constants, or where a list hasn't an item for each node. It has no topics. The error is that memory has run out.
     pub fn new(
         alloc: Global,
         rules: Arc<Rules>,
@@ -44,7 +47,7 @@ impl Ruled {
     ) -> Result<Option<Ruled>, AllocError>
         ensures some { IfOk result (λ made. IsSome made ↔ IsTrue (is_machine (arc_value rules) nodes given.now)) }
         ensures value { IfOk result
-            (λ made. IfSome made (λ m. m ≡ record { definition = arc_value rules; nodes = nodes; given = given_table nodes given.now })) }
+            (λ made. IfSome made (λ m. m ≡ record { definition = arc_value rules; nodes = nodes; given = given_table nodes given.now; topics = [] })) }
     {
         if nodes < 2 {
             return Ok(None);
@@ -63,13 +66,30 @@ impl Ruled {
             given,
             rows,
         };
+        let topics = shared(alloc, Listed::from_vec(Vec::new(alloc)))?;
         match Arc::new(alloc, indexed) {
-            Ok(indexed) => Ok(Some(Ruled { indexed })),
+            Ok(indexed) => Ok(Some(Ruled { indexed, topics })),
             Err(_) => Err(AllocError),
         }
     }
 
-    /// Whether two machines are the same: of protocols that say the same, among as many nodes, with the same values.
+    /// The same machine with these topics in place of its own. The error is that memory has run out.
+    pub fn with_topics(&self, alloc: Global, topics: Topics) -> Result<Ruled, AllocError>
+        ensures { IfOk result (λ made. made ≡ record self.now { topics = topics }) }
+    {
+        let topics = shared(alloc, topics)?;
+        let indexed = self.indexed.clone()?;
+        Ok(Ruled { indexed, topics })
+    }
+
+    /// Its topics, by number.
+    pub fn topics(&self) -> &[Topic]
+        ensures { result.now ≡ self.now.topics }
+    {
+        self.topics.as_slice()
+    }
+
+    /// Whether two machines are the same: of protocols that say the same, among as many nodes, with the same values and topics.
     pub fn same(&self, other: &Ruled) -> bool
         ensures { IsTrue result ↔ (self.now ≡ other.now) }
     {
@@ -78,6 +98,7 @@ impl Ruled {
         one.nodes == another.nodes
             && are_same_values(&one.given, &another.given)
             && one.rules.definition().same(another.rules.definition())
+            && same_topics(&self.topics, &other.topics)
     }
 
     /// The protocol's definition.
@@ -178,6 +199,13 @@ impl Machine for Ruled {
         self.indexed.shows(node, &state, fact)
     }
 
+    fn entry(&self, node: u32, state: &State, topic: u8) -> Option<Entry> {
+        match self.topics().get(usize::from(topic)) {
+            Some(topic) => self.indexed.entry(node, state, topic),
+            None => None,
+        }
+    }
+
     ghost silent = { λ m n t to state inbox node first last nobody. rules_of-silent m n t to state inbox nobody };
 }
 
@@ -186,6 +214,16 @@ fn are_same_values(one: &[[u8; 16]; 8], other: &[[u8; 16]; 8]) -> bool
     ensures { IsTrue result ↔ (one.now ≡ other.now) }
 {
     one == other
+}
+
+/// Topics that machines share. The error is that memory has run out.
+fn shared(alloc: Global, topics: Topics) -> Result<Arc<Topics>, AllocError>
+    ensures { IfOk result (λ made. arc_value made ≡ topics) }
+{
+    match Arc::new(alloc, topics) {
+        Ok(topics) => Ok(topics),
+        Err(_) => Err(AllocError),
+    }
 }
 
 /// A state, and no note yet.

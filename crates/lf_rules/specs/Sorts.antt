@@ -45,7 +45,7 @@ abbrev pub where_so : Bool → Option Sort → Option Sort
 where_so true found = found
 where_so false found = None
 
--- what may be named where: constants, the state and the node itself, named expressions, and the step and named guards
+-- what may be named where: constants, the state and the node itself, named expressions, the step, and named guards
 abbrev pub names_constants : Scope → Bool
 names_constants scopes.Given = false
 names_constants other = true
@@ -65,6 +65,10 @@ abbrev pub is_rule : Scope → Bool
 is_rule scopes.Plain = true
 is_rule (scopes.Note form) = true
 is_rule other = false
+
+abbrev pub names_facts : Scope → Bool
+names_facts scopes.Outcome = true
+names_facts scope = is_rule scope
 
 -- it is a node but where there is none, and a body stands in no other body
 abbrev pub names_it : Within → Bool
@@ -136,7 +140,7 @@ module _ (d : Definition) where
   leaf_sort scope within leaves.Clamped = where_so (names_state scope) (Some sorts.Truth)
   leaf_sort scope within leaves.Replaced = where_so (names_state scope) (Some sorts.Truth)
   leaf_sort scope within (leaves.Let i) = where_so (names_lets scope) (let_sort (slice_get d.lets i))
-  leaf_sort scope within (leaves.Fact i) = where_so (is_rule scope) (fact_sort (slice_get d.facts i))
+  leaf_sort scope within (leaves.Fact i) = where_so (names_facts scope) (fact_sort (slice_get d.facts i))
   leaf_sort scope within leaves.It = where_so (names_it within) (Some sorts.Number)
 
   -- what has an item for each of some places

@@ -2,6 +2,7 @@
 
 ghost use Rattle.std.specs.Prelude.{◌≡◌, ◌≤◌, ◌↔◌, IsSome, IfSome, min};
 ghost use Rattle.lf_rules.specs.Terms.{term_of};
+ghost use Rattle.lf_rules.specs.Terms as terms;
 ghost use Rattle.lf_rules.specs.Trees.{parts, has_it, is_it};
 
 use crate::table::Table;
@@ -169,6 +170,15 @@ impl Expr {
             Some(Expr { tree })
         } else {
             None
+        }
+    }
+
+    /// The expression that is a leaf alone.
+    pub fn leaf(leaf: Leaf) -> Expr
+        ensures { result ≡ terms.Leaf leaf }
+    {
+        Expr {
+            tree: Tree::Leaf(leaf),
         }
     }
 

@@ -17,6 +17,7 @@ mod sort;
 mod sorting;
 mod table;
 mod table_laws;
+mod topic;
 
 pub use definition::{Constant, Definition, Given, Guard, Named, NoteForm, Value, Variable};
 pub use expr::{Binary, Expr, Leaf, Over, Row, Tree, Unary};
@@ -28,3 +29,4 @@ pub use rules::Rules;
 pub use sort::{Scope, Sort, Within, at_sort, binary_sort, over_sort, unary_sort};
 pub use table::{Cells, Table};
 pub use table_laws::cells_are_apart;
+pub use topic::{Topic, Topics, same_topics};

@@ -1,7 +1,7 @@
 //! What expressions are.
 
 ghost use Rattle.std.specs.Prelude.{◌≡◌};
-ghost use Rattle.lf_rules.specs.Sorts.{same_sort, is_of, where_so, names_constants, names_state, names_lets};
+ghost use Rattle.lf_rules.specs.Sorts.{same_sort, is_of, where_so, names_constants, names_state, names_lets, names_facts};
 ghost use Rattle.lf_rules.specs.Sorts.{is_rule, taken, gives, takes, made, alike, unary_sort, binary_sort};
 ghost use Rattle.lf_rules.specs.Sorts.{names_it, has_bodies, at_sort, body_of, comes_of, over_sort};
 
@@ -30,6 +30,8 @@ pub enum Scope {
     Let,
     /// A named guard: it names named expressions too.
     Fact,
+    /// What an outcome asks of a state: it names named guards too.
+    Outcome,
     /// A rule that is on no note: it names the step and named guards too.
     Plain,
     /// A rule on the note that has the form with this number: it names the sender and the note's fields too.
@@ -84,7 +86,17 @@ impl Scope {
         !matches!(self, Scope::Given | Scope::Who | Scope::Let)
     }
 
-    /// Whether the step and named guards may be named.
+    /// Whether named guards may be named.
+    pub(crate) fn names_facts(self) -> bool
+        ensures { result ≡ names_facts self }
+    {
+        match self {
+            Scope::Outcome => true,
+            scope => scope.is_rule(),
+        }
+    }
+
+    /// Whether the step may be named.
     pub(crate) fn is_rule(self) -> bool
         ensures { result ≡ is_rule self }
     {

@@ -64,7 +64,7 @@ impl Definition {
             Leaf::Variable(i) => where_so(scope.names_state(), self.variable_sort(i)),
             Leaf::Clamped | Leaf::Replaced => where_so(scope.names_state(), Some(Sort::Truth)),
             Leaf::Let(i) => where_so(scope.names_lets(), self.let_sort(i)),
-            Leaf::Fact(i) => where_so(scope.is_rule(), self.fact_sort(i)),
+            Leaf::Fact(i) => where_so(scope.names_facts(), self.fact_sort(i)),
             Leaf::It => where_so(within.names_it(), Some(Sort::Number)),
         }
     }

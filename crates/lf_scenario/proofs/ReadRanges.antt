@@ -24,7 +24,8 @@ use Rattle.lf_outcome.specs.Named.{formula_of}
 use Rattle.lf_outcome.specs.Outcomes.{outcome_named, outcome_word, outcomes_of}
 use Rattle.lf_scenario.specs.declared.key.Key.{Key}
 use Rattle.lf_scenario.specs.declared.key.Key.TheVariants as keys
-use Rattle.lf_outcome.specs.Limits.{deepest, most_atoms}
+use Rattle.lf_outcome.specs.Limits.{deepest}
+use Rattle.lf_scenario.specs.Limits.{most_listed}
 use Rattle.lf_scenario.specs.declared.error.ScenarioError.TheVariants as refusals
 use Rattle.lf_scenario.specs.Values.{Reading, ◌>>=◌, whole}
 use Rattle.lf_outcome.specs.Formulas.{is_point, is_fact_of, is_in_range, IsFormulaOf}
@@ -147,15 +148,15 @@ module _ (k : Kind) (b : Bounds) (limits : IsInLimits b) where
         (λ fs fs_is. given all_fit (f ∷ fs) (and_from (is_in_range k b.nodes b.horizon f) (list_all (is_in_range k b.nodes b.horizon) fs)
         (formula_fits d f f_is) (parts_fit ds fs fs_is))))
 
-  kept : (f : Formula Fact) → fits f → (t : Bool) → t ≡ (nat_le (depth_of f) deepest && nat_le (atoms_of f) most_atoms)
+  kept : (f : Formula Fact) → fits f → (t : Bool) → t ≡ (nat_le (depth_of f) deepest && nat_le (atoms_of f) most_listed)
       → Gives (IsFormulaOf k b) (cond t (Ok f) (Err refusals.Formula))
   kept f h true is =
-      let (deep, many) = and_parts (nat_le (depth_of f) deepest) (nat_le (atoms_of f) most_atoms) (sym is) in
-      given (IsFormulaOf k b) f (record { range = h; depth = leb-true (depth_of f) deepest deep; atoms = leb-true (atoms_of f) most_atoms many })
+      let (deep, many) = and_parts (nat_le (depth_of f) deepest) (nat_le (atoms_of f) most_listed) (sym is) in
+      given (IsFormulaOf k b) f (record { range = h; depth = leb-true (depth_of f) deepest deep; atoms = omega (arith, leb-true (atoms_of f) most_listed many) })
   kept f h false is = refused (IsFormulaOf k b) refusals.Formula
 
   limits_kept : (f : Formula Fact) → fits f → Gives (IsFormulaOf k b) (limited f)
-  limits_kept f h = kept f h (nat_le (depth_of f) deepest && nat_le (atoms_of f) most_atoms) refl
+  limits_kept f h = kept f h (nat_le (depth_of f) deepest && nat_le (atoms_of f) most_listed) refl
 
   list_fits : (d : Data) → Gives (IsFormulaOf k b) (list_formula k b d)
   list_fits d = next (IsFormulaOf k b) (formula_in k b d) limited (λ f is. limits_kept f (formula_fits d f is))

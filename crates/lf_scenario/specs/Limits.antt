@@ -5,6 +5,10 @@ use Rattle.std.specs.Prelude.{ℕ}
 abbrev pub longest : ℕ
 longest = 65536
 
+-- the most atoms of a formula that is written as a list
+abbrev pub most_listed : ℕ
+most_listed = 512
+
 -- how many sets of faults of one size the search may keep where the text doesn't say so
 abbrev pub usual_sets : ℕ
 usual_sets = 100000

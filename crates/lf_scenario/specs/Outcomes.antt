@@ -22,7 +22,8 @@ use Rattle.lf_outcome.specs.Outcomes.{outcome_named}
 use Rattle.lf_outcome.specs.declared.outcome.Outcome.{Outcome as Named}
 use Rattle.lf_scenario.specs.declared.key.Key.{Key}
 use Rattle.lf_scenario.specs.declared.key.Key.TheVariants.{Outcome}
-use Rattle.lf_outcome.specs.Limits.{deepest, most_atoms}
+use Rattle.lf_outcome.specs.Limits.{deepest}
+use Rattle.lf_scenario.specs.Limits.{most_listed}
 use Rattle.lf_scenario.specs.declared.error.ScenarioError.TheVariants as refusals
 use Rattle.lf_scenario.specs.Values.{Reading, ◌>>=◌, whole}
 
@@ -94,7 +95,7 @@ abbrev mutual
 -- not too deep, and without too many atoms
 abbrev pub limited : Formula Fact → Reading (Formula Fact)
 limited formula =
-    if nat_le (depth_of formula) deepest && nat_le (atoms_of formula) most_atoms then Ok formula else Err refusals.Formula
+    if nat_le (depth_of formula) deepest && nat_le (atoms_of formula) most_listed then Ok formula else Err refusals.Formula
 
 -- the formula of a list, within its limits
 abbrev pub list_formula : Kind → Bounds → Data → Reading (Formula Fact)

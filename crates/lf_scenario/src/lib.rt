@@ -19,7 +19,7 @@ mod votes;
 pub use error::ScenarioError;
 pub use key::{Key, is_key};
 pub use lf_outcome::{DEEPEST, MOST_ATOMS, MOST_SETS, Scenario};
-pub use limits::LONGEST;
+pub use limits::{LONGEST, MOST_LISTED};
 pub use links::{Usual, all_links};
 pub use outcomes::list_formula;
 pub use reader::{assembled, read};

@@ -9,11 +9,12 @@ ghost use Rattle.lf_scenario.specs.Values.{required};
 ghost use Rattle.lf_scenario.specs.Outcomes.{node_in, step_in, fact_in, down_of, down_in, shows_of, shows_in};
 ghost use Rattle.lf_scenario.specs.Outcomes.{by_word, formula_in, parts_in, limited, list_formula, named_in, outcome_in};
 
+use crate::limits::MOST_LISTED;
 use crate::reading::Described;
 use crate::value::{at, whole};
 use crate::{Key, ScenarioError};
 use lf_list::Listed;
-use lf_outcome::{DEEPEST, Formula, Formulas, MOST_ATOMS, atoms, depth, named, outcome_named};
+use lf_outcome::{DEEPEST, Formula, Formulas, atoms, depth, named, outcome_named};
 use lf_protocols::Fact;
 use std::alloc::Global;
 use toml::{Table, Value};
@@ -179,7 +180,7 @@ fn parts_in(
 fn limited(formula: Formula<Fact>) -> Result<Formula<Fact>, ScenarioError>
     ensures { result ≡ limited formula }
 {
-    if depth(&formula) <= DEEPEST && atoms(&formula) <= MOST_ATOMS {
+    if depth(&formula) <= DEEPEST && atoms(&formula) <= MOST_LISTED {
         Ok(formula)
     } else {
         Err(ScenarioError::Formula)
@@ -204,7 +205,7 @@ fn named_in(
     named(alloc, outcome, nodes, horizon).map_err(|_| ScenarioError::Memory)
 }
 
-/// The formula that a value says as a list: at points of the run, by facts of the protocol, at most `DEEPEST` deep, with at most `MOST_ATOMS` atoms.
+/// The formula that a value says as a list: at points of the run, by facts of the protocol, at most `DEEPEST` deep, with at most `MOST_LISTED` atoms.
 pub fn list_formula(
     alloc: Global,
     value: &Value,

@@ -1,5 +1,5 @@
 -- A cell put in the place of another.
-use Rattle.std.proofs.Common.{◌≡◌, ℕ, ◌+◌, ◌-◌, ◌*◌, ◌<◌, ◌≤◌, List, [], ◌∷◌, ◌++◌, length, get_or, sym, ap, ◌∙◌, arith, inl, inr, length-append}
+use Rattle.std.proofs.Common.{◌≡◌, ℕ, ◌+◌, ◌-◌, ◌*◌, ◌<◌, ◌≤◌, List, [], ◌∷◌, ◌++◌, length, get_or, sym, ap, subst, ◌∙◌, arith, inl, inr, length-append}
 use Rattle.std.specs.Prelude.{◌≢◌, slice_get, Option, Some, false}
 use Rattle.std.proofs.lemmas.Bool.{cases_lt}
 use Rattle.std.proofs.lemmas.List.{get_or_at, get_or_append_left}
@@ -91,3 +91,9 @@ same-turn told one other is state notes =
     let is-same : turn-of one.state one.out.to0 one.out.to1 one.out.to2 one.out.to3 one.out.to4 one.out.to5 one.out.to6 one.out.to7
     ≡ turn-of other.state other.out.to0 other.out.to1 other.out.to2 other.out.to3 other.out.to4 other.out.to5 other.out.to6 other.out.to7 = cc in
     is-same
+
+-- turns at two places, whatever the default
+pub told-at : {State Note : Type 0} (told : Difference) (xs : List (Stepped State Note)) (i j : ℕ) (x y d : Stepped State Note) → i < length xs → j < length xs
+    → x ≡ get_or xs i x → y ≡ get_or xs j y → IsTold told x y → IsTold told (get_or xs i d) (get_or xs j d)
+told-at told xs i j x y d near last is stands h =
+    subst (λ a. IsTold told a (get_or xs j d)) (is ∙ any-default xs i x d near) (subst (λ b. IsTold told x b) (stands ∙ any-default xs j y d last) h)

@@ -17,7 +17,7 @@ use Rattle.lf_sim.specs.OutsLemmas.{note_to-nothing}
 use Rattle.lf_sim.specs.Runs.{World, is_up, before_step, letter, letters, did, view, sent, inbox}
 use Rattle.lf_sim.specs.Settings.{cell_of, sent_of, state_of}
 use Rattle.lf_sim.proofs.Laws as laws
-use Rattle.lf_sim.specs.Changes.{Stops, Ignores, IsUnchanged, act}
+use Rattle.lf_sim.specs.Changes.{Stops, Ignores, IsSameAt, IsUnchanged, act}
 
 -- what is so or else for each number below k
 all-or : (D : Type 0) (P : ℕ → Type 0) (k : ℕ) → ((i : ℕ) → i < k → D ⊎ P i) → D ⊎ ((i : ℕ) → i < k → P i)
@@ -157,14 +157,22 @@ module _ {M State Note Fact : Type 0} (w : World State Note Fact) (from to : Lis
       ∙ ap (λ last. act w to m (v + 1) last (inbox w to m (v + 1))) (view-kept node)
       ∙ sym (did-act w to m v)
 
+  -- and so is whether it is up, and its view
+  pub same-at : m < w.rules.nodes → IsSameAt w from to m (v + 1)
+  same-at node = record {
+    up = up-same w from to m (v + 1) same.stops;
+    view = ap (λ (c : Stepped _ _). c.state) (did-kept node);
+  }
+
 -- a node whose machine says that it ignores its letters
 pub ignores-by : {M State Note Fact : Type 0} (w : World State Note Fact) (faults : List Parts) (m u : ℕ) (run : Run M State Note Fact)
-    (cell : Stepped State Note)
-    → set_wakes w.pause_length faults m u ≡ false → cell_of run m (u - 1) ≡ Some cell
-    → ((letters others : List (Letter Note)) → w.rules.step m u cell.state letters ≡ w.rules.step m u cell.state others) → Ignores w faults m u run
-ignores-by w faults m u run cell awake is same v last e told letters others =
+    (state : State)
+    → set_wakes w.pause_length faults m u ≡ false → Some state ≡ state_of run m (u - 1)
+    → ((letters others : List (Letter Note)) → w.rules.step m u state letters ≡ w.rules.step m u state others) → Ignores w faults m u run
+ignores-by w faults m u run state awake is same v last e told letters others =
     let now : u - 1 ≡ v = omega (arith, e) in
-    let from : before_step w faults m u last ≡ cell.state =
-    laws.before_step-awake w faults m u last awake ∙ sym (told-state run m v cell last (subst (λ k. cell_of run m k ≡ Some cell) now is) told) in
+    let both : Some state ≡ Some last = is ∙ ap (state_of run m) now ∙ told in
+    let one : last ≡ state = cc in
+    let from : before_step w faults m u last ≡ state = laws.before_step-awake w faults m u last awake ∙ one in
     ap (λ made. cond (is_up w faults m u) made (record { state = last; out = nothing }))
     (ap (λ s. w.rules.step m u s letters) from ∙ same letters others ∙ sym (ap (λ s. w.rules.step m u s others) from))

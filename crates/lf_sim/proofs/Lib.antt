@@ -7,6 +7,7 @@ mod ListsLemmas
 mod PointsLemmas
 mod RunsLemmas
 mod SchedulesLemmas
+mod TurnsLemmas
 pub mod ChangesLemmas
 pub mod MarksLemmas
 pub mod WaysLemmas

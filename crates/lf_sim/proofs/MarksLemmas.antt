@@ -12,7 +12,7 @@ use Rattle.lf_faults.specs.declared.fault.Parts.{Parts}
 use Rattle.lf_faults.specs.declared.fault.Parts.TheVariants.{Omit, Crash, Pause}
 use Rattle.lf_sim.specs.declared.record.Run.{Run}
 use Rattle.lf_sim.specs.Runs.{World}
-use Rattle.lf_sim.specs.Marks.{is_marked, AreTold}
+use Rattle.lf_sim.specs.Marks.{is_marked, AreBetween, AreTold}
 use Rattle.lf_sim.specs.Changes.{Touches, Ignores, IsSpared, IsMarked, AreMarked}
 
 -- what isn't marked now wasn't before
@@ -29,6 +29,11 @@ blank k i = elim (cases_lt i k) [
 
 pub none-told : (points steps : ℕ) → AreTold (replicate points false) (replicate steps false)
 none-told points steps n t node marked = absurd (both_ways (is_marked (replicate points false) n t) (blank points (t * 8 + n)) marked)
+
+pub none-between : (points first_node last_node first_step last_step : ℕ)
+    → AreBetween (replicate points false) first_node last_node first_step last_step
+none-between points first_node last_node first_step last_step n t node marked =
+    absurd (both_ways (is_marked (replicate points false) n t) (blank points (t * 8 + n)) marked)
 
 one-of : {A : Type 0} (x y : A) (k : ℕ) → k < 1 → get_or (x ∷ []) k y ≡ y → x ≡ y
 one-of x y zero h e = e

@@ -15,8 +15,8 @@ use Rattle.lf_sim.specs.Runs.{World, did, view, sent}
 use Rattle.lf_sim.specs.Settings.{HasSize, IsRun, cell_of, sent_of, set_of, state_of}
 use Rattle.lf_sim.proofs.Laws as laws
 use Rattle.lf_sim.specs.Marks.{is_marked}
-use Rattle.lf_sim.specs.Changes.{AreMarked, Covers, Ignores, IsOnItsWay, IsSpared, IsUnchanged, Stops, Touches}
-use Rattle.lf_sim.proofs.ChangesLemmas.{did-kept}
+use Rattle.lf_sim.specs.Changes.{AreMarked, AreSameBut, Covers, Ignores, IsOnItsWay, IsSameAt, IsSpared, IsUnchanged, Stops, Touches}
+use Rattle.lf_sim.proofs.ChangesLemmas.{did-kept, same-at}
 use Rattle.lf_sim.proofs.MarksLemmas.{unmarked-before}
 
 module _ {State Note Fact : Type 0} (w : World State Note Fact) (from to : List Parts) where
@@ -233,3 +233,13 @@ module _ {M State Note Fact : Type 0} (w : World State Note Fact) (from to : Lis
             ]
           ];
         }
+
+-- the points that aren't marked in the end: what comes out there is the same
+pub same-but : {M State Note Fact : Type 0} (w : World State Note Fact) (from to : List Parts) (run : Run M State Note Fact) (points : List Bool)
+    → IsOnItsWay w from to run (w.horizon + 1) 0 → Covers w from to run points → AreSameBut w from to points
+same-but w from to run points way covers n zero node first last free = absurd (omega (arith, first))
+same-but w from to run points way covers n (suc v) node first last free =
+    let next : v + 1 ≡ suc v = omega arith in
+    subst (IsSameAt w from to n) next
+    (same-at w from to run n v (subst (IsUnchanged w from to run n) (sym next) (covers n (suc v) node first last free))
+    (λ m s inside early. way.done m s inside (omega (arith, early, last))) node)

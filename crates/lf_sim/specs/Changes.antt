@@ -76,3 +76,12 @@ module _ {M State Note Fact : Type 0} (w : World State Note Fact) (to : List Par
 -- each point that isn't marked is unchanged so far
 abbrev pub Covers : {M State Note Fact : Type 0} → World State Note Fact → List Parts → List Parts → Run M State Note Fact → List Bool → Type 0
 Covers w from to run points = (m u : ℕ) → m < w.rules.nodes → 1 ≤ u → u ≤ w.horizon → is_marked points m u ≡ false → IsUnchanged w from to run m u
+
+-- at each point that isn't marked a node is up under both sets or under neither, and has the same view after it
+pub record IsSameAt {State Note Fact : Type 0} (w : World State Note Fact) (from to : List Parts) (n t : ℕ) : Type 0 where
+  pub up : is_up w from n t ≡ is_up w to n t
+  pub view : view w from n t ≡ view w to n t
+
+abbrev pub AreSameBut : {State Note Fact : Type 0} → World State Note Fact → List Parts → List Parts → List Bool → Type 0
+AreSameBut w from to points =
+    (n t : ℕ) → n < w.rules.nodes → 1 ≤ t → t ≤ w.horizon → is_marked points n t ≡ false → IsSameAt w from to n t

@@ -10,3 +10,4 @@ pub mod Tables
 pub mod Changes
 pub mod Differences
 pub mod Marks
+pub mod Turns

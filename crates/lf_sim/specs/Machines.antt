@@ -1,5 +1,6 @@
 -- What a machine does.
-use Rattle.std.specs.Prelude.{ℕ, Bool, List}
+use Rattle.std.specs.Prelude.{ℕ, Bool, List, Option}
+use Rattle.lf_sim.specs.declared.entry.Entry.{Entry}
 use Rattle.lf_sim.specs.declared.letter.Letter.{Letter}
 use Rattle.lf_sim.specs.declared.out.Stepped.{Stepped}
 
@@ -14,3 +15,5 @@ pub record Rules (State Note Fact : Type 0) : Type 0 where
   pub wake : ℕ → ℕ → State → State
   -- whether a node's state shows a fact
   pub shows : ℕ → State → Fact → Bool
+  -- what a node's state enters under a topic, by the topic's number
+  pub entry : ℕ → State → ℕ → Option Entry

@@ -9,6 +9,7 @@ use Rattle.lf_sim.specs.declared.record.Run.{Run}
 use Rattle.lf_sim.specs.declared.setting.Setting.{Setting}
 use Rattle.lf_sim.specs.Outs.{note_to}
 use Rattle.lf_sim.specs.Runs.{World, takes_step, did}
+use Rattle.lf_sim.specs.Turns.{turns_of}
 
 abbrev pub world_of : {M State Note Fact : Type 0} {g : Ghosts M State Note Fact} {p q r : _} → Setting M State Note Fact g p q r → World State Note Fact
 world_of {g = g} setting =
@@ -31,7 +32,7 @@ horizon_of run = run.grid.horizon
 
 -- what n did at t, by the run
 abbrev pub cell_of : {M State Note Fact : Type 0} → Run M State Note Fact → ℕ → ℕ → Option (Stepped State Note)
-cell_of run n t = slice_get run.grid.cells.items (t * run.grid.nodes + n)
+cell_of run n t = slice_get (turns_of run.grid.cells) (t * run.grid.nodes + n)
 
 -- what a run's readers give: whether n is up at t, its state after t, and what it sent to m at t
 abbrev pub up_of : {M State Note Fact : Type 0} → Run M State Note Fact → ℕ → ℕ → Bool

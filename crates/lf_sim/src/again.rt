@@ -1,12 +1,14 @@
 //! A point of a run, worked again.
 
-ghost use Rattle.std.specs.Prelude.{◌≡◌, ◌≢◌, ℕ, ◌+◌, ◌-◌, ◌<◌, ◌≤◌, Some, slice_index_or, vec_len, vec_capacity};
+ghost use Rattle.std.specs.Prelude.{◌≡◌, ◌≢◌, ℕ, ◌+◌, ◌-◌, ◌<◌, ◌≤◌, length, Some, slice_index_or};
+ghost use Rattle.lf_sim.specs.declared.out.Stepped.{Stepped};
 ghost use Rattle.lf_sim.specs.Differences.{IsTold};
 ghost use Rattle.lf_sim.specs.Runs.{did};
 ghost use Rattle.lf_sim.specs.Settings.{HasSize, IsRunBefore, cell_of, set_of, world_of};
+ghost use Rattle.lf_sim.specs.Turns.{turns_of, room_of};
 
 use crate::runs::put_turn;
-use crate::{Difference, Effects, Machine, Run, Setting, Stepped};
+use crate::{Difference, Effects, Machine, Run, Setting, Turns};
 
 /// Works again what a node does at a step, in a run that up to that step is as the set of faults has it. Tells where that may differ
 /// from what stood there.
@@ -46,28 +48,28 @@ pub fn play_again<M: Machine>(
     put_last(&setting.machine, &mut grid.cells, place)
 }
 
-/// Puts the last turn in the place of another one, and tells where they may differ. A turn that is known to be the same isn't copied.
+/// Puts the last turn in the place of another one, and tells where they may differ. A turn that is known to be the same isn't moved.
 fn put_last<M: Machine>(
     machine: &M,
-    cells: &mut Vec<Stepped<M::State, M::Note>>,
+    cells: &mut Turns<M::State, M::Note>,
     place: usize,
 ) -> Difference
-    requires { place + 1 < vec_len cells.old }
+    requires { place + 1 < length (turns_of cells.old) }
     ensures told { (d : Stepped M.State M.Note) →
-        IsTold result (slice_index_or cells.old.items place d) (slice_index_or cells.old.items (vec_len cells.old - 1) d) }
-    ensures len { vec_len cells.new + 1 ≡ vec_len cells.old }
-    ensures capacity { vec_capacity cells.new ≡ vec_capacity cells.old }
+        IsTold result (slice_index_or (turns_of cells.old) place d) (slice_index_or (turns_of cells.old) (length (turns_of cells.old) - 1) d) }
+    ensures len { length (turns_of cells.new) + 1 ≡ length (turns_of cells.old) }
+    ensures capacity { room_of cells.new ≡ room_of cells.old }
     ensures there { (d : Stepped M.State M.Note) →
-        slice_index_or cells.new.items place d ≡ slice_index_or cells.old.items (vec_len cells.old - 1) d }
-    ensures others { (k : ℕ) (d : Stepped M.State M.Note) → k ≢ place → k + 1 < vec_len cells.old →
-        slice_index_or cells.new.items k d ≡ slice_index_or cells.old.items k d }
+        slice_index_or (turns_of cells.new) place d ≡ slice_index_or (turns_of cells.old) (length (turns_of cells.old) - 1) d }
+    ensures others { (k : ℕ) (d : Stepped M.State M.Note) → k ≢ place → k + 1 < length (turns_of cells.old) →
+        slice_index_or (turns_of cells.new) k d ≡ slice_index_or (turns_of cells.old) k d }
 {
     let last = cells.len() - 1;
-    let difference = Difference::between(machine, &cells[place], &cells[last]);
+    let difference = Difference::between(machine, &cells.seen(place), &cells.seen(last));
     if difference.is_none() {
-        let _last = cells.pop();
+        cells.drop_last();
     } else {
-        let _stood = cells.swap_remove(place);
+        cells.put_last(place);
     }
     difference
 }

@@ -3,7 +3,7 @@
 ghost use Rattle.std.specs.Prelude.{◌≡◌, ◌≢◌, ◌⊎◌, ℕ, ◌+◌, ◌<◌, ◌≤◌, true, false};
 ghost use Rattle.lf_faults.specs.Faults.{IsFault};
 ghost use Rattle.lf_latency.specs.Arrivals.{arrival_of};
-ghost use Rattle.lf_sim.specs.Changes.{AreMarked, Covers, Ignores, IsMarked, IsOnItsWay};
+ghost use Rattle.lf_sim.specs.Changes.{AreMarked, AreSameBut, Covers, Ignores, IsMarked, IsOnItsWay};
 ghost use Rattle.lf_sim.specs.Differences.{differs};
 ghost use Rattle.lf_sim.specs.Marks.{is_marked};
 ghost use Rattle.lf_sim.specs.Settings.{HasSize, IsRun, set_of, world_of};
@@ -13,11 +13,12 @@ use crate::{Difference, Effects, Machine, Run, Setting, play_again};
 use lf_faults::{FaultSet, Parts};
 
 /// Makes the run of a set of faults that of another set: it works the points again in which the sets differ, and those to which that
-/// brings other states or notes. It takes no memory.
-pub fn rerun<M: Machine>(setting: &Setting<M>, run: &mut Run<M>, set: &FaultSet)
+/// brings other states or notes. It takes no memory. Tells which points these are: at all others a node is up as before, and has the same view.
+pub fn rerun<M: Machine>(setting: &Setting<M>, run: &mut Run<M>, set: &FaultSet) -> Marks
     requires { IsRun (world_of setting.now) run.old }
     ensures run { IsRun (world_of setting.now) run.new }
     ensures set { set_of run.new ≡ set.now }
+    ensures same { AreSameBut (world_of setting.now) (set_of run.old) set.now result.points }
 {
     let from = run.set();
     let to = Effects::new(set);
@@ -29,6 +30,7 @@ pub fn rerun<M: Machine>(setting: &Setting<M>, run: &mut Run<M>, set: &FaultSet)
     let mut marks = change.touched(run);
     run.rename(set);
     change.carry(run, &mut marks);
+    marks
 }
 
 /// The change of the run of one set of faults into that of another.
@@ -131,15 +133,16 @@ impl<M: Machine> Change<'_, M> {
             return true;
         }
         let machine = &self.setting.machine;
-        !machine.ignores_letters(node, step, &run.turn(node, step - 1).state)
+        !machine.ignores_letters(node, step, run.state_at(node, step - 1))
     }
 
     /// Makes the run that of the second set, where it is that of the first and `marks` are the points in which the sets differ.
     pub(crate) fn carry(&self, run: &mut Run<M>, marks: &mut Marks)
         requires way { IsOnItsWay (world_of self.now.setting.now) self.now.from.now self.now.to.now.set run.old 1 0 }
         requires marks { Covers (world_of self.now.setting.now) self.now.from.now self.now.to.now.set run.old marks.old.points }
-        ensures { IsOnItsWay (world_of self.now.setting.now) self.now.from.now self.now.to.now.set run.new
+        ensures way { IsOnItsWay (world_of self.now.setting.now) self.now.from.now self.now.to.now.set run.new
             ((world_of self.now.setting.now).horizon + 1) 0 }
+        ensures marks { Covers (world_of self.now.setting.now) self.now.from.now self.now.to.now.set run.new marks.new.points }
     {
         for step in 1..self.setting.spec.horizon() + 1 {
             if marks.has_any(step) {

@@ -1,11 +1,12 @@
 //! What every node does.
 
-ghost use Rattle.std.specs.Prelude.{◌≡◌, IsTrue, ℕ, ◌+◌, ◌<◌, ◌≤◌, ◌⊎◌, List, [], ◌∷◌, ◌++◌, None, vec_len, vec_capacity};
+ghost use Rattle.std.specs.Prelude.{◌≡◌, IsTrue, ℕ, ◌<◌, ◌≤◌, ◌⊎◌, List, [], ◌∷◌, ◌++◌, length, None};
 ghost use Rattle.lf_sim.specs.declared.letter.Letter.{Letter};
 ghost use Rattle.lf_sim.specs.Outs.{note_to};
 ghost use Rattle.lf_sim.specs.Machines.{Rules};
+ghost use Rattle.lf_sim.specs.Turns.{turns_of, room_of};
 
-use crate::{Letter, Stepped};
+use crate::{Entry, Letter, Stepped, Turns};
 
 /// A protocol: what each node does at each step, as a written function of what it is given.
 pub trait Machine {
@@ -53,16 +54,15 @@ pub trait Machine {
         t: u32,
         state: Self::State,
         inbox: &[Letter<Self::Note>],
-        turns: &mut Vec<Stepped<Self::State, Self::Note>>,
+        turns: &mut Turns<Self::State, Self::Note>,
     )
         requires node { node < (rules self.now).nodes }
         requires t { (1 ≤ t) × (t ≤ 48) }
-        requires room { vec_len turns.old < vec_capacity turns.old }
-        ensures items { turns.new.items ≡ turns.old.items ++ (rules self.now).step node t state inbox.now ∷ [] }
-        ensures len { vec_len turns.new ≡ vec_len turns.old + 1 }
-        ensures capacity { vec_capacity turns.new ≡ vec_capacity turns.old }
+        requires room { length (turns_of turns.old) < room_of turns.old }
+        ensures items { turns_of turns.new ≡ turns_of turns.old ++ (rules self.now).step node t state inbox.now ∷ [] }
+        ensures capacity { room_of turns.new ≡ room_of turns.old }
     {
-        turns.push_reserved(self.step(node, t, state, inbox));
+        turns.push(&self.step(node, t, state, inbox));
     }
 
     /// What is left of a node's state where it restarts at step `t`, the first after a pause. The step then goes on
@@ -105,6 +105,12 @@ pub trait Machine {
     fn shows(&self, node: u32, state: Self::State, fact: Self::Fact) -> bool
         requires { node < (rules self.now).nodes }
         ensures { result ≡ (rules self.now).shows node state fact };
+
+    /// What a node's state enters under a topic, by the topic's number: a value for a key. None where it enters nothing there, as all states do of a machine
+    /// without topics.
+    fn entry(&self, node: u32, state: &Self::State, topic: u8) -> Option<Entry>
+        requires { node < (rules self.now).nodes }
+        ensures { result ≡ (rules self.now).entry node state.now topic };
 
     /// No node sends a note to itself, or to a number that isn't a node.
     ghost silent: { (m : Self) (n t to : ℕ) (state : Self.State) (inbox : List (Letter Self.Note)) →

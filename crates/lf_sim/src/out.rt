@@ -1,6 +1,6 @@
 //! What a step gives.
 
-ghost use Rattle.std.specs.Prelude.{⊤, ◌≡◌, ◌≢◌, ℕ, ◌<◌};
+ghost use Rattle.std.specs.Prelude.{⊤, ◌≡◌, ◌≢◌, ◌↔◌, ℕ, ◌<◌, IsTrue};
 ghost use Rattle.lf_sim.specs.Outs.{note_to, nothing, note_to_other, to_others, with_note};
 
 use std::alloc::AllocError;
@@ -77,6 +77,20 @@ impl<N: Copy> Out<N> {
             to6: to_other(nodes, node, note, 6),
             to7: to_other(nodes, node, note, 7),
         }
+    }
+
+    /// Whether there is no note.
+    pub fn is_none(&self) -> bool
+        ensures { IsTrue result ↔ (self.now ≡ nothing) }
+    {
+        self.to0.is_none()
+            && self.to1.is_none()
+            && self.to2.is_none()
+            && self.to3.is_none()
+            && self.to4.is_none()
+            && self.to5.is_none()
+            && self.to6.is_none()
+            && self.to7.is_none()
     }
 
     /// The note for a node. None where there is none, and for numbers from 8 on.

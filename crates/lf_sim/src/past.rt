@@ -6,10 +6,12 @@ ghost use Rattle.lf_sim.specs.Runs.{letter, letters, before_step, did};
 ghost use Rattle.lf_sim.specs.Schedules.{IsArriving};
 ghost use Rattle.lf_sim.specs.Settings.{world_of};
 ghost use Rattle.lf_sim.specs.Tables.{HasPast};
+ghost use Rattle.lf_sim.specs.Turns.{turns_of, turn_seen};
 
 use crate::effects::Effects;
 use crate::grid::{LETTERS, cell_at};
-use crate::{Letter, Machine, Setting, Slot, Stepped};
+use crate::sends::Seen;
+use crate::{Letter, Machine, Setting, Slot, Turns};
 
 /// What was done up to a step `t`, and under what.
 #[derive(Drop)]
@@ -19,12 +21,12 @@ pub(crate) struct Past<'a, M: Machine> {
     pub(crate) nodes: u32,
     pub(crate) t: u32,
     // By step, the start first, and then by node.
-    pub(crate) cells: &'a [Stepped<M::State, M::Note>],
+    pub(crate) cells: &'a Turns<M::State, M::Note>,
     ghost nodes_agree: { nodes ≡ (M.rules setting.now.machine).nodes },
     ghost few: { nodes ≤ 8 },
     ghost early: { t < setting.now.spec.horizon },
     ghost short: { t < 48 },
-    ghost done: { HasPast (world_of setting.now) effects.now.set cells.now (t + 1) },
+    ghost done: { HasPast (world_of setting.now) effects.now.set (turns_of cells.now) (t + 1) },
 }
 
 impl<M: Machine> Past<'_, M> {
@@ -86,7 +88,7 @@ impl<M: Machine> Past<'_, M> {
     {
         let from = u32::from(slot.from);
         let sent = u32::from(slot.sent);
-        let Some(note) = self.cell(from, sent).out.to(to) else {
+        let Some(note) = self.cell(from, sent).note(to) else {
             return None;
         };
         if self.effects.omits(from, to, sent) {
@@ -97,10 +99,10 @@ impl<M: Machine> Past<'_, M> {
     }
 
     /// What a node did at a step up to `t`.
-    pub(crate) fn cell(&self, node: u32, step: u32) -> &Stepped<M::State, M::Note>
+    pub(crate) fn cell(&self, node: u32, step: u32) -> Seen<'_, M::State, M::Note>
         requires node { node < self.now.nodes }
         requires step { step ≤ self.now.t }
-        ensures { result.now ≡ did (world_of self.now.setting.now) self.now.effects.now.set node step }
+        ensures { turn_seen result ≡ did (world_of self.now.setting.now) self.now.effects.now.set node step }
     {
         cell_at(self.cells, self.nodes, node, step)
     }

@@ -80,16 +80,25 @@ impl<M: Machine> Run<M> {
         ensures meaning { (w : World M.State M.Note M.Fact) → IsRun w self.now →
             result ≡ view w (set_of self.now) node step }
     {
-        self.grid.cell(node, step).state
+        self.grid.cell(node, step).kept.state
+    }
+
+    /// The same state, to look at where it stands.
+    pub(crate) fn state_at(&self, node: u32, step: u32) -> &M::State
+        requires node { node < nodes_of self.now }
+        requires step { step ≤ horizon_of self.now }
+        ensures { Some result.now ≡ state_of self.now node step }
+    {
+        &self.grid.cell(node, step).kept.state
     }
 
     /// What a node did at a step: its state after it, and what it sent in it. At step 0 that is its start.
-    pub fn turn(&self, node: u32, step: u32) -> &Stepped<M::State, M::Note>
+    pub fn turn(&self, node: u32, step: u32) -> Stepped<M::State, M::Note>
         requires node { node < nodes_of self.now }
         requires step { step ≤ horizon_of self.now }
-        ensures { cell_of self.now node step ≡ Some result.now }
+        ensures { cell_of self.now node step ≡ Some result }
     {
-        self.grid.cell(node, step)
+        self.grid.cell(node, step).turn()
     }
 
     /// What a node sent to another at a step, lost or not. None where it wasn't up.
@@ -100,7 +109,7 @@ impl<M: Machine> Run<M> {
         ensures meaning { (w : World M.State M.Note M.Fact) → IsRun w self.now →
             result ≡ sent w (set_of self.now) from to step }
     {
-        self.grid.cell(from, step).out.to(to)
+        self.grid.cell(from, step).note(to)
     }
 }
 

@@ -1,20 +1,21 @@
 //! A run, round by round.
 
-ghost use Rattle.std.specs.Prelude.{◌≡◌, ℕ, ◌+◌, ◌*◌, ◌<◌, ◌≤◌, [], ◌∷◌, ◌++◌, length, IfOk, slice_get, Some, vec_len, vec_capacity};
+ghost use Rattle.std.specs.Prelude.{◌≡◌, ℕ, ◌+◌, ◌*◌, ◌<◌, ◌≤◌, [], ◌∷◌, ◌++◌, length, IfOk, slice_get, Some, vec_capacity};
 ghost use Rattle.lf_sim.specs.Runs.{did};
 ghost use Rattle.lf_sim.specs.Tables.{HasPast, table};
 ghost use Rattle.lf_sim.specs.Settings.{world_of, set_of, nodes_of, horizon_of, up_of, state_of, sent_of, IsRun};
+ghost use Rattle.lf_sim.specs.Turns.{turns_of, room_of};
 
 use crate::effects::Effects;
 use crate::grid::{CELLS, Grid, LETTERS};
 use crate::past::Past;
-use crate::{Letter, Machine, Out, Run, Setting, Stepped};
+use crate::{Letter, Machine, Run, Setting, Turns};
 use lf_faults::FaultSet;
 use std::alloc::{AllocError, Global};
 
 /// The run of a machine under a set of faults: what every node did after each step.
 ///
-/// It takes memory twice, and only for that it fails.
+/// It takes memory three times, and only for that it fails.
 pub fn run<M: Machine>(
     alloc: Global,
     setting: &Setting<M>,
@@ -23,7 +24,7 @@ pub fn run<M: Machine>(
     ensures run { IfOk result (IsRun (world_of setting.now)) }
     ensures set { IfOk result (λ run. set_of run ≡ set.now) }
 {
-    let cells = Vec::with_capacity(alloc, CELLS)?;
+    let cells = Turns::with_capacity(alloc, CELLS)?;
     let inbox = Vec::with_capacity(alloc, LETTERS)?;
     Ok(played(setting, set, cells, inbox))
 }
@@ -46,12 +47,11 @@ pub fn runs_agree<M: Machine>(setting: &Setting<M>, one: &Run<M>, other: &Run<M>
 fn played<M: Machine>(
     setting: &Setting<M>,
     set: &FaultSet,
-    cells: Vec<Stepped<M::State, M::Note>>,
+    cells: Turns<M::State, M::Note>,
     inbox: Vec<Letter<M::Note>>,
 ) -> Run<M>
-    requires blank { cells.items ≡ [] }
-    requires none { vec_len cells ≡ 0 }
-    requires cells { CELLS ≤ vec_capacity cells }
+    requires blank { turns_of cells ≡ [] }
+    requires cells { CELLS ≤ room_of cells }
     requires letters { LETTERS ≤ vec_capacity inbox }
     ensures run { IsRun (world_of setting.now) result }
     ensures set { set_of result ≡ set.now }
@@ -83,22 +83,17 @@ fn put_starts<M: Machine>(
     setting: &Setting<M>,
     effects: &Effects,
     nodes: u32,
-    cells: &mut Vec<Stepped<M::State, M::Note>>,
+    cells: &mut Turns<M::State, M::Note>,
 )
     requires nodes { nodes ≡ (M.rules setting.now.machine).nodes }
     requires few { nodes ≤ 8 }
-    requires blank { cells.old.items ≡ [] }
-    requires none { vec_len cells.old ≡ 0 }
-    requires room { CELLS ≤ vec_capacity cells.old }
-    ensures cells { cells.new.items ≡ table (world_of setting.now) effects.now.set 1 }
-    ensures len { vec_len cells.new ≡ nodes }
-    ensures capacity { vec_capacity cells.new ≡ vec_capacity cells.old }
+    requires blank { turns_of cells.old ≡ [] }
+    requires room { CELLS ≤ room_of cells.old }
+    ensures cells { turns_of cells.new ≡ table (world_of setting.now) effects.now.set 1 }
+    ensures capacity { room_of cells.new ≡ room_of cells.old }
 {
     for node in 0..nodes {
-        cells.push_reserved(Stepped {
-            state: setting.machine.start(node),
-            out: Out::none(),
-        });
+        cells.push_silent(setting.machine.start(node));
     }
 }
 
@@ -107,7 +102,7 @@ fn put_turns<M: Machine>(
     setting: &Setting<M>,
     effects: &Effects,
     nodes: u32,
-    cells: &mut Vec<Stepped<M::State, M::Note>>,
+    cells: &mut Turns<M::State, M::Note>,
     inbox: &mut Vec<Letter<M::Note>>,
     t: u32,
 )
@@ -115,13 +110,11 @@ fn put_turns<M: Machine>(
     requires few { nodes ≤ 8 }
     requires step { t < setting.now.spec.horizon }
     requires short { t < 48 }
-    requires before { cells.old.items ≡ table (world_of setting.now) effects.now.set (t + 1) }
-    requires len { vec_len cells.old ≡ (t + 1) * nodes }
-    requires room { CELLS ≤ vec_capacity cells.old }
+    requires before { turns_of cells.old ≡ table (world_of setting.now) effects.now.set (t + 1) }
+    requires room { CELLS ≤ room_of cells.old }
     requires letters { LETTERS ≤ vec_capacity inbox.old }
-    ensures cells { cells.new.items ≡ table (world_of setting.now) effects.now.set (t + 2) }
-    ensures len { vec_len cells.new ≡ (t + 2) * nodes }
-    ensures capacity { vec_capacity cells.new ≡ vec_capacity cells.old }
+    ensures cells { turns_of cells.new ≡ table (world_of setting.now) effects.now.set (t + 2) }
+    ensures capacity { room_of cells.new ≡ room_of cells.old }
     ensures letters { vec_capacity inbox.new ≡ vec_capacity inbox.old }
 {
     for node in 0..nodes {
@@ -134,7 +127,7 @@ pub(crate) fn put_turn<M: Machine>(
     setting: &Setting<M>,
     effects: &Effects,
     nodes: u32,
-    cells: &mut Vec<Stepped<M::State, M::Note>>,
+    cells: &mut Turns<M::State, M::Note>,
     inbox: &mut Vec<Letter<M::Note>>,
     t: u32,
     node: u32,
@@ -144,12 +137,12 @@ pub(crate) fn put_turn<M: Machine>(
     requires node { node < nodes }
     requires step { t < setting.now.spec.horizon }
     requires short { t < 48 }
-    requires before { HasPast (world_of setting.now) effects.now.set cells.old.items (t + 1) }
-    requires room { vec_len cells.old < vec_capacity cells.old }
+    requires before { HasPast (world_of setting.now) effects.now.set (turns_of cells.old) (t + 1) }
+    requires room { length (turns_of cells.old) < room_of cells.old }
     requires letters { LETTERS ≤ vec_capacity inbox.old }
-    ensures cells { cells.new.items ≡ cells.old.items ++ did (world_of setting.now) effects.now.set node (t + 1) ∷ [] }
-    ensures len { vec_len cells.new ≡ vec_len cells.old + 1 }
-    ensures capacity { vec_capacity cells.new ≡ vec_capacity cells.old }
+    ensures cells { turns_of cells.new ≡ turns_of cells.old ++ did (world_of setting.now) effects.now.set node (t + 1) ∷ [] }
+    ensures len { length (turns_of cells.new) ≡ length (turns_of cells.old) + 1 }
+    ensures capacity { room_of cells.new ≡ room_of cells.old }
     ensures letters { vec_capacity inbox.new ≡ vec_capacity inbox.old }
 {
     let past = Past {
@@ -159,16 +152,13 @@ pub(crate) fn put_turn<M: Machine>(
         t,
         cells,
     };
-    let last = past.cell(node, t).state;
+    let last = past.cell(node, t).kept.state;
     let length = setting.spec.pause_length();
     if effects.leaves_up(node, t + 1, length) {
         let state = past.before_step(length, node, last);
         past.put_heeded(inbox, node, &state);
         setting.machine.put_step(node, t + 1, state, inbox, cells);
     } else {
-        cells.push_reserved(Stepped {
-            state: last,
-            out: Out::none(),
-        });
+        cells.push_silent(last);
     }
 }

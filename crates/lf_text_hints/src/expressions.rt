@@ -90,6 +90,7 @@ fn unfit(reader: &Reader<'_>, slip: Slip) -> Result<usize, Stop> {
         match reader.before(from) {
             "not" => reader.wants(&one, Sort::Truth, "`not` stands before a truth value")?,
             "of" => reader.wants_nodes(&one, "behind `of` stands a set of nodes")?,
+            "where" => reader.wants(&one, Sort::Truth, "behind `where` stands a truth value")?,
             "[" => {
                 reader.wants(&one, Sort::Number, IN_BRACKETS)?;
                 return Err(no_item(reader, from.saturating_sub(2)));

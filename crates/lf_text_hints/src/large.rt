@@ -6,7 +6,7 @@ use std::alloc::{AllocError, Global};
 use toml::{Table, Value};
 
 /// The most atoms of a formula.
-const MOST_ATOMS: u64 = 512;
+const MOST_ATOMS: u64 = 4096;
 
 /// The deepest formula.
 const MOST_DEPTH: u32 = 8;

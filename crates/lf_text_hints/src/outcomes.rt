@@ -5,12 +5,13 @@ use lf_diagnostics::{
     COMPARISONS, Class, Known, Near, Reader, Spot, Stop, Words, behind, first_named, instead_of,
     is_number, is_of_word,
 };
-use lf_grammar::{Slip, Why};
+use lf_grammar::{Place, Slip, Why};
 use lf_promises::{PromiseError, read_promise};
+use lf_rules::{Scope, Within};
 use lf_texts::is_reserved;
 
 /// What a part of an outcome begins with, besides facts.
-pub(crate) const UNITS: [&str; 7] = ["each", "no", "some", "at", "down", "always", "ever"];
+pub(crate) const UNITS: [&str; 8] = ["each", "no", "some", "at", "down", "always", "ever", "one"];
 
 /// Reads an outcome to the end of its text. The error is where that stops.
 pub(crate) fn read_outcome(reader: &Reader<'_>) -> Result<(), Stop> {
@@ -33,13 +34,16 @@ fn stop_in(reader: &Reader<'_>, slip: Slip) -> Stop {
     let (from, at) = (reader.piece_at(slip.from), reader.piece_at(slip.at));
     match slip.why {
         Why::Rest => left_there(reader, at),
-        Why::Time => Stop::at(
+        Why::Time => twice(reader, at),
+        Why::Of => no_of(reader, at),
+        Why::Fact | Why::Nodes if is_behind_guard(reader, at) => Stop::at(
             at,
-            Words::of("neither `always` nor `ever` stands within one of the two"),
+            Words::of("brackets keep together what stands behind `where`: `where (a and b)`"),
         ),
         Why::Fact => no_such_fact(reader, at),
         Why::Node => no_node(reader, at),
         Why::Nodes => unsaid(reader, at),
+        _ if is_asked(reader, from) => stop_asked(reader, slip),
         Why::Sign(_) if !reader.is_end(at) && is_outer(reader.before(from)) => {
             left_there(reader, at)
         }
@@ -51,6 +55,78 @@ fn stop_in(reader: &Reader<'_>, slip: Slip) -> Stop {
             slip,
         ),
     }
+}
+
+/// What is told of a refusal in what is to have one value.
+fn stop_asked(reader: &Reader<'_>, slip: Slip) -> Stop {
+    let place = Place {
+        definition: reader.place.definition,
+        names: reader.place.names,
+        fields: reader.place.fields,
+        scope: Scope::Outcome,
+        within: Within::Nothing,
+    };
+    let inner = Reader {
+        spot: Spot::Fact,
+        place: &place,
+        ..*reader
+    };
+    stop_at(&inner, slip)
+}
+
+/// Whether a piece stands in what is to have one value: behind `one value of`, and before what joins the next part.
+fn is_asked(reader: &Reader<'_>, at: usize) -> bool {
+    let mut depth: Option<u32> = None;
+    for here in 0..at {
+        depth = match (reader.piece(here), depth) {
+            ("of", _) if is_topic(reader, here) => Some(0),
+            ("(" | "[" | "{", Some(open)) => Some(open.saturating_add(1)),
+            (")" | "]" | "}", Some(open)) => open.checked_sub(1),
+            ("and" | "or", Some(0)) => None,
+            _ => depth,
+        };
+    }
+    depth.is_some()
+}
+
+/// Whether the `of` at a piece stands behind `one value`. Behind `at most` that is a count of nodes with a fact.
+fn is_topic(reader: &Reader<'_>, at: usize) -> bool {
+    reader.before(at) == "value"
+        && reader.before(at.saturating_sub(1)) == "one"
+        && reader.before(at.saturating_sub(2)) != "most"
+}
+
+/// Whether a name is joined to what stands behind a `where` without brackets.
+fn is_behind_guard(reader: &Reader<'_>, at: usize) -> bool {
+    let joint = at.saturating_sub(1);
+    let piece = reader.piece(if reader.piece(at) == "not" {
+        behind(at)
+    } else {
+        at
+    });
+    matches!(reader.piece(joint), "and" | "or")
+        && first_named(reader.names, piece).is_some()
+        && is_asked(reader, joint)
+        && reader.has_between(0, joint, "where")
+}
+
+/// That a part that speaks of all steps stands within another one.
+fn twice(reader: &Reader<'_>, at: usize) -> Stop {
+    if reader.piece(at) == "one" {
+        let words = "`one value` speaks of all steps; it stands behind no `always` or `ever`";
+        return Stop::over(at, behind(behind(at)), Words::of(words));
+    }
+    let words = "neither `always` nor `ever` stands within one of the two";
+    Stop::at(at, Words::of(words))
+}
+
+/// That `of` doesn't stand behind `one value`.
+fn no_of(reader: &Reader<'_>, at: usize) -> Stop {
+    if reader.is_end(at) {
+        let words = "nothing stands behind it; `of` has to: `one value of x`";
+        return Stop::at(at.saturating_sub(1), Words::of(words));
+    }
+    Stop::at(at, Words::of("`of` has to stand there: `one value of x`"))
 }
 
 /// Whether a bracket behind a piece encloses parts of an outcome.
@@ -68,6 +144,12 @@ fn no_such_fact(reader: &Reader<'_>, at: usize) -> Stop {
     match reader.before(first) {
         "each" | "no" | "some" | "one" => no_fact(reader, at),
         _ if reader.piece(first) == "at" => no_most_one(reader, first),
+        _ if reader.piece(first) == "one" && first_named(reader.names, "one").is_none() => {
+            Stop::at(
+                first,
+                Words::of("behind `one` stands `value`: `one value of x`"),
+            )
+        }
         _ => no_unit(reader, first),
     }
 }
@@ -163,7 +245,7 @@ fn unsaid(reader: &Reader<'_>, at: usize) -> Stop {
 
 /// Why a piece begins no part of an outcome.
 fn no_unit(reader: &Reader<'_>, at: usize) -> Stop {
-    let units = "each, no, some, at most one, always, ever, down, or a fact with at";
+    let units = "each, no, some, at most one, always, ever, one value of, down, or a fact with at";
     if reader.is_end(at) {
         let last = at.saturating_sub(1);
         let words = if at == 0 {
@@ -205,6 +287,9 @@ fn left_there(reader: &Reader<'_>, at: usize) -> Stop {
         "at" =>
             "a node is named where nothing else says of which nodes: `done at 2`, and not `each done at 2`",
         "," => "one outcome stands there; join two with `and` or `or`",
+        "per" | "where" if is_asked(reader, at) => {
+            "behind `one value of` stand `per` and then `where`, each at most once"
+        }
         _ if COMPARISONS.contains(&piece) || piece == "+" || piece == "-" => {
             "an outcome compares nothing; what is compared stands in `facts` under a name"
         }

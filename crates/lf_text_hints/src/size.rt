@@ -79,6 +79,11 @@ fn sized(promise: &Promise, nodes: u64, steps: u64, room: u32) -> Size {
             ..Size::none()
         },
         Promise::Down { node } | Promise::At { node, .. } => Size::of_node(*node),
+        Promise::One(_) => Size {
+            atoms: 1,
+            depth: 1,
+            ..Size::none()
+        },
     }
 }
 

@@ -1,3 +1,4 @@
+mod Below
 mod Counted
 mod Differences
 mod IdleLemmas

@@ -1,22 +1,26 @@
 //! What one job leaves to the next.
 
 ghost use Rattle.std.specs.Arc.{arc_value};
-ghost use Rattle.lf_sim.specs.Settings.{IsRun, world_of};
+ghost use Rattle.lf_sim.specs.Settings.{IsRun, set_of, world_of};
+ghost use Rattle.lf_residual.specs.Judging.{IsJudged};
 
 use crate::spent::Spent;
 use lf_faults::Fault;
-use lf_outcome::Scenario;
+use lf_outcome::{Point, Scenario};
 use lf_protocols::Protocol;
+use lf_residual::Judged;
 use lf_sim::Run;
 use std::alloc::Global;
 use std::sync::Arc;
 
-/// A run of a scenario.
+/// A run of a scenario, and the scenario's formula, judged in it.
 #[derive(Drop)]
 pub(crate) struct Played {
     pub(crate) scenario: Arc<Scenario>,
     pub(crate) run: Run<Protocol>,
+    pub(crate) judged: Judged,
     ghost plays: { IsRun (world_of (arc_value scenario).setting) run },
+    ghost tells: { IsJudged (world_of (arc_value scenario).setting) (set_of run) (arc_value scenario).formula judged },
 }
 
 /// What working a job leaves, and the next takes: the run of its set, of which the next run is made, memory, and what the job itself leaves.
@@ -24,6 +28,8 @@ pub(crate) struct Played {
 pub struct Scratch {
     /// The run of the last set.
     pub(crate) played: Option<Played>,
+    /// Memory for the points on which the outcome rests.
+    pub(crate) points: Vec<Point>,
     /// Memory for required edges.
     pub(crate) edges: Vec<Fault>,
     /// What a job left, of which the next finding's is made.
@@ -42,6 +48,7 @@ impl Scratch {
     {
         Scratch {
             played: None,
+            points: Vec::new(alloc),
             edges: Vec::new(alloc),
             spent: None,
         }

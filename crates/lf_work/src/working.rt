@@ -5,6 +5,7 @@ ghost use Rattle.std.specs.Arc.{arc_value};
 ghost use Rattle.lf_marks.specs.Answers.{mark_for, reach_of, edges_of};
 ghost use Rattle.lf_sim.specs.Settings.{IsRun, set_of, world_of};
 ghost use Rattle.lf_certificate.specs.Found.{IsFound};
+ghost use Rattle.lf_residual.specs.Judging.{IsJudged};
 ghost use Rattle.lf_work.specs.Jobs.{IsOfJob};
 ghost use Rattle.lf_work.specs.Scratches.{IsScratchFor};
 
@@ -16,8 +17,9 @@ use lf_cone::{put_edges, sharp};
 use lf_faults::{Fault, FaultSet};
 use lf_list::Listed;
 use lf_marks::{Answer, Grown};
-use lf_outcome::{Formula, Point, Reach, evidence, holds};
+use lf_outcome::{Formula, Point, Reach};
 use lf_protocols::{Fact, Protocol};
+use lf_residual::Judged;
 use lf_sim::{Run, Setting};
 use std::alloc::{AllocError, Global};
 
@@ -76,47 +78,50 @@ fn worked(job: &Job, scratch: &mut Scratch) -> Result<Answer, AllocError>
         (arc_value job.now.scenario).formula job.now.set job.now.excluded.items (mark_for answer)) }
     ensures scratch { IsScratchFor (arc_value job.now.scenario) scratch.new }
 {
-    let alloc = *job.excluded.allocator();
     let scenario = job.scenario();
     let setting = scenario.setting();
     let played = run_of(job, scratch.played.take())?;
     let answer = found(
-        alloc,
         setting,
         scenario.formula(),
         &played.run,
+        &played.judged,
         job.excluded.as_slice(),
+        &mut scratch.points,
         &mut scratch.edges,
     )?;
     scratch.played = Some(played);
     Ok(answer)
 }
 
-/// What a run shows of its set, where some faults are excluded. The list of edges is used as memory.
+/// What a run shows of its set, where some faults are excluded, and the formula is judged in it. The lists of points and edges are used as memory.
 fn found(
-    alloc: Global,
     setting: &Setting<Protocol>,
     formula: &Formula<Fact>,
     run: &Run<Protocol>,
+    judged: &Judged,
     excluded: &[Fault],
+    points: &mut Vec<Point>,
     required: &mut Vec<Fault>,
 ) -> Result<Answer, AllocError>
-    requires { IsRun (world_of setting.now) run.now }
+    requires run { IsRun (world_of setting.now) run.now }
+    requires judged { IsJudged (world_of setting.now) (set_of run.now) formula.now judged.now }
     ensures { IfOk result (λ answer. IsFound (world_of setting.now) setting.now.spec formula.now (set_of run.now) excluded.now (mark_for answer)) }
 {
     if run.set().len() >= setting.spec.budget() as usize {
-        return Ok(if holds(setting, formula, run) {
+        return Ok(if judged.holds() {
             Answer::Reaches
         } else {
             Answer::Misses
         });
     }
-    let Some(points) = evidence(alloc, setting, formula, run)? else {
+    if !judged.fill_evidence(setting, formula, run, points)? {
         return Ok(Answer::Misses);
-    };
+    }
     let reach = sharp(setting, run, points.as_slice());
     put_edges(setting, run, &reach, excluded, required)?;
     let edges = required.as_slice();
+    let alloc = *required.allocator();
     Ok(Answer::Branch(grown(alloc, reach, edges)?))
 }
 

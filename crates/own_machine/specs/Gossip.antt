@@ -1,5 +1,5 @@
 -- Nodes that tell each other a number.
-use Rattle.std.specs.Prelude.{ℕ, ◌==◌, if◌then◌else◌, List, [], ◌∷◌, ◌++◌, codes}
+use Rattle.std.specs.Prelude.{ℕ, ◌==◌, if◌then◌else◌, List, [], ◌∷◌, ◌++◌, codes, None}
 use Rattle.std.specs.Fmt.{decimal}
 use Rattle.lf_sim.specs.declared.letter.Letter.{Letter}
 use Rattle.lf_sim.specs.declared.out.Out.{Out}
@@ -24,6 +24,7 @@ gossip = record {
   step = λ n t known inbox. record { state = learned known inbox; out = told n (learned known inbox) };
   wake = λ n t known. known;
   shows = λ n known fact. known == fact;
+  entry = λ n known topic. None;
 }
 
 -- what a trace tells of a state, and of a note

@@ -9,7 +9,7 @@ use lf_latency::{Links, Network};
 use lf_list::Listed;
 use lf_outcome::{Formula, holds};
 use lf_plain::first_missing;
-use lf_sim::{Letter, Machine, Out, Setting, Stepped, run};
+use lf_sim::{Entry, Letter, Machine, Out, Setting, Stepped, run};
 use lf_trace::{Worded, trace};
 use std::alloc::{AllocError, Global};
 use std::io;
@@ -54,6 +54,10 @@ impl Machine for Gossip {
 
     fn shows(&self, _node: u32, known: u32, fact: u32) -> bool {
         known == fact
+    }
+
+    fn entry(&self, _node: u32, _known: &u32, _topic: u8) -> Option<Entry> {
+        None
     }
 
     ghost silent = { λ machine n t to known inbox node first last nobody. told-silent n (learned known inbox) to nobody };

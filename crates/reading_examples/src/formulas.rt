@@ -49,7 +49,8 @@ fn flags(alloc: Global) -> Result<Definition, AllocError> {
     })
 }
 
-/// Appends what a formula is: a capital letter is a fact that is denied, and behind it stand the node and the step.
+/// Appends what a formula is: a capital letter is a fact that is denied, and behind it stand the node and the step. Behind `o` stand how many nodes, the last
+/// step and the number of the topic.
 #[cycle(formula)]
 fn tell(formula: &Formula<Fact>, text: &mut String) -> Result<(), AllocError> {
     match formula {
@@ -62,6 +63,10 @@ fn tell(formula: &Formula<Fact>, text: &mut String) -> Result<(), AllocError> {
                 _ => '?',
             };
             tell_atom(letter, *node, *step, text)
+        }
+        Formula::One { nodes, last, topic } => {
+            tell_atom('o', *nodes, *last, text)?;
+            text.push(digit(u32::from(*topic)))
         }
     }
 }
@@ -137,6 +142,12 @@ fn is(alloc: Global, horizon: u32, source: &str, wanted: &str) -> bool {
     }
 }
 
+/// Eight times 576 atoms, with three nodes and 48 steps.
+const MANY: &str = concat!(
+    "always at most one has and always at most one has and always at most one has and always at most one has and ",
+    "always at most one has and always at most one has and always at most one has and always at most one has",
+);
+
 #[test]
 fn promises_are_formulas(rt: HostRuntime) {
     let alloc = rt.alloc();
@@ -162,10 +173,24 @@ fn promises_are_formulas(rt: HostRuntime) {
         ),
         (2, "down 8", "."),
         (2, "always (down 1 or ever down 2)", "."),
+        (2, "always (down 1 or one value of me)", "."),
         (2, "each has each has", "."),
         (2, "down 3", "-"),
         (2, "always has at 7", "-"),
-        (48, "always at most one has and always at most one has", "+"),
+        (48, MANY, "+"),
+        (2, "one value of me", "o320"),
+        (
+            2,
+            "one value of me per nodes and one value of nodes where clamped",
+            "&(o320o321)",
+        ),
+        (2, "one value of me or down 1", "|(o320d12)"),
+        (
+            2,
+            "(down 0 or one value of me) and some has and (one value of nodes or one value of me)",
+            "&(|(d02o320)|(s02s12s22)|(o321o322))",
+        ),
+        (2, "always one value of me", "."),
     ];
     for (horizon, source, wanted) in rows {
         agrees(&rt, is(alloc, horizon, source, wanted), source);

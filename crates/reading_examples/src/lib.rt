@@ -44,6 +44,8 @@ mod tokens;
 #[cfg(test)]
 mod told;
 #[cfg(test)]
+mod topics;
+#[cfg(test)]
 mod tree_limit;
 #[cfg(test)]
 mod tree_rows;

@@ -224,19 +224,40 @@ fn delays_in(alloc: Global, words: &str) -> Result<Option<String>, AllocError> {
     }
 }
 
-/// The status of a run that is told twice as a row says, and drawn twice.
+/// The status of a run that is told twice as a row says.
+fn told_status(
+    rt: &(impl Threads + Wait + Clock + Sync),
+    alloc: Global,
+    row: &str,
+) -> Result<u8, BytesFault> {
+    let (how, rest) = columns(row);
+    let (faults, delays) = columns(rest);
+    let shown = shown_as(alloc, how)?;
+    let delays = delays_in(alloc, delays)?;
+    let (told, _) = told_twice(rt, alloc, LATE.as_bytes(), faults, shown, delays)?;
+    Ok(told.value.status)
+}
+
+/// The status of the same run, which is drawn twice.
+fn drawn_status(
+    rt: &(impl Threads + Wait + Clock + Sync),
+    alloc: Global,
+    row: &str,
+) -> Result<u8, BytesFault> {
+    let (_, rest) = columns(row);
+    let (faults, delays) = columns(rest);
+    let delays = delays_in(alloc, delays)?;
+    let (drawn, _) = drawn_twice(rt, alloc, LATE.as_bytes(), faults, delays)?;
+    Ok(drawn.value.status)
+}
+
+/// The status of a run that is told twice as a row says, and of one that is drawn twice.
 fn status_of(
     rt: &(impl Threads + Wait + Clock + Sync),
     alloc: Global,
     row: &str,
 ) -> Result<(u8, u8), BytesFault> {
-    let (how, rest) = columns(row);
-    let (faults, delays) = columns(rest);
-    let text = LATE.as_bytes();
-    let shown = shown_as(alloc, how)?;
-    let (told, _) = told_twice(rt, alloc, text, faults, shown, delays_in(alloc, delays)?)?;
-    let (drawn, _) = drawn_twice(rt, alloc, text, faults, delays_in(alloc, delays)?)?;
-    Ok((told.value.status, drawn.value.status))
+    Ok((told_status(rt, alloc, row)?, drawn_status(rt, alloc, row)?))
 }
 
 /// How a run is told, its faults, and the arrivals of its late notes: it misses.

@@ -1,5 +1,6 @@
 -- Runs worked out by hand, that the definitions compute to the same.
 use Rattle.std.proofs.Common.{◌≡◌, ℕ, ◌+◌, true, [], ◌∷◌, length, refl}
+use Rattle.std.specs.Prelude.{None}
 use Rattle.lf_faults.specs.declared.fault.Parts.TheVariants.{Omit, Crash, Pause}
 use Rattle.lf_sim.specs.Outs.{to_others}
 use Rattle.lf_sim.specs.Runs.{World, is_up, before_step, letter, letters, turn, history, did, view, inbox}
@@ -13,6 +14,7 @@ counting = record {
     step = λ n t state letters. record { state = state + length letters; out = to_others 2 n t };
     wake = λ n t state. 10;
     shows = λ n state fact. true;
+    entry = λ n state topic. None;
   };
   horizon = 5;
   pause_length = 2;

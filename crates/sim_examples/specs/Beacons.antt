@@ -1,5 +1,5 @@
 -- Machines for tests.
-use Rattle.std.specs.Prelude.{ℕ, ◌+◌, ◌*◌, ◌%◌, ◌^◌, ◌==◌, Bool, true, false, not, if◌then◌else◌, List, [], ◌∷◌}
+use Rattle.std.specs.Prelude.{ℕ, ◌+◌, ◌*◌, ◌%◌, ◌^◌, ◌==◌, Bool, true, false, not, if◌then◌else◌, List, [], ◌∷◌, None}
 use Rattle.lf_sim.specs.declared.letter.Letter.{Letter}
 use Rattle.lf_sim.specs.declared.out.Out.{Out}
 use Rattle.lf_sim.specs.Machines.{Rules}
@@ -21,6 +21,7 @@ beacon = record {
   step = λ n t state inbox. record { state = told state inbox; out = beacon_out n t };
   wake = λ n t state. (state + t) % 2 ^ 32;
   shows = λ n state fact. state == fact;
+  entry = λ n state topic. None;
 }
 
 -- whether there is a letter
@@ -39,4 +40,5 @@ rumour = record {
   };
   wake = λ n t state. state;
   shows = λ n state fact. state == fact;
+  entry = λ n state topic. None;
 }

@@ -1,5 +1,5 @@
 -- Machines for tests, whose states depend on the order of their inboxes.
-use Rattle.std.specs.Prelude.{ℕ, ◌+◌, ◌*◌, ◌%◌, ◌^◌, ◌==◌, if◌then◌else◌, List, [], ◌∷◌}
+use Rattle.std.specs.Prelude.{ℕ, ◌+◌, ◌*◌, ◌%◌, ◌^◌, ◌==◌, if◌then◌else◌, List, [], ◌∷◌, None}
 use Rattle.lf_sim.specs.declared.letter.Letter.{Letter}
 use Rattle.lf_sim.specs.declared.out.Out.{Out}
 use Rattle.lf_sim.specs.Machines.{Rules}
@@ -23,6 +23,7 @@ ring = record {
   step = λ n t state inbox. record { state = told state inbox; out = ring_out n t (told state inbox) };
   wake = λ n t state. (state + t) % 2 ^ 32;
   shows = λ n state fact. state == fact;
+  entry = λ n state topic. None;
 }
 
 -- of three, the first is told by the others, and tells the last at every third step
@@ -37,4 +38,5 @@ hub = record {
   step = λ n t state inbox. record { state = told t inbox; out = hub_out n t state };
   wake = λ n t state. t * 9;
   shows = λ n state fact. state == fact;
+  entry = λ n state topic. None;
 }

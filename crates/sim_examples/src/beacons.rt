@@ -4,7 +4,7 @@
 ghost use Rattle.std.specs.Prelude.{◌≡◌, ◌<◌, ◌==◌, if◌then◌else◌};
 ghost use Rattle.sim_examples.specs.Beacons.{beacon_out, has_letter, told};
 
-use lf_sim::{Letter, Machine, Out, Stepped};
+use lf_sim::{Entry, Letter, Machine, Out, Stepped};
 
 /// Four nodes, each of which tells another one the step's number, and which one by it too. It can't tell states or notes apart.
 #[derive(Clone, Copy, Drop)]
@@ -43,6 +43,10 @@ impl Machine for Beacon {
 
     fn shows(&self, _node: u32, state: u32, fact: u32) -> bool {
         state == fact
+    }
+
+    fn entry(&self, _node: u32, _state: &u32, _topic: u8) -> Option<Entry> {
+        None
     }
 
     ghost silent = { λ machine n t to state inbox node first last nobody. beacon-silent n t to nobody };
@@ -85,7 +89,7 @@ fn beacon_notes(node: u32, t: u32) -> Out<u32>
 pub(crate) struct Tally;
 
 impl Machine for Tally {
-    ghost use Rattle.std.specs.Prelude.{◌==◌, length};
+    ghost use Rattle.std.specs.Prelude.{◌==◌, length, None};
     ghost use Rattle.lf_sim.specs.Outs.{to_others};
     ghost use Rattle.lf_sim.specs.OutsLemmas.{to_others-silent};
 
@@ -101,6 +105,7 @@ impl Machine for Tally {
       step = λ n t state inbox. record { state = length inbox; out = to_others 3 n state };
       wake = λ n t state. 0;
       shows = λ n state fact. state == fact;
+      entry = λ n state topic. None;
     } };
 
     fn nodes(&self) -> u32 {
@@ -138,6 +143,10 @@ impl Machine for Tally {
 
     fn shows(&self, _node: u32, state: usize, fact: usize) -> bool {
         state == fact
+    }
+
+    fn entry(&self, _node: u32, _state: &usize, _topic: u8) -> Option<Entry> {
+        None
     }
 
     ghost silent = { λ machine n t to state inbox node first last nobody. to_others-silent 3 n state to nobody };
@@ -197,6 +206,10 @@ impl Machine for Rumour {
 
     fn shows(&self, _node: u32, state: u32, fact: u32) -> bool {
         state == fact
+    }
+
+    fn entry(&self, _node: u32, _state: &u32, _topic: u8) -> Option<Entry> {
+        None
     }
 
     ghost silent = { λ machine n t to state inbox node first last nobody. rumour-silent n t to state nobody };

@@ -12,6 +12,8 @@ pub mod doors;
 #[cfg(test)]
 mod fault_texts;
 #[cfg(test)]
+mod kept;
+#[cfg(test)]
 mod latencies;
 #[cfg(test)]
 mod laws;

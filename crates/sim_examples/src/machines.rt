@@ -3,7 +3,7 @@
 ghost use Rattle.std.specs.Prelude.{◌≡◌, ◌<◌};
 ghost use Rattle.sim_examples.specs.Samples.{told, ring_out, hub_out};
 
-use lf_sim::{Letter, Machine, Out, Stepped};
+use lf_sim::{Entry, Letter, Machine, Out, Stepped};
 
 /// Four nodes in a ring. Each tells the next one twice in a step, and the second note stands.
 #[derive(Clone, Copy, Drop)]
@@ -43,6 +43,10 @@ impl Machine for Ring {
 
     fn shows(&self, _node: u32, state: u32, fact: u32) -> bool {
         state == fact
+    }
+
+    fn entry(&self, _node: u32, _state: &u32, _topic: u8) -> Option<Entry> {
+        None
     }
 
     ghost silent = { λ machine n t to state inbox node first last nobody. ring-silent n t to (told state inbox) node nobody };
@@ -85,6 +89,10 @@ impl Machine for Hub {
 
     fn shows(&self, _node: u32, state: u32, fact: u32) -> bool {
         state == fact
+    }
+
+    fn entry(&self, _node: u32, _state: &u32, _topic: u8) -> Option<Entry> {
+        None
     }
 
     ghost silent = { λ machine n t to state inbox node first last nobody. hub-silent n t to state node nobody };
@@ -140,7 +148,7 @@ fn hub_notes(node: u32, t: u32, state: u32) -> Out<u32>
 pub(crate) struct Tally;
 
 impl Machine for Tally {
-    ghost use Rattle.std.specs.Prelude.{◌==◌, length};
+    ghost use Rattle.std.specs.Prelude.{◌==◌, length, None};
     ghost use Rattle.lf_sim.specs.Outs.{to_others};
     ghost use Rattle.lf_sim.specs.OutsLemmas.{to_others-silent};
 
@@ -156,6 +164,7 @@ impl Machine for Tally {
       step = λ n t state inbox. record { state = length inbox; out = to_others 3 n state };
       wake = λ n t state. 0;
       shows = λ n state fact. state == fact;
+      entry = λ n state topic. None;
     } };
 
     fn nodes(&self) -> u32 {
@@ -185,6 +194,10 @@ impl Machine for Tally {
 
     fn shows(&self, _node: u32, state: usize, fact: usize) -> bool {
         state == fact
+    }
+
+    fn entry(&self, _node: u32, _state: &usize, _topic: u8) -> Option<Entry> {
+        None
     }
 
     ghost silent = { λ machine n t to state inbox node first last nobody. to_others-silent 3 n state to nobody };

@@ -4,7 +4,7 @@ use Rattle.std.proofs.lemmas.Option.{slice_get_read}
 use Rattle.lf_sim.specs.Settings.{set_of, world_of}
 use Rattle.lf_tree.specs.Rows.{seen}
 use Rattle.lf_check.proofs.FoundLemmas.{fault_read}
-use Rattle.lf_check.proofs.NodeLemmas.{ok_then}
+use Rattle.lf_check.proofs.NodeLemmas.{ok_then, on-ok}
 use Rattle.lf_check.proofs.RowLemmas.{node_at, read_row}
 use Rattle.lf_check.proofs.part.fault_at.Goals as goal
 
@@ -25,3 +25,6 @@ returns-clause-fault g c =
     (c.requires.places.sets at (Some c.args.set.now) c.requires.set) c.in_ok-run.ensures.set c.len.ensures.value
     (c.faults.ensures ∙ c.in_ok-go_to.ensures.here way p stands)
     h)
+
+pub returns-clause-excluded : goal.returns-clause-excluded
+returns-clause-excluded g c = on-ok c.node_fault-found.result c.in_ok-go_to.ensures.after

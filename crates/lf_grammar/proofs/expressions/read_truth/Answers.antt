@@ -9,7 +9,7 @@ unfolding first_truth
 returns-clause-read c = first-read _ _ _ _ c.read_all.ensures.read
 
 pub returns-clause-typed : goal.returns-clause-typed
-returns-clause-typed c = read-sorted _ _ _ _ c.read_all.ensures.read
+returns-clause-typed c = read-sorted _ _ _ tt _ c.read_all.ensures.read
 
 pub returns-clause-few : goal.returns-clause-few
-returns-clause-few c = read-few _ _ _ refl _ c.read_all.ensures.read
+returns-clause-few c = read-few _ _ _ tt refl _ c.read_all.ensures.read

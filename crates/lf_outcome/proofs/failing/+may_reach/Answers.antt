@@ -1,6 +1,6 @@
 use Rattle.std.proofs.Common.{arith}
 use Rattle.lf_sim.specs.Settings.{set_of, world_of}
-use Rattle.lf_outcome.specs.Failing.{down_or_later, may_reach, shown_or_later}
+use Rattle.lf_outcome.specs.Failing.{down_or_later, may_reach, shown_or_later, single_by}
 use Rattle.lf_outcome.proofs.FailingLemmas.{all-last, all-more, all-wrong, any-last, any-more, any-right, from_all, from_any}
 use Rattle.lf_outcome.proofs.failing.+may_reach.Goals as goal
 
@@ -8,14 +8,14 @@ pub may_reach-returns-in-All : goal.may_reach-returns-in-All
 may_reach-returns-in-All g t c =
     let w = world_of c.args.setting.now in
     let faults = set_of c.args.run.now in
-    from_all (down_or_later w faults c.args.last) (shown_or_later w faults c.args.last) c.args.formula.now c.all_may.result
+    from_all (down_or_later w faults c.args.last) (shown_or_later w faults c.args.last) (single_by w faults c.args.last) c.args.formula.now c.all_may.result
     c.in-All.parts c.as_slice.result.now c.in-All.is c.as_slice.ensures c.all_may.ensures
 
 pub may_reach-returns-in-Any : goal.may_reach-returns-in-Any
 may_reach-returns-in-Any g t c =
     let w = world_of c.args.setting.now in
     let faults = set_of c.args.run.now in
-    from_any (down_or_later w faults c.args.last) (shown_or_later w faults c.args.last) c.args.formula.now c.any_may.result
+    from_any (down_or_later w faults c.args.last) (shown_or_later w faults c.args.last) (single_by w faults c.args.last) c.args.formula.now c.any_may.result
     c.in-Any.parts c.as_slice-in-Any.result.now c.in-Any.is c.as_slice-in-Any.ensures c.any_may.ensures
 
 pub all_may-all-preserved : goal.all_may-all-preserved

@@ -4,9 +4,9 @@ use Rattle.std.specs.Option.{is_some, unwrap_or}
 use Rattle.std.proofs.lemmas.List.{append-nil}
 use Rattle.lf_sim.specs.Settings.{set_of, world_of}
 use Rattle.lf_outcome.specs.Evidence.{evidence_of}
-use Rattle.lf_outcome.specs.Truth.{is_down, is_shown}
+use Rattle.lf_outcome.specs.Truth.{is_down, is_shown, is_single}
 use Rattle.lf_outcome.proofs.EvidenceLemmas.{rests_on-from_all, rests_on-from_any, gathered-none, gathered-more, gathered-missing}
-use Rattle.lf_outcome.proofs.EvidenceLemmas.{found-down, behind-down, found-shows, behind-shows, behind-hidden}
+use Rattle.lf_outcome.proofs.EvidenceLemmas.{behind-many, behind-one, found-down, behind-down, found-shows, behind-shows, behind-hidden}
 use Rattle.lf_outcome.proofs.EvidenceLemmas.{gathered-back, gathered-all, first-found, first-later, first-none, is_missing}
 use Rattle.lf_outcome.proofs.gathering.+gather.Goals as goal
 
@@ -15,7 +15,8 @@ gather-returns-in-All-clause-found g t c =
     let w = world_of c.args.setting.now in
     let faults = set_of c.args.run.now in
     subst (λ o. IfOk c.gather_all.result (λ b. b ≡ is_some o))
-    (rests_on-from_all (is_down w faults) (is_shown w faults) c.args.formula.now c.in-All.parts c.as_slice.result.now c.in-All.is c.as_slice.ensures)
+    (rests_on-from_all (is_down w faults) (is_shown w faults) (is_single w faults) c.args.formula.now c.in-All.parts c.as_slice.result.now
+    c.in-All.is c.as_slice.ensures)
     c.gather_all.ensures.found
 
 pub gather-returns-in-Any-clause-found : goal.gather-returns-in-Any-clause-found
@@ -23,7 +24,7 @@ gather-returns-in-Any-clause-found g t c =
     let w = world_of c.args.setting.now in
     let faults = set_of c.args.run.now in
     subst (λ o. IfOk c.gather_first.result (λ b. b ≡ is_some o))
-    (rests_on-from_any (is_down w faults) (is_shown w faults) c.args.formula.now c.in-Any.parts c.as_slice-in-Any.result.now
+    (rests_on-from_any (is_down w faults) (is_shown w faults) (is_single w faults) c.args.formula.now c.in-Any.parts c.as_slice-in-Any.result.now
     c.in-Any.is c.as_slice-in-Any.ensures)
     c.gather_first.ensures.found
 
@@ -32,7 +33,7 @@ gather-returns-in-Any-clause-points g t c =
     let w = world_of c.args.setting.now in
     let faults = set_of c.args.run.now in
     subst (λ o. OnOk c.gather_first.result (c.gather_first.new.points.items ≡ c.args.points.now.items ++ unwrap_or o []))
-    (rests_on-from_any (is_down w faults) (is_shown w faults) c.args.formula.now c.in-Any.parts c.as_slice-in-Any.result.now
+    (rests_on-from_any (is_down w faults) (is_shown w faults) (is_single w faults) c.args.formula.now c.in-Any.parts c.as_slice-in-Any.result.now
     c.in-Any.is c.as_slice-in-Any.ensures)
     c.gather_first.ensures.points
 
@@ -121,37 +122,55 @@ pub gather-returns-in-Down-clause-found : goal.gather-returns-in-Down-clause-fou
 gather-returns-in-Down-clause-found g t c =
     let w = world_of c.args.setting.now in
     let faults = set_of c.args.run.now in
-    found-down (is_down w faults) (is_shown w faults) c.args.formula.now c.in-Down.node c.in-Down.step _ c.in-Down.is (search rules)
+    found-down (is_down w faults) (is_shown w faults) (is_single w faults) c.args.formula.now c.in-Down.node c.in-Down.step _ c.in-Down.is (search rules)
 
 pub gather-returns-in-Down-clause-points : goal.gather-returns-in-Down-clause-points
 gather-returns-in-Down-clause-points g t c =
     let w = world_of c.args.setting.now in
     let faults = set_of c.args.run.now in
-    behind-down (is_down w faults) (is_shown w faults) c.args.formula.now c.in-Down.node c.in-Down.step _ c.in-Down.is
+    behind-down (is_down w faults) (is_shown w faults) (is_single w faults) c.args.formula.now c.in-Down.node c.in-Down.step _ c.in-Down.is
 
 pub gather-returns-in_ok-push-in-Shows-clause-found : goal.gather-returns-in_ok-push-in-Shows-clause-found
 gather-returns-in_ok-push-in-Shows-clause-found g t c =
     let w = world_of c.args.setting.now in
     let faults = set_of c.args.run.now in
-    found-shows (is_down w faults) (is_shown w faults) c.args.formula.now c.in-Shows.node c.in-Shows.step c.in-Shows.fact _ c.in-Shows.is c.shows-shown.ensures
+    found-shows (is_down w faults) (is_shown w faults) (is_single w faults) c.args.formula.now c.in-Shows.node c.in-Shows.step c.in-Shows.fact
+    _ c.in-Shows.is c.shows-shown.ensures
 
 pub gather-returns-in_ok-push-in-Shows-clause-points : goal.gather-returns-in_ok-push-in-Shows-clause-points
 gather-returns-in_ok-push-in-Shows-clause-points g t c =
     let w = world_of c.args.setting.now in
     let faults = set_of c.args.run.now in
     let pushed : c.push.new.self.items ≡ c.args.points.now.items ++ record { node = c.in-Shows.node; step = c.in-Shows.step } ∷ [] = search rules in
-    pushed ∙ behind-shows (is_down w faults) (is_shown w faults) c.args.formula.now c.in-Shows.node c.in-Shows.step c.in-Shows.fact
+    pushed ∙ behind-shows (is_down w faults) (is_shown w faults) (is_single w faults) c.args.formula.now c.in-Shows.node c.in-Shows.step c.in-Shows.fact
     c.args.points.now.items c.in-Shows.is (sym c.shows-shown.ensures ∙ c.if-shown.true)
 
 pub gather-returns-else-shown-clause-found : goal.gather-returns-else-shown-clause-found
 gather-returns-else-shown-clause-found g t c =
     let w = world_of c.args.setting.now in
     let faults = set_of c.args.run.now in
-    found-shows (is_down w faults) (is_shown w faults) c.args.formula.now c.in-Shows.node c.in-Shows.step c.in-Shows.fact _ c.in-Shows.is c.shows-shown.ensures
+    found-shows (is_down w faults) (is_shown w faults) (is_single w faults) c.args.formula.now c.in-Shows.node c.in-Shows.step c.in-Shows.fact
+    _ c.in-Shows.is c.shows-shown.ensures
 
 pub gather-returns-else-shown-clause-points : goal.gather-returns-else-shown-clause-points
 gather-returns-else-shown-clause-points g t c =
     let w = world_of c.args.setting.now in
     let faults = set_of c.args.run.now in
-    behind-hidden (is_down w faults) (is_shown w faults) c.args.formula.now c.in-Shows.node c.in-Shows.step c.in-Shows.fact _
+    behind-hidden (is_down w faults) (is_shown w faults) (is_single w faults) c.args.formula.now c.in-Shows.node c.in-Shows.step c.in-Shows.fact _
     c.in-Shows.is (sym c.shows-shown.ensures ∙ c.if-shown.false)
+
+pub gather-returns-in_ok-push_up-in-One-clause-points : goal.gather-returns-in_ok-push_up-in-One-clause-points
+gather-returns-in_ok-push_up-in-One-clause-points g t c =
+    let w = world_of c.args.setting.now in
+    let faults = set_of c.args.run.now in
+    let down = is_down w faults in
+    c.in_ok-push_up-in-One.ensures
+    ∙ behind-one down (is_shown w faults) (is_single w faults) c.args.formula.now c.in-One.nodes c.in-One.last c.in-One.topic c.args.points.now.items
+    c.in-One.is (sym c.is_single-single.ensures ∙ c.if-single.true)
+
+pub gather-returns-else-single-clause-points : goal.gather-returns-else-single-clause-points
+gather-returns-else-single-clause-points g t c =
+    let w = world_of c.args.setting.now in
+    let faults = set_of c.args.run.now in
+    behind-many (is_down w faults) (is_shown w faults) (is_single w faults) c.args.formula.now c.in-One.nodes c.in-One.last c.in-One.topic
+    c.args.points.now.items c.in-One.is (sym c.is_single-single.ensures ∙ c.if-single.false)

@@ -1,6 +1,6 @@
 use Rattle.std.proofs.Common.{◌≡◌, take, true, false}
 use Rattle.std.specs.List.{list_all, list_any}
-use Rattle.lf_outcome.specs.Truth.{truth, is_down, is_shown_where}
+use Rattle.lf_outcome.specs.Truth.{truth, is_down, is_shown_where, is_single_where}
 use Rattle.lf_sim.specs.Settings.{world_of, set_of}
 use Rattle.lf_outcome.proofs.truth.+is_true.Given as goal
 
@@ -9,11 +9,11 @@ abbrev pub invariant-all_true-all : goal.invariant-all_true-all
 invariant-all_true-all g l =
     let w = world_of l.setting in
     let faults = set_of l.run in
-    list_all (truth (is_down w faults) (is_shown_where w faults l.limit)) (take l.part-index l.parts) ≡ true
+    list_all (truth (is_down w faults) (is_shown_where w faults l.limit) (is_single_where w faults l.limit)) (take l.part-index l.parts) ≡ true
 
 -- the parts so far aren't true
 abbrev pub invariant-any_true-any : goal.invariant-any_true-any
 invariant-any_true-any g l =
     let w = world_of l.setting in
     let faults = set_of l.run in
-    list_any (truth (is_down w faults) (is_shown_where w faults l.limit)) (take l.part-index l.parts) ≡ false
+    list_any (truth (is_down w faults) (is_shown_where w faults l.limit) (is_single_where w faults l.limit)) (take l.part-index l.parts) ≡ false

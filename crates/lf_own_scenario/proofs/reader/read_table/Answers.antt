@@ -7,4 +7,5 @@ pub returns : goal.returns
 returns c =
     asked-whole c.args.file.now (table_view c.args.table.now)
     (record { described = c.in_ok-described.field-0.described; given = c.in_ok-described.field-0.given.items })
-    c.in_ok-formula.formula c.in_ok-links.links c.assembled.result (search rules) (search rules) (search rules) c.assembled.ensures
+    c.in_ok-formula.field-0 c.in_ok-links.links c.in_ok-described-2.described c.assembled.result (search rules) (search rules) (search rules)
+    (search rules) c.assembled.ensures

@@ -11,7 +11,7 @@ pub depth-returns-in-Nodes : goal.depth-returns-in-Nodes
 depth-returns-in-Nodes t c =
     let s = c.args.scene.now in
     let size = c.depth_of_many.ensures ∙ ap (depth_of_many c.in-Nodes.many) c.count_members.ensures in
-    let whole = ap (λ (p : Promise). depth_of (formula_at s p 0)) c.in-Nodes.is ∙ depth-nodes s c.in-Nodes.many c.in-Nodes.fact c.in-Nodes.of in
+    let whole = ap (λ (p : Promise). depth_of (formula_at s 0 p 0)) c.in-Nodes.is ∙ depth-nodes s c.in-Nodes.many c.in-Nodes.fact c.in-Nodes.of in
     let small = depth-few c.in-Nodes.many c.count_members.result in
     omega (arith, size, whole, small, c.depth_of_many.ensures)
 
@@ -21,6 +21,9 @@ depth-returns-in-Down t c = depth-single c.args.scene.now c.args.promise.now c.i
 pub depth-returns-in-Down-2 : goal.depth-returns-in-Down-2
 depth-returns-in-Down-2 t c = depth-single c.args.scene.now c.args.promise.now c.in-Down.is
 
+pub depth-returns-in-Down-3 : goal.depth-returns-in-Down-3
+depth-returns-in-Down-3 t c = depth-single c.args.scene.now c.args.promise.now c.in-Down.is
+
 pub depth-returns-then-scene-eq0 : goal.depth-returns-then-scene-eq0
 depth-returns-then-scene-eq0 t c =
     ap (λ (k : ℕ). min k 4294967295) (sym (depth-never c.args.scene.now c.args.promise.now c.in-Always.parts c.in-Always.is c.if-scene-eq0.true))
@@ -29,7 +32,7 @@ pub depth-returns-else-scene-eq0 : goal.depth-returns-else-scene-eq0
 depth-returns-else-scene-eq0 t c =
     let s = c.args.scene.now in
     let deepest = c.deepest.ensures
-    ∙ ap (λ (ps : List Promise). min (fold max 0 (map (λ part. depth_of (formula_at s part 0)) ps)) 4294967295) c.as_slice.ensures in
+    ∙ ap (λ (ps : List Promise). min (fold max 0 (map (λ part. depth_of (formula_at s 0 part 0)) ps)) 4294967295) c.as_slice.ensures in
     let whole = depth-always s c.args.promise.now c.in-Always.parts c.in-Always.is c.if-scene-eq0.false in
     omega (arith, c.saturating_add.ensures, deepest, whole)
 
@@ -37,6 +40,6 @@ pub depth-returns-in-All : goal.depth-returns-in-All
 depth-returns-in-All t c =
     let s = c.args.scene.now in
     let deepest = c.deepest-in-All.ensures
-    ∙ ap (λ (ps : List Promise). min (fold max 0 (map (λ part. depth_of (formula_at s part 0)) ps)) 4294967295) c.as_slice-in-All.ensures in
+    ∙ ap (λ (ps : List Promise). min (fold max 0 (map (λ part. depth_of (formula_at s 0 part 0)) ps)) 4294967295) c.as_slice-in-All.ensures in
     let whole = depth-at s c.args.promise.now c.in-All.parts c.in-All.is in
     omega (arith, c.saturating_add-in-All.ensures, deepest, whole)

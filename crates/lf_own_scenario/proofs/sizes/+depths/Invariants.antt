@@ -5,4 +5,4 @@ use Rattle.lf_own_scenario.specs.Unfolding.{formula_at}
 use Rattle.lf_own_scenario.proofs.sizes.+depths.Given as goal
 
 abbrev pub invariant-deepest-parts : goal.invariant-deepest-parts
-invariant-deepest-parts l = l.deepest ≡ min (fold max 0 (map (λ part. depth_of (formula_at l.scene part 0)) (take l.part-index l.parts))) 4294967295
+invariant-deepest-parts l = l.deepest ≡ min (fold max 0 (map (λ part. depth_of (formula_at l.scene 0 part 0)) (take l.part-index l.parts))) 4294967295

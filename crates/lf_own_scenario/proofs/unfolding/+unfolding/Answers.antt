@@ -1,44 +1,80 @@
-use Rattle.std.proofs.Common.{◌+◌, sym, ap, ◌∙◌, map, List, arith}
+use Rattle.std.proofs.Common.{◌≡◌, ◌+◌, ◌∷◌, ◌++◌, [], sym, ap, ◌∙◌, length, List, arith, rules}
 use Rattle.std.specs.List.{flat_map, range_with_len}
 use Rattle.lf_outcome.specs.declared.formula.Formula.TheVariants as kind
 use Rattle.lf_promises.specs.declared.promise.Promise.{Promise}
-use Rattle.lf_own_scenario.specs.Unfolding.{formula_at}
+use Rattle.lf_own_scenario.specs.Unfolding.{formula_at, formulas_at}
 use Rattle.lf_own_scenario.proofs.ListLemmas.{flat-range-more}
-use Rattle.lf_own_scenario.proofs.UnfoldingLemmas.{formula-All, formula-Any, formula-Always, formula-Ever}
+use Rattle.lf_own_scenario.specs.Topics.{count_topics, count_all}
+use Rattle.lf_own_scenario.proofs.TopicLemmas.{topics-All, topics-Any, topics-Always, topics-Ever, topics-One, count-on, count-within}
+use Rattle.lf_own_scenario.proofs.UnfoldingLemmas.{formula-All, formula-Any, formula-Always, formula-Ever, formula-One, formulas-on}
 use Rattle.lf_own_scenario.proofs.unfolding.+unfolding.Goals as goal
 
 pub formula_at-returns-in_ok-parts_at-in-All : goal.formula_at-returns-in_ok-parts_at-in-All
-formula_at-returns-in_ok-parts_at-in-All t c =
+formula_at-returns-in_ok-parts_at-in-All t c = λ bound.
     let s = c.args.scene.now in
+    let k = c.args.first in
     let u = c.args.step in
-    ap kind.All (c.in_ok-parts_at-in-All.ensures ∙ ap (λ (ps : List Promise). map (λ part. formula_at s part u) ps) c.as_slice.ensures)
-    ∙ sym (formula-All s c.in-All.parts u) ∙ ap (λ (p : Promise). formula_at s p u) (sym c.in-All.is)
+    let same : count_all c.as_slice.result.now ≡ count_topics c.args.promise.now =
+    ap count_all c.as_slice.ensures ∙ ap length (sym (topics-All c.in-All.parts)) ∙ ap count_topics (sym c.in-All.is) in
+    ap kind.All (c.in_ok-parts_at-in-All.ensures (omega (arith, same, bound)) ∙ ap (λ (ps : List Promise). formulas_at s k ps u) c.as_slice.ensures)
+    ∙ sym (formula-All s k c.in-All.parts u) ∙ ap (λ (p : Promise). formula_at s k p u) (sym c.in-All.is)
 
 pub formula_at-returns-in_ok-parts_at-in-Any : goal.formula_at-returns-in_ok-parts_at-in-Any
-formula_at-returns-in_ok-parts_at-in-Any t c =
+formula_at-returns-in_ok-parts_at-in-Any t c = λ bound.
     let s = c.args.scene.now in
+    let k = c.args.first in
     let u = c.args.step in
-    ap kind.Any (c.in_ok-parts_at-in-Any.ensures ∙ ap (λ (ps : List Promise). map (λ part. formula_at s part u) ps) c.as_slice-in-Any.ensures)
-    ∙ sym (formula-Any s c.in-Any.parts u) ∙ ap (λ (p : Promise). formula_at s p u) (sym c.in-Any.is)
+    let same : count_all c.as_slice-in-Any.result.now ≡ count_topics c.args.promise.now =
+    ap count_all c.as_slice-in-Any.ensures ∙ ap length (sym (topics-Any c.in-Any.parts)) ∙ ap count_topics (sym c.in-Any.is) in
+    ap kind.Any (c.in_ok-parts_at-in-Any.ensures (omega (arith, same, bound)) ∙ ap (λ (ps : List Promise). formulas_at s k ps u) c.as_slice-in-Any.ensures)
+    ∙ sym (formula-Any s k c.in-Any.parts u) ∙ ap (λ (p : Promise). formula_at s k p u) (sym c.in-Any.is)
 
 pub formula_at-returns-in_ok-parts_always-in-Always : goal.formula_at-returns-in_ok-parts_always-in-Always
-formula_at-returns-in_ok-parts_always-in-Always t c =
+formula_at-returns-in_ok-parts_always-in-Always t c = λ bound.
     let s = c.args.scene.now in
+    let k = c.args.first in
     let u = c.args.step in
-    ap kind.All (c.in_ok-parts_always-in-Always.ensures
-    ∙ ap (λ (ps : List Promise). flat_map (λ v. map (λ part. formula_at s part v) ps) (range_with_len 1 s.horizon)) c.as_slice-in-Always.ensures)
-    ∙ sym (formula-Always s c.in-Always.parts u) ∙ ap (λ (p : Promise). formula_at s p u) (sym c.in-Always.is)
+    let same : count_all c.as_slice-in-Always.result.now ≡ count_topics c.args.promise.now =
+    ap count_all c.as_slice-in-Always.ensures ∙ ap length (sym (topics-Always c.in-Always.parts)) ∙ ap count_topics (sym c.in-Always.is) in
+    ap kind.All (c.in_ok-parts_always-in-Always.ensures (omega (arith, same, bound)) ∙ ap (λ (ps : List Promise). flat_map (formulas_at s k ps) (range_with_len 1 s.horizon)) c.as_slice-in-Always.ensures)
+    ∙ sym (formula-Always s k c.in-Always.parts u) ∙ ap (λ (p : Promise). formula_at s k p u) (sym c.in-Always.is)
 
 pub formula_at-returns-in_ok-parts_always-in-Ever : goal.formula_at-returns-in_ok-parts_always-in-Ever
-formula_at-returns-in_ok-parts_always-in-Ever t c =
+formula_at-returns-in_ok-parts_always-in-Ever t c = λ bound.
     let s = c.args.scene.now in
+    let k = c.args.first in
     let u = c.args.step in
-    ap kind.Any (c.in_ok-parts_always-in-Ever.ensures
-    ∙ ap (λ (ps : List Promise). flat_map (λ v. map (λ part. formula_at s part v) ps) (range_with_len 1 s.horizon)) c.as_slice-in-Ever.ensures)
-    ∙ sym (formula-Ever s c.in-Ever.parts u) ∙ ap (λ (p : Promise). formula_at s p u) (sym c.in-Ever.is)
+    let same : count_all c.as_slice-in-Ever.result.now ≡ count_topics c.args.promise.now =
+    ap count_all c.as_slice-in-Ever.ensures ∙ ap length (sym (topics-Ever c.in-Ever.parts)) ∙ ap count_topics (sym c.in-Ever.is) in
+    ap kind.Any (c.in_ok-parts_always-in-Ever.ensures (omega (arith, same, bound)) ∙ ap (λ (ps : List Promise). flat_map (formulas_at s k ps) (range_with_len 1 s.horizon)) c.as_slice-in-Ever.ensures)
+    ∙ sym (formula-Ever s k c.in-Ever.parts u) ∙ ap (λ (p : Promise). formula_at s k p u) (sym c.in-Ever.is)
+
+pub formula_at-returns-in-One : goal.formula_at-returns-in-One
+formula_at-returns-in-One t c = λ bound.
+    let s = c.args.scene.now in
+    let k = c.args.first in
+    let u = c.args.step in
+    let one : count_topics c.args.promise.now ≡ 1 = ap count_topics c.in-One.is ∙ ap length (topics-One c.in-One.field-0) in
+    ap (kind.One s.nodes s.horizon) (c.number.ensures (omega (arith, one, bound)))
+    ∙ sym (formula-One s k c.in-One.field-0 u) ∙ ap (λ (p : Promise). formula_at s k p u) (sym c.in-One.is)
 
 pub parts_always-steps-preserved : goal.parts_always-steps-preserved
-parts_always-steps-preserved t c =
-    let s = c.args.scene.now in
-    flat-range-more (λ v. map (λ part. formula_at s part v) c.args.parts.now) 1 c.steps.before (c.steps.before + 1) c.steps.formulas.items
-    c.put_parts.new.formulas.items (omega arith) c.steps.invariant c.in_ok-put_parts.ensures
+parts_always-steps-preserved t c = λ bound.
+    flat-range-more (formulas_at c.args.scene.now c.args.first c.args.parts.now) 1 c.steps.before (c.steps.before + 1) c.steps.formulas.items
+    c.put_parts.new.formulas.items (omega arith) (c.steps.invariant bound) (c.in_ok-put_parts.ensures bound)
+
+pub put_parts-parts-preserved : goal.put_parts-parts-preserved
+put_parts-parts-preserved t c = λ bound.
+    let parts = c.args.parts.now in
+    let i = c.parts.part-index in
+    let part = c.part-item.result in
+    let before = c.parts.invariant bound in
+    let place = before.1 in
+    let within = count-within parts i part c.parts-test.true c.part-item.is in
+    let on = count-on parts i part c.parts-test.true c.part-item.is in
+    let pushed : c.push.new.self.items ≡ c.parts.formulas.items ++ c.in_ok-formula.formula ∷ [] = search rules in
+    let made = c.in_ok-formula.ensures (omega (arith, within, place, bound)) in (
+      formulas-on c.args.scene.now parts i part c.parts-test.true c.part-item.is c.args.first c.parts.next c.args.step c.args.formulas.now.items
+          c.parts.formulas.items c.push.new.self.items c.in_ok-formula.formula before.0 place made pushed,
+      omega (arith, within, on, place, bound, c.count_topics.ensures, c.saturating_add-next.ensures),
+    )

@@ -3,6 +3,7 @@ use Rattle.std.specs.Prelude.{slice_get}
 use Rattle.std.proofs.lemmas.List.{append-nil}
 use Rattle.lf_sim.specs.Settings.{world_of}
 use Rattle.lf_sim.specs.Tables.{table}
+use Rattle.lf_sim.specs.Turns.{turns_of}
 use Rattle.lf_sim.proofs.InboxLemmas.{past_of, length-table}
 use Rattle.lf_sim.proofs.runs.played.Goals as goal
 
@@ -12,7 +13,6 @@ loop-t-preserved g c =
     let next : c.loop-t.t + 1 + 1 ≡ c.loop-t.t + 2 = omega arith in
     record {
       cells = rw next c.put_turns.ensures.cells;
-      len = rw next c.put_turns.ensures.len;
       kept = c.put_turns.ensures.capacity ∙ c.loop-t.invariant.kept;
       letters = c.put_turns.ensures.letters ∙ c.loop-t.invariant.letters;
     }
@@ -37,7 +37,7 @@ returns-clause-run g c =
     let w = world_of c.args.setting.now in
     let end : c.loop-t.t ≡ c.horizon-horizon.result = omega (arith, c.loop-t-test.false, c.loop-t.auto.t-end) in
     let nodes : c.nodes-nodes.result ≡ w.rules.nodes = c.nodes-nodes.ensures.value ∙ sym c.args.setting.now.nodes_agree in
-    let cells = c.loop-t.cells.items in
+    let cells = turns_of c.loop-t.cells in
     record {
       nodes = nodes;
       horizon = c.horizon-horizon.ensures.value;

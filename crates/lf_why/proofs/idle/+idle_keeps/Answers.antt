@@ -1,11 +1,11 @@
-use Rattle.std.proofs.Common.{◌&&◌, ◌||◌, [], get_or, sym, ap, ◌∙◌, arith}
+use Rattle.std.proofs.Common.{◌&&◌, ◌||◌, ◌≡◌, [], get_or, min, sym, ap, ◌∙◌, arith}
 use Rattle.std.specs.List.{list_all, list_any}
 use Rattle.std.proofs.lemmas.List.{take_all}
 use Rattle.std.proofs.lemmas.List.Folds.{list_all_at, list_all_more, list_any_at, list_any_more}
 use Rattle.lf_sim.specs.Runs.{is_up}
 use Rattle.lf_sim.specs.Settings.{world_of}
 use Rattle.lf_why.specs.Idle.{idle_world}
-use Rattle.lf_why.proofs.IdleLemmas.{kept, kept_all, kept_any, kept_down, kept_off, kept_shown}
+use Rattle.lf_why.proofs.IdleLemmas.{kept, kept_all, kept_any, kept_down, kept_off, kept_one, kept_shown, some_step, starts_are}
 use Rattle.lf_why.proofs.idle.+idle_keeps.Goals as goal
 
 pub idle_keeps-returns-in-All : goal.idle_keeps-returns-in-All
@@ -46,6 +46,17 @@ idle_keeps-returns-else-up g t c =
     c.in-Shows.is
     (c.up-in-Shows.ensures.meaning w c.requires.run ∙ ap (λ faults. is_up w faults n s) c.requires.set)
     c.if-up.false
+
+pub idle_keeps-returns-else-last-eq0 : goal.idle_keeps-returns-else-last-eq0
+idle_keeps-returns-else-last-eq0 g t c =
+    let w = world_of c.args.setting.now in
+    let nodes = c.in-One.nodes in
+    let last = c.in-One.last in
+    let topic = c.in-One.topic in
+    let few : c.min-few.result ≡ min nodes w.rules.nodes = c.min-few.ensures ∙ ap (min nodes) (c.nodes.ensures.value ∙ c.requires.run.nodes) in
+    kept_one w c.args.formula.now nodes last topic c.starts_agree.result (c.by_cases.ensures.one (idle_world w) [] nodes last topic) c.in-One.is
+    (c.starts_agree.ensures
+    ∙ starts_are w nodes last topic c.min-few.result few (some_step last c.if-last-eq0.false) (c.single_by_values.ensures.pairs (idle_world w) [] nodes last topic))
 
 pub all_kept-all-preserved : goal.all_kept-all-preserved
 all_kept-all-preserved g t c =

@@ -16,4 +16,4 @@ returns g c heard =
     let deaf : r ≡ true = elim (cases_Bool r) [ inl on ↦ on | inr off ↦ absurd (both_ways (not r) heard (ap not off)) ] in
     let awake : set_wakes w.pause_length to node step ≡ false =
     ap (λ l. set_wakes l to node step) (sym c.pause_length.ensures.value) ∙ sym c.wakes.ensures ∙ c.if-wakes.false in
-    ignores-by w to node step c.args.run.now c.turn.result.now awake c.turn.ensures (c.ignores_letters.ensures deaf)
+    ignores-by w to node step c.args.run.now c.state_at.result.now awake c.state_at.ensures (c.ignores_letters.ensures deaf)

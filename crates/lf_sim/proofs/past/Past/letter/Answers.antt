@@ -1,6 +1,9 @@
-use Rattle.std.proofs.Common.{Some, ◌+◌, sym, ◌∙◌}
+use Rattle.std.proofs.Common.{Some, ◌+◌, sym, ap, ◌∙◌}
+use Rattle.lf_sim.specs.declared.out.Stepped.{Stepped}
+use Rattle.lf_sim.specs.Outs.{note_to}
 use Rattle.lf_sim.specs.Runs.{did}
 use Rattle.lf_sim.specs.Settings.{world_of}
+use Rattle.lf_sim.specs.Turns.{turn_seen}
 use Rattle.lf_sim.proofs.RunsLemmas.{letter-omitted, letter-silent, letter_is}
 use Rattle.lf_sim.proofs.past.Past.letter.Goals as goal
 
@@ -10,8 +13,9 @@ returns-in_default g c =
     let w = world_of p.setting.now in
     let F = p.effects.now.set in
     let here = rw (c.from-from.ensures, c.from-sent.ensures) at c.cell.ensures in
-    let none = sym c.to.ensures ∙ c.in_default.is in
-    sym (letter-silent w F (did w F) c.args.to (p.t + 1) c.args.slot.from c.args.slot.sent (rw here at none))
+    let none = sym c.note.ensures ∙ c.in_default.is in
+    sym (letter-silent w F (did w F) c.args.to (p.t + 1) c.args.slot.from c.args.slot.sent
+    (sym (ap (λ (s : Stepped _ _). note_to s.out c.args.to) here) ∙ none))
 
 pub returns-then-omits : goal.returns-then-omits
 returns-then-omits g c =
@@ -30,5 +34,5 @@ returns-else-omits g c =
     let kept = rw (c.from-from.ensures, c.from-sent.ensures) at (sym c.omits.ensures ∙ c.if-omits.false) in
     let here = rw (c.from-from.ensures, c.from-sent.ensures) at c.cell.ensures in
     rw (c.from-from.ensures, c.from-sent.ensures)
-    (letter_is w F c.args.to (p.t + 1) c.args.slot.from c.args.slot.sent c.cell.result.now (Some c.in-Some.note) slot.apart slot.arrives kept here
-    (sym c.in-Some.is ∙ c.to.ensures))
+    (letter_is w F c.args.to (p.t + 1) c.args.slot.from c.args.slot.sent (turn_seen c.cell.result) (Some c.in-Some.note) slot.apart slot.arrives kept here
+    (sym c.in-Some.is ∙ c.note.ensures))

@@ -1,0 +1,15 @@
+use Rattle.std.proofs.Common.{refl}
+use Rattle.lf_grammar.specs.Expressions.{first_operand}
+use Rattle.lf_grammar.proofs.Sorted.{read-sorted, read-few}
+use Rattle.lf_grammar.proofs.Steps.{first-read}
+use Rattle.lf_grammar.proofs.expressions.read_operand.Goals as goal
+
+pub returns-clause-read : goal.returns-clause-read
+unfolding first_operand
+returns-clause-read c = first-read _ _ _ _ c.read_denied.ensures.read
+
+pub returns-clause-typed : goal.returns-clause-typed
+returns-clause-typed c = read-sorted _ _ _ tt _ c.read_denied.ensures.read
+
+pub returns-clause-few : goal.returns-clause-few
+returns-clause-few c = read-few _ _ _ tt refl _ c.read_denied.ensures.read
