@@ -16,6 +16,7 @@ use Rattle.lf_sim.specs.Runs.{World, each_below, is_up, before_step, letter, let
 use Rattle.lf_sim.proofs.Laws as runs
 use Rattle.lf_outcome.specs.declared.formula.Formula.{Formula}
 use Rattle.lf_outcome.specs.Truth.{reaches, entered, is_down, is_shown, is_single}
+use Rattle.lf_outcome.specs.Unfolding.{unfolded}
 use Rattle.lf_outcome.proofs.Laws.{single-agree, truth-carries}
 use Rattle.lf_delays.specs.Answers.{IsOn}
 use Rattle.lf_delays.specs.Windows.{under, AreLevel, AgreeUpTo}
@@ -161,9 +162,9 @@ module _ {State Note Fact : Type 0} (w : World State Note Fact) (fs : List Parts
     reaches_agree f =
         bool_same (reaches w fs f) (reaches v fs f)
         (truth-carries (is_down w fs) (is_down v fs) (is_shown w fs) (is_shown v fs) (is_single w fs) (is_single v fs)
-        (λ n t e. sym (ap not (up_same n t)) ∙ e) shows_to (λ nodes last topic e. single_same nodes last topic ∙ e) f)
+        (λ n t e. sym (ap not (up_same n t)) ∙ e) shows_to (λ nodes last topic e. single_same nodes last topic ∙ e) (unfolded f))
         (truth-carries (is_down v fs) (is_down w fs) (is_shown v fs) (is_shown w fs) (is_single v fs) (is_single w fs)
-        (λ n t e. ap not (up_same n t) ∙ e) shows_back (λ nodes last topic e. sym (single_same nodes last topic) ∙ e) f)
+        (λ n t e. ap not (up_same n t) ∙ e) shows_back (λ nodes last topic e. sym (single_same nodes last topic) ∙ e) (unfolded f))
 
 -- assignments that are the same at each slot
 module _ {State Note Fact : Type 0} (timing : Timing) (w : World State Note Fact) (on : IsOn timing w) (a d : ℕ → ℕ → ℕ → ℕ)

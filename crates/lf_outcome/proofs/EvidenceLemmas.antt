@@ -1,21 +1,24 @@
 -- What a true formula rests on.
-use Rattle.std.proofs.Common.{◌≡◌, ℕ, ◌+◌, ◌<◌, ◌≤◌, Bool, true, false, not, cond, ◌&&◌, ◌||◌, List, [], ◌∷◌}
-use Rattle.std.proofs.Common.{◌++◌, length, get_or, take, drop, refl, sym, ap, ◌∙◌, subst, inl, inr, map, append_assoc}
+use Rattle.std.proofs.Common.{◌≡◌, ℕ, ◌+◌, ◌-◌, ◌<◌, ◌≤◌, Bool, true, false, not, cond, ◌&&◌, ◌||◌, List, [], ◌∷◌}
+use Rattle.std.proofs.Common.{arith, ◌++◌, length, get_or, take, drop, refl, sym, ap, ◌∙◌, subst, inl, inr, map, append_assoc}
 use Rattle.std.specs.Prelude.{Option, None, Some, IfSome, All, if◌then◌else◌}
-use Rattle.std.specs.List.{filter, list_all, list_any, AllByRecursion}
+use Rattle.std.specs.List.{filter, flat_map, list_all, list_any, AllByRecursion}
 use Rattle.std.specs.Option.{is_some, option_map, option_and_then, unwrap_or}
-use Rattle.std.proofs.lemmas.Bool.{and_parts, and_from, or_cases, or_left, or_right}
+use Rattle.std.proofs.lemmas.Bool.{and_parts, and_from, or_cases, or_left, or_right, false≢true}
 use Rattle.std.proofs.lemmas.List.{append-nil, drop_more, drop_all, take_at}
 use Rattle.std.proofs.lemmas.List.Elements.{All-append, All-nil, All-cons, All-head, All-tail}
 use Rattle.lf_outcome.specs.declared.formula.Formula.{Formula, fold-roll-Formula}
-use Rattle.lf_outcome.specs.declared.formula.Formula.TheVariants.{rolls-All, rolls-Any, rolls-Down, rolls-One, rolls-Shows}
+use Rattle.lf_outcome.specs.declared.formula.Formula.TheVariants.{rolls-All, rolls-Any, rolls-Down, rolls-One, rolls-Over, rolls-Shows}
 use Rattle.lf_outcome.specs.declared.formula.Formula.TheVariants as kind
 use Rattle.lf_outcome.specs.declared.formula.Formula.TheOpen.{Formula-F}
 use Rattle.lf_outcome.specs.declared.point.Point.{Point}
 use Rattle.lf_outcome.specs.Truth.{points_to, truth}
 use Rattle.lf_outcome.specs.Evidence.{all_of, first_of, points_up, rests_on, rests_step}
 use Rattle.lf_outcome.proofs.Inductions.{by_induction}
-use Rattle.lf_outcome.proofs.TruthLemmas.{truth-All, truth-Any, truth-Down, truth-One, truth-Shows}
+use Rattle.lf_outcome.specs.Unfolding.{later, steps, unfold_at}
+use Rattle.lf_outcome.proofs.TruthLemmas.{truth-All, truth-Any, truth-Down, truth-One, truth-Over, truth-Shows}
+use Rattle.lf_outcome.proofs.UnfoldingLemmas.{all-steps, at-steps, in-steps, last-step, map-again, map-append, next-step, over, unfold-All, unfold-Any}
+use Rattle.lf_outcome.proofs.UnfoldingLemmas.{unfold-Over}
 
 -- `rests_on`, by the kind of the formula
 module _ {Fact : Type 0} (down : ℕ → ℕ → Bool) (shown : ℕ → ℕ → Fact → Bool) (single : ℕ → ℕ → ℕ → Bool) where
@@ -46,20 +49,112 @@ module _ {Fact : Type 0} (down : ℕ → ℕ → Bool) (shown : ℕ → ℕ → 
       ap (rests_on down shown single) (sym (rolls-One nodes last topic))
       ∙ fold-roll-Formula Fact (Option (List Point)) (rests_step down shown single) (Formula-F.One nodes last topic)
 
-  -- from what the parts rest on, as read
-  pub rests_on-from_all : (f : Formula Fact) (parts xs : List (Formula Fact)) → f ≡ kind.All parts → xs ≡ parts
-      → all_of (map (rests_on down shown single) xs) ≡ rests_on down shown single f
-  rests_on-from_all f parts xs is read =
-      ap (λ fs. all_of (map (rests_on down shown single) fs)) read ∙ sym (rests_on-All parts) ∙ ap (rests_on down shown single) (sym is)
-
-  pub rests_on-from_any : (f : Formula Fact) (parts xs : List (Formula Fact)) → f ≡ kind.Any parts → xs ≡ parts
-      → first_of (map (rests_on down shown single) xs) ≡ rests_on down shown single f
-  rests_on-from_any f parts xs is read =
-      ap (λ fs. first_of (map (rests_on down shown single) fs)) read ∙ sym (rests_on-Any parts) ∙ ap (rests_on down shown single) (sym is)
+  pub rests_on-Over : (every : Bool) (first last : ℕ) (parts : List (Formula Fact)) → rests_on down shown single (kind.Over every first last parts) ≡ None
+  rests_on-Over every first last parts =
+      ap (rests_on down shown single) (sym (rolls-Over every first last parts))
+      ∙ fold-roll-Formula Fact (Option (List Point)) (rests_step down shown single) (Formula-F.Over every first last parts)
 
 -- one list more, which may be missing
 abbrev joined : {A : Type 0} → Option (List A) → Option (List A) → Option (List A)
 joined o r = option_and_then (λ xs. option_map (λ ys. xs ++ ys) r) o
+
+joined-again : {A : Type 0} (o p r : Option (List A)) → joined (joined o p) r ≡ joined o (joined p r)
+joined-again None p r = refl
+joined-again (Some xs) None r = refl
+joined-again (Some xs) (Some ys) None = refl
+joined-again (Some xs) (Some ys) (Some zs) = ap Some (append_assoc xs ys zs)
+
+from-none : {A : Type 0} (o : Option (List A)) → o ≡ joined (Some []) o
+from-none None = refl
+from-none (Some xs) = refl
+
+all_of-append : {A : Type 0} (xs ys : List (Option (List A))) → all_of (xs ++ ys) ≡ joined (all_of xs) (all_of ys)
+all_of-append [] ys = from-none (all_of ys)
+all_of-append (o ∷ xs) ys = ap (joined o) (all_of-append xs ys) ∙ sym (joined-again o (all_of xs) (all_of ys))
+
+first_of-append : {A : Type 0} (xs ys : List (Option A)) → first_of (xs ++ ys) ≡ first_of (first_of xs ∷ first_of ys ∷ [])
+first_of-append [] [] = refl
+first_of-append [] (None ∷ ys) = first_of-append [] ys
+first_of-append [] (Some y ∷ ys) = refl
+first_of-append (None ∷ xs) ys = first_of-append xs ys
+first_of-append (Some x ∷ xs) ys = refl
+
+first_of-one : {A : Type 0} (o : Option A) → first_of (o ∷ []) ≡ o
+first_of-one None = refl
+first_of-one (Some x) = refl
+
+first_of-two : {A : Type 0} (o : Option A) (r : List (Option A)) → first_of (o ∷ first_of r ∷ []) ≡ first_of (o ∷ r)
+first_of-two None r = first_of-one (first_of r)
+first_of-two (Some x) r = refl
+
+-- what a formula rests on, its steps counted from the step k
+module _ {Fact : Type 0} (down : ℕ → ℕ → Bool) (shown : ℕ → ℕ → Fact → Bool) (single : ℕ → ℕ → ℕ → Bool) where
+  abbrev rests_at : ℕ → Formula Fact → Option (List Point)
+  rests_at k f = rests_on down shown single (unfold_at f k)
+
+  rests_at-All : (parts : List (Formula Fact)) (k : ℕ) → rests_at k (kind.All parts) ≡ all_of (map (rests_at k) parts)
+  rests_at-All parts k =
+      ap (rests_on down shown single) (unfold-All parts k) ∙ rests_on-All down shown single (map (λ part. unfold_at part k) parts)
+      ∙ ap all_of (map-again (rests_on down shown single) (λ part. unfold_at part k) parts)
+
+  rests_at-Any : (parts : List (Formula Fact)) (k : ℕ) → rests_at k (kind.Any parts) ≡ first_of (map (rests_at k) parts)
+  rests_at-Any parts k =
+      ap (rests_on down shown single) (unfold-Any parts k) ∙ rests_on-Any down shown single (map (λ part. unfold_at part k) parts)
+      ∙ ap first_of (map-again (rests_on down shown single) (λ part. unfold_at part k) parts)
+
+  abbrev parts_at : List (Formula Fact) → ℕ → ℕ → List (Formula Fact)
+  parts_at parts k t = map (λ part. unfold_at part (later k t)) parts
+
+  all-over : (parts : List (Formula Fact)) (k : ℕ) (ts : List ℕ)
+      → all_of (map (rests_on down shown single) (flat_map (parts_at parts k) ts)) ≡ all_of (map (λ t. all_of (map (rests_at (later k t)) parts)) ts)
+  all-over parts k [] = refl
+  all-over parts k (t ∷ ts) =
+      let rest = flat_map (parts_at parts k) ts in
+      ap all_of (map-append (rests_on down shown single) (parts_at parts k t) rest)
+      ∙ all_of-append (map (rests_on down shown single) (parts_at parts k t)) (map (rests_on down shown single) rest)
+      ∙ ap (λ fs. joined (all_of fs) (all_of (map (rests_on down shown single) rest)))
+      (map-again (rests_on down shown single) (λ part. unfold_at part (later k t)) parts)
+      ∙ ap (joined (all_of (map (rests_at (later k t)) parts))) (all-over parts k ts)
+
+  any-over : (parts : List (Formula Fact)) (k : ℕ) (ts : List ℕ)
+      → first_of (map (rests_on down shown single) (flat_map (parts_at parts k) ts)) ≡ first_of (map (λ t. first_of (map (rests_at (later k t)) parts)) ts)
+  any-over parts k [] = refl
+  any-over parts k (t ∷ ts) =
+      let rest = flat_map (parts_at parts k) ts in
+      let here = first_of (map (rests_at (later k t)) parts) in
+      ap first_of (map-append (rests_on down shown single) (parts_at parts k t) rest)
+      ∙ first_of-append (map (rests_on down shown single) (parts_at parts k t)) (map (rests_on down shown single) rest)
+      ∙ ap (λ fs. first_of (first_of fs ∷ first_of (map (rests_on down shown single) rest) ∷ []))
+      (map-again (rests_on down shown single) (λ part. unfold_at part (later k t)) parts)
+      ∙ ap (λ o. first_of (here ∷ o ∷ [])) (any-over parts k ts)
+      ∙ first_of-two here (map (λ u. first_of (map (rests_at (later k u)) parts)) ts)
+
+  -- from what the parts rest on, as read
+  pub rests_on-from_all : (f : Formula Fact) (parts xs : List (Formula Fact)) (k : ℕ) → f ≡ kind.All parts → xs ≡ parts
+      → all_of (map (rests_at k) xs) ≡ rests_on down shown single (unfold_at f k)
+  rests_on-from_all f parts xs k is read = ap (λ fs. all_of (map (rests_at k) fs)) read ∙ sym (rests_at-All parts k) ∙ ap (rests_at k) (sym is)
+
+  pub rests_on-from_any : (f : Formula Fact) (parts xs : List (Formula Fact)) (k : ℕ) → f ≡ kind.Any parts → xs ≡ parts
+      → first_of (map (rests_at k) xs) ≡ rests_on down shown single (unfold_at f k)
+  rests_on-from_any f parts xs k is read = ap (λ fs. first_of (map (rests_at k) fs)) read ∙ sym (rests_at-Any parts k) ∙ ap (rests_at k) (sym is)
+
+  pub rests_on-from_every : (f : Formula Fact) (every : Bool) (first last : ℕ) (parts xs : List (Formula Fact)) (k : ℕ)
+      → f ≡ kind.Over every first last parts → every ≡ true → xs ≡ parts
+      → all_of (map (λ t. all_of (map (rests_at (later k t)) xs)) (steps first last)) ≡ rests_on down shown single (unfold_at f k)
+  rests_on-from_every f every first last parts xs k is so read =
+      ap (λ fs. all_of (map (λ t. all_of (map (rests_at (later k t)) fs)) (steps first last))) read
+      ∙ sym (ap (rests_on down shown single) (unfold-Over true first last parts k) ∙ rests_on-All down shown single (over k first last parts)
+      ∙ all-over parts k (steps first last))
+      ∙ ap (λ c. rests_at k (kind.Over c first last parts)) (sym so) ∙ ap (rests_at k) (sym is)
+
+  pub rests_on-from_some : (f : Formula Fact) (every : Bool) (first last : ℕ) (parts xs : List (Formula Fact)) (k : ℕ)
+      → f ≡ kind.Over every first last parts → every ≡ false → xs ≡ parts
+      → first_of (map (λ t. first_of (map (rests_at (later k t)) xs)) (steps first last)) ≡ rests_on down shown single (unfold_at f k)
+  rests_on-from_some f every first last parts xs k is so read =
+      ap (λ fs. first_of (map (λ t. first_of (map (rests_at (later k t)) fs)) (steps first last))) read
+      ∙ sym (ap (rests_on down shown single) (unfold-Over false first last parts k) ∙ rests_on-Any down shown single (over k first last parts)
+      ∙ any-over parts k (steps first last))
+      ∙ ap (λ c. rests_at k (kind.Over c first last parts)) (sym so) ∙ ap (rests_at k) (sym is)
 
 is_some-joined : {A : Type 0} (o r : Option (List A)) → is_some (joined o r) ≡ (is_some o && is_some r)
 is_some-joined None r = refl
@@ -163,6 +258,8 @@ module _ {Fact : Type 0} (down : ℕ → ℕ → Bool) (shown : ℕ → ℕ → 
     one = λ nodes last topic.
         ap is_some (rests_on-One down shown single nodes last topic) ∙ is_some-if (single nodes last topic) (points_up down nodes last)
         ∙ sym (truth-One down shown single nodes last topic);
+    over = λ every first last parts h.
+        ap is_some (rests_on-Over down shown single every first last parts) ∙ sym (truth-Over down shown single every first last parts);
   })
 
 -- what holds by less holds by more
@@ -199,6 +296,7 @@ module _ {Fact : Type 0} (down later_down : ℕ → ℕ → Bool) (shown later_s
     shows = λ n t fact e. truth-Shows later_down later_shown later_single n t fact ∙ shows n t fact (sym (truth-Shows down shown single n t fact) ∙ e);
     one = λ nodes last topic e.
         truth-One later_down later_shown later_single nodes last topic ∙ ones nodes last topic (sym (truth-One down shown single nodes last topic) ∙ e);
+    over = λ every first last parts h e. absurd (false≢true (sym (truth-Over down shown single every first last parts) ∙ e));
   })
 
 -- what holds of each point of two lists, and of the first list that is there
@@ -253,6 +351,7 @@ module _ {Fact : Type 0} (down : ℕ → ℕ → Bool) (shown : ℕ → ℕ → 
         (λ e. All-cons P (record { node = n; step = t }) [] (here n t fact e) (All-nil P)));
     one = λ nodes last topic. rw (rests_on-One down shown single nodes last topic)
         (IfSome-if (All P) (single nodes last topic) (points_up down nodes last) (λ _. awake-each (points_to nodes last)));
+    over = λ every first last parts h. rw (rests_on-Over down shown single every first last parts) tt;
   })
 
 All-left : {A : Type 0} (P : A → Type 0) (xs ys : List A) → All P (xs ++ ys) → All P xs
@@ -341,6 +440,7 @@ module _ {Fact : Type 0} (down : ℕ → ℕ → Bool) (shown : ℕ → ℕ → 
         (IfSome-if (λ points. All Counts points → single_counted nodes last topic ≡ true) (single nodes last topic) (points_up down nodes last)
         (λ e every. and_from (list_all ok (points_to nodes last)) (single nodes last topic)
         (counts-each (points_to nodes last) every) e));
+    over = λ every first last parts h. rw (rests_on-Over down shown single every first last parts) tt;
   })
 
 -- a list that is there, and one that is missing
@@ -431,3 +531,90 @@ module _ {F : Type 0} (S : F → Option (List Point)) (parts : List F) where
 
   pub first-none : (i : ℕ) → length parts ≤ i → first_of (map S parts) ≡ first_of (map S (drop i parts)) → first_of (map S parts) ≡ None
   first-none i far rest = rest ∙ ap (λ fs. first_of (map S fs)) (drop_all i parts far)
+
+-- a list on the way through the parts of an Any: the first i parts are false, and the list is as it was
+abbrev pub IsPassed : {F : Type 0} → (F → Option (List Point)) → List F → ℕ → List Point → List Point → Type 0
+IsPassed S parts i before now = (now ≡ before) × (first_of (map S parts) ≡ first_of (map S (drop i parts)))
+
+-- before the first step
+module _ (S : ℕ → Option (List Point)) (first last : ℕ) (before : List Point) where
+  none-yet : first - first ≡ 0
+  none-yet = omega arith
+
+  pub steps-gathered-none : IsGathered S (steps first last) (first - first) before before
+  steps-gathered-none = subst (λ i. IsGathered S (steps first last) i before before) (sym none-yet) (gathered-none S (steps first last) before)
+
+  pub steps-passed-none : IsPassed S (steps first last) (first - first) before before
+  steps-passed-none = (refl, ap (λ i. first_of (map S (drop i (steps first last)))) (sym none-yet))
+
+-- at a step, and after the last
+module _ (S : ℕ → Option (List Point)) (first last t : ℕ) (low : first ≤ t) (before now : List Point) where
+  abbrev items_of : Option (List Point) → List Point
+  items_of o = before ++ unwrap_or o []
+
+  module _ (new : List Point) (high : t ≤ last) (b : Bool) (found : b ≡ is_some (S t)) (more : new ≡ now ++ unwrap_or (S t) []) where
+    module _ (sofar : IsGathered S (steps first last) (t - first) before now) where
+      next : b ≡ true → IsGathered S (steps first last) ((t - first) + 1) before new
+      next =
+          gathered-more S (steps first last) (t - first) t (in-steps first last t low high) (at-steps first last t low high) before now new sofar b
+          found more
+
+      missing : b ≡ false → all_of (map S (steps first last)) ≡ None
+      missing =
+          gathered-missing S (steps first last) (t - first) t (in-steps first last t low high)
+          (at-steps first last t low high) before now new sofar b found more
+
+      pub steps-gathered-more : b ≡ true → IsGathered S (steps first last) ((t + 1) - first) before new
+      steps-gathered-more so = subst (λ i. IsGathered S (steps first last) i before new) (sym (next-step first last t low)) (next so)
+
+      pub steps-gathered-end : last ≤ t → b ≡ true → (true ≡ is_some (all_of (map S (steps first last)))) × (new ≡ items_of (all_of (map S (steps first last))))
+      steps-gathered-end end so =
+          let all = gathered-all S (steps first last) ((t - first) + 1) before new (last-step first last t low end) (next so) in
+          (sym (ap is_some all), (next so).items ∙ ap items_of (sym all))
+
+      pub steps-missing : (cut : List Point) → cut ≡ take (length before) new → b ≡ false
+          → (false ≡ is_some (all_of (map S (steps first last)))) × (cut ≡ items_of (all_of (map S (steps first last))))
+      steps-missing cut is so = (
+        sym (ap is_some (missing so)),
+        gathered-back S (steps first last) (t - first) t (in-steps first last t low high)
+            (at-steps first last t low high) before now new sofar b found more cut is
+            ∙ sym (append-nil before) ∙ ap items_of (sym (missing so)),
+      )
+
+    module _ (sofar : IsPassed S (steps first last) (t - first) before now) where
+      later-part : b ≡ false → first_of (map S (steps first last)) ≡ first_of (map S (drop ((t - first) + 1) (steps first last)))
+      later-part =
+          first-later S (steps first last) (t - first) t (in-steps first last t low high) (at-steps first last t low high) sofar.1 b found
+
+      as_before : b ≡ false → new ≡ before
+      as_before so =
+          more ∙ ap (λ o. now ++ unwrap_or o []) (is_missing (S t) (sym found ∙ so)) ∙ append-nil now ∙ sofar.0
+
+      pub steps-passed-more : b ≡ false → IsPassed S (steps first last) ((t + 1) - first) before new
+      steps-passed-more so = (
+        as_before so,
+        later-part so ∙ ap (λ i. first_of (map S (drop i (steps first last)))) (sym (next-step first last t low)),
+      )
+
+      pub steps-passed-end : last ≤ t → b ≡ false
+          → (false ≡ is_some (first_of (map S (steps first last)))) × (new ≡ items_of (first_of (map S (steps first last))))
+      steps-passed-end end so =
+          let none = first-none S (steps first last) ((t - first) + 1) (last-step first last t low end) (later-part so) in
+          (sym (ap is_some none), as_before so ∙ sym (append-nil before) ∙ ap items_of (sym none))
+
+      pub steps-found : b ≡ true → (true ≡ is_some (first_of (map S (steps first last)))) × (new ≡ items_of (first_of (map S (steps first last))))
+      steps-found so =
+          let it = first-found S (steps first last) (t - first) t (in-steps first last t low high) (at-steps first last t low high) sofar.1 b found so in
+          (sym so ∙ found ∙ ap is_some (sym it), more ∙ ap (λ ps. ps ++ unwrap_or (S t) []) sofar.0 ∙ ap items_of (sym it))
+
+  pub steps-gathered-all : last < t → IsGathered S (steps first last) (t - first) before now
+      → (true ≡ is_some (all_of (map S (steps first last)))) × (now ≡ items_of (all_of (map S (steps first last))))
+  steps-gathered-all past sofar =
+      let all = gathered-all S (steps first last) (t - first) before now (all-steps first last t low past) sofar in
+      (sym (ap is_some all), sofar.items ∙ ap items_of (sym all))
+
+  pub steps-passed-all : last < t → IsPassed S (steps first last) (t - first) before now
+      → (false ≡ is_some (first_of (map S (steps first last)))) × (now ≡ items_of (first_of (map S (steps first last))))
+  steps-passed-all past sofar =
+      let none = first-none S (steps first last) (t - first) (all-steps first last t low past) sofar.1 in
+      (sym (ap is_some none), sofar.0 ∙ sym (append-nil before) ∙ ap items_of (sym none))

@@ -2,7 +2,7 @@
 use Rattle.std.proofs.Common.{◌≡◌, ◌⊎◌, ◌↔◌, ℕ, ◌+◌, ◌<◌, ◌≤◌, Bool, true, false, not, ◌&&◌, List, refl, ap, subst, ◌∙◌, map, max, sum, ◌||◌, sym}
 use Rattle.std.specs.Prelude.{nat_le, Some, IfSome, All, nat_lt}
 use Rattle.std.specs.Option.{is_some}
-use Rattle.std.specs.List.{fold, list_all, list_any}
+use Rattle.std.specs.List.{flat_map, fold, list_all, list_any}
 use Rattle.std.proofs.lemmas.Bool.{and_parts, and_from, leb-true, false≢true, ltb-false}
 use Rattle.lf_faults.specs.declared.fault.Parts.{Parts}
 use Rattle.lf_sim.specs.Runs.{World, is_up, view}
@@ -10,10 +10,11 @@ use Rattle.lf_outcome.specs.declared.formula.Formula.{Formula}
 use Rattle.lf_outcome.specs.declared.formula.Formula.TheVariants as kind
 use Rattle.lf_outcome.specs.declared.point.Point.{Point}
 use Rattle.lf_outcome.specs.Entries.{EachKeyHasOne, NoTwoDiffer}
-use Rattle.lf_outcome.specs.Evidence.{evidence_of, AreUp, ArePoints, Covers}
+use Rattle.lf_outcome.specs.Evidence.{evidence_of, rests_on, AreUp, ArePoints, Covers}
 use Rattle.lf_outcome.specs.Measures.{depth_of, atoms_of}
 use Rattle.lf_outcome.specs.Reaches.{reach_at}
 use Rattle.lf_outcome.specs.Truth.{truth, entered, is_down, is_shown, is_shown_where, is_single, is_single_where, points_to, reaches, reaches_within, counts}
+use Rattle.lf_outcome.specs.Unfolding.{is_plain, joined, later, steps, unfold_at, unfolded}
 use Rattle.lf_outcome.specs.declared.scenario.Scenario.{Scenario}
 use Rattle.lf_outcome.specs.Sameness.{AreSame}
 use Rattle.lf_sim.specs.Settings.{world_of}
@@ -23,7 +24,8 @@ use Rattle.lf_outcome.proofs.EntriesLemmas as entries
 use Rattle.lf_outcome.proofs.EvidenceLemmas as evidence
 use Rattle.lf_outcome.proofs.MeasuresLemmas as measures
 use Rattle.lf_outcome.proofs.PointsLemmas as pages
-use Rattle.lf_outcome.proofs.TruthLemmas.{truth-All, truth-Any, truth-Down, truth-One, truth-Shows}
+use Rattle.lf_outcome.proofs.UnfoldingLemmas as unfolds
+use Rattle.lf_outcome.proofs.TruthLemmas.{said-All, said-Any, said-Down, said-One, said-Over, said-Shows}
 use Rattle.lf_outcome.proofs.formula.Formula.TheLaws.TheKnot as formula
 
 module _ {Fact : Type 0} where
@@ -58,39 +60,110 @@ depth_of-One = measures.depth_of-One
 pub atoms_of-One : (Fact : Type 0) (nodes last topic : ℕ) → atoms_of {Fact = Fact} (kind.One nodes last topic) ≡ 1
 atoms_of-One = measures.atoms_of-One
 
+-- What a formula says without Over, where its steps are counted from the step k, by its kind;
+module _ {Fact : Type 0} where
+  pub unfold-All : (parts : List (Formula Fact)) (k : ℕ) → unfold_at (kind.All parts) k ≡ kind.All (map (λ part. unfold_at part k) parts)
+  unfold-All = unfolds.unfold-All
+
+  pub unfold-Any : (parts : List (Formula Fact)) (k : ℕ) → unfold_at (kind.Any parts) k ≡ kind.Any (map (λ part. unfold_at part k) parts)
+  unfold-Any = unfolds.unfold-Any
+
+  pub unfold-Down : (n t k : ℕ) → unfold_at {Fact = Fact} (kind.Down n t) k ≡ kind.Down n (later k t)
+  unfold-Down = unfolds.unfold-Down
+
+  pub unfold-Shows : (n t : ℕ) (fact : Fact) (k : ℕ) → unfold_at (kind.Shows n t fact) k ≡ kind.Shows n (later k t) fact
+  unfold-Shows = unfolds.unfold-Shows
+
+  pub unfold-One : (nodes last topic k : ℕ) → unfold_at {Fact = Fact} (kind.One nodes last topic) k ≡ kind.One nodes last topic
+  unfold-One = unfolds.unfold-One
+
+  pub unfold-Over : (every : Bool) (first last : ℕ) (parts : List (Formula Fact)) (k : ℕ)
+      → unfold_at (kind.Over every first last parts) k
+      ≡ joined every (flat_map (λ t. map (λ part. unfold_at part (later k t)) parts) (steps first last))
+  unfold-Over = unfolds.unfold-Over
+
+  -- at the steps that it names, Over is its parts at each of its steps,
+  pub unfolded-Over : (every : Bool) (first last : ℕ) (parts : List (Formula Fact))
+      → unfolded (kind.Over every first last parts) ≡ joined every (flat_map (λ t. map (λ part. unfold_at part t) parts) (steps first last))
+  unfolded-Over = unfolds.unfolded-Over
+
+  -- a formula without Over is what it says, and what a formula says is without Over,
+  pub unfolded-plain : (f : Formula Fact) → is_plain f ≡ true → unfolded f ≡ f
+  unfolded-plain = unfolds.unfolded-plain
+
+  pub plain-unfolded : (f : Formula Fact) (k : ℕ) → is_plain (unfold_at f k) ≡ true
+  plain-unfolded = unfolds.plain-unfolded
+
+  pub unfolded-again : (f : Formula Fact) (k : ℕ) → unfolded (unfold_at f k) ≡ unfold_at f k
+  unfolded-again = unfolds.unfolded-again
+
+  pub plain-All : (parts : List (Formula Fact)) → is_plain (kind.All parts) ≡ list_all is_plain parts
+  plain-All = unfolds.plain-All
+
+  pub plain-Any : (parts : List (Formula Fact)) → is_plain (kind.Any parts) ≡ list_all is_plain parts
+  plain-Any = unfolds.plain-Any
+
+  pub plain-Shows : (n t : ℕ) (fact : Fact) → is_plain (kind.Shows n t fact) ≡ true
+  plain-Shows = unfolds.plain-Shows
+
+  -- and at any step it is as deep as the formula, and has as many atoms
+  pub depth-unfolded : (f : Formula Fact) (k : ℕ) → depth_of (unfold_at f k) ≡ depth_of f
+  depth-unfolded = measures.depth-unfolded
+
+  pub atoms-unfolded : (f : Formula Fact) (k : ℕ) → atoms_of (unfold_at f k) ≡ atoms_of f
+  atoms-unfolded = measures.atoms-unfolded
+
+pub plain-Down : (Fact : Type 0) (n t : ℕ) → is_plain {Fact = Fact} (kind.Down n t) ≡ true
+plain-Down = unfolds.plain-Down
+
+pub plain-One : (Fact : Type 0) (nodes last topic : ℕ) → is_plain {Fact = Fact} (kind.One nodes last topic) ≡ true
+plain-One = unfolds.plain-One
+
+-- A step counted from step 0 is that step, and step 0 counted from a step is the step that it is counted from.
+pub later-none : (t : ℕ) → later 0 t ≡ t
+later-none = unfolds.later-none
+
+pub later-zero : (k : ℕ) → k ≤ 4294967295 → later k 0 ≡ k
+later-zero = unfolds.later-zero
+
 module _ {State Note Fact : Type 0} (w : World State Note Fact) (faults : List Parts) where
   -- truth within a reach, by the kind of the formula
   pub within-All : (reach : List ℕ) (parts : List (Formula Fact))
       → reaches_within w faults reach (kind.All parts) ≡ list_all (reaches_within w faults reach) parts
-  within-All reach parts = truth-All (is_down w faults) (is_shown_where w faults (Some reach)) (is_single_where w faults (Some reach)) parts
+  within-All reach parts = said-All (is_down w faults) (is_shown_where w faults (Some reach)) (is_single_where w faults (Some reach)) parts
 
   pub within-Any : (reach : List ℕ) (parts : List (Formula Fact))
       → reaches_within w faults reach (kind.Any parts) ≡ list_any (reaches_within w faults reach) parts
-  within-Any reach parts = truth-Any (is_down w faults) (is_shown_where w faults (Some reach)) (is_single_where w faults (Some reach)) parts
+  within-Any reach parts = said-Any (is_down w faults) (is_shown_where w faults (Some reach)) (is_single_where w faults (Some reach)) parts
 
   pub within-Down : (reach : List ℕ) (n t : ℕ) → reaches_within w faults reach (kind.Down n t) ≡ not (is_up w faults n t)
-  within-Down reach n t = truth-Down (is_down w faults) (is_shown_where w faults (Some reach)) (is_single_where w faults (Some reach)) n t
+  within-Down reach n t = said-Down (is_down w faults) (is_shown_where w faults (Some reach)) (is_single_where w faults (Some reach)) n t
 
   pub within-Shows : (reach : List ℕ) (n t : ℕ) (fact : Fact)
       → reaches_within w faults reach (kind.Shows n t fact)
       ≡ (nat_le t (reach_at reach n) && (is_up w faults n t && w.rules.shows n (view w faults n t) fact))
-  within-Shows reach n t fact = truth-Shows (is_down w faults) (is_shown_where w faults (Some reach)) (is_single_where w faults (Some reach)) n t fact
+  within-Shows reach n t fact = said-Shows (is_down w faults) (is_shown_where w faults (Some reach)) (is_single_where w faults (Some reach)) n t fact
 
   pub within-One : (reach : List ℕ) (nodes last topic : ℕ)
       → reaches_within w faults reach (kind.One nodes last topic)
       ≡ (list_all (λ p. not (is_up w faults p.node p.step) || nat_le p.step (reach_at reach p.node)) (points_to nodes last)
       && is_single w faults nodes last topic)
   within-One reach nodes last topic =
-      truth-One (is_down w faults) (is_shown_where w faults (Some reach)) (is_single_where w faults (Some reach)) nodes last topic
+      said-One (is_down w faults) (is_shown_where w faults (Some reach)) (is_single_where w faults (Some reach)) nodes last topic
+
+  pub within-Over : (reach : List ℕ) (every : Bool) (first last : ℕ) (parts : List (Formula Fact))
+      → reaches_within w faults reach (kind.Over every first last parts)
+      ≡ reaches_within w faults reach (joined every (flat_map (λ t. map (λ part. unfold_at part t) parts) (steps first last)))
+  within-Over reach = said-Over (is_down w faults) (is_shown_where w faults (Some reach)) (is_single_where w faults (Some reach))
 
   -- what is true within a reach is true
   pub reaches-from_within : (reach : List ℕ) (f : Formula Fact) → reaches_within w faults reach f ≡ true → reaches w faults f ≡ true
-  reaches-from_within reach =
+  reaches-from_within reach f =
       truth-more (is_down w faults) (is_down w faults) (is_shown_where w faults (Some reach)) (is_shown w faults)
       (is_single_where w faults (Some reach)) (is_single w faults)
       (λ n t e. e) (λ n t fact e. (and_parts (nat_le t (reach_at reach n)) (is_shown w faults n t fact) e).1)
       (λ nodes last topic e. (and_parts (list_all (λ p. is_down w faults p.node p.step || counts (Some reach) p.node p.step) (points_to nodes last))
-      (is_single w faults nodes last topic) e).1)
+      (is_single w faults nodes last topic) e).1) (unfolded f)
 
 -- Truth carries over: where each node that is down stays down, each fact that is shown stays shown, and what is of one value for each key stays so, a
 -- formula that is true stays true.
@@ -113,7 +186,7 @@ pub within-carries : {State Note Fact : Type 0} (w : World State Note Fact) (fau
     → ((n t : ℕ) → t ≤ reach_at reach n → is_up w faults n t ≡ true
     → (is_up w wider n t ≡ true) × (view w wider n t ≡ view w faults n t))
     → (f : Formula Fact) → reaches_within w faults reach f ≡ true → reaches_within w wider reach f ≡ true
-within-carries {Fact = Fact} w faults wider reach none_more same =
+within-carries {Fact = Fact} w faults wider reach none_more same f =
     truth-more (is_down w faults) (is_down w wider) (is_shown_where w faults (Some reach)) (is_shown_where w wider (Some reach))
     (is_single_where w faults (Some reach)) (is_single_where w wider (Some reach))
     (λ n t down. not_more (is_up w faults n t) (is_up w wider n t) (none_more n t) down)
@@ -124,7 +197,7 @@ within-carries {Fact = Fact} w faults wider reach none_more same =
     and_from (nat_le t (reach_at reach n)) (is_shown w wider n t fact) within.0
     (and_from (is_up w wider n t) (w.rules.shows n (view w wider n t) fact) there.0
     (ap (λ v. w.rules.shows n v fact) there.1 ∙ up.1)))
-    (λ nodes last topic is. entries.single-carries w faults wider reach none_more same nodes last topic is)
+    (λ nodes last topic is. entries.single-carries w faults wider reach none_more same nodes last topic is) (unfolded f)
 
 -- What nodes enter is of one value for each key where no two points differ, and where each key has a value.
 module _ {State Note Fact : Type 0} (w : World State Note Fact) (faults : List Parts) (nodes last topic : ℕ) where
@@ -146,10 +219,15 @@ pub single-further : {State Note Fact : Type 0} (w : World State Note Fact) (fau
     → is_single_where w faults (Some reach) nodes last topic ≡ true → is_single_where w faults (Some further) nodes last topic ≡ true
 single-further = entries.single-further
 
+-- A formula without Over rests on something where it is true, by any tests
+pub rests-truth : {Fact : Type 0} (down : ℕ → ℕ → Bool) (shown : ℕ → ℕ → Fact → Bool) (single : ℕ → ℕ → ℕ → Bool) (f : Formula Fact)
+    → is_some (rests_on down shown single f) ≡ truth down shown single f
+rests-truth = evidence.rests_on-truth
+
 -- What a formula rests on: there is something where it is true,
 module _ {State Note Fact : Type 0} (w : World State Note Fact) (faults : List Parts) (f : Formula Fact) where
   pub evidence-truth : is_some (evidence_of w faults f) ≡ reaches w faults f
-  evidence-truth = evidence.rests_on-truth (is_down w faults) (is_shown w faults) (is_single w faults) f
+  evidence-truth = evidence.rests_on-truth (is_down w faults) (is_shown w faults) (is_single w faults) (unfolded f)
 
   rests : (points : List Point) → evidence_of w faults f ≡ Some points → (P : List Point → Type 0) → IfSome (evidence_of w faults f) P → P points
   rests points is P h = subst (λ o. IfSome o P) is h
@@ -205,4 +283,4 @@ stays_missed w other faults others t formula fails downs shows enters =
     (λ n u. or_later (nat_lt t u) (is_down other others n u) (is_down w faults n u) (λ early. downs n u (ltb-false t u early)))
     (λ n u fact. or_later (nat_lt t u) (is_shown other others n u fact) (is_shown w faults n u fact) (λ early. shows n u fact (ltb-false t u early)))
     (λ nodes last topic is. entries.single-early w other faults others t enters nodes last topic is)
-    formula) fails
+    (unfolded formula)) fails

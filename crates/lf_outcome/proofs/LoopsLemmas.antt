@@ -16,6 +16,7 @@ use Rattle.lf_outcome.specs.declared.point.Point.{Point}
 use Rattle.lf_outcome.specs.Evidence.{points_up}
 use Rattle.lf_outcome.specs.Truth.{all_agree, counts, entered, entries_at, is_down, is_shown, is_shown_where, is_single, is_single_where, points_at}
 use Rattle.lf_outcome.specs.Truth.{points_to, reaches, truth}
+use Rattle.lf_outcome.specs.Unfolding.{unfolded}
 use Rattle.lf_outcome.proofs.EvidenceLemmas.{truth-more}
 use Rattle.lf_outcome.proofs.PointsLemmas.{point-of_up}
 use Rattle.lf_outcome.proofs.PlacesLemmas.{all_pass, awake-counts, by_test, each-step, fewer-nodes, fewer-steps, iff, in-points, in-points_at, not_so}
@@ -194,17 +195,17 @@ at-most few all told kept most least is same = least ∙ ap (min all) (is ∙ sa
 
 -- where each point counts, truth is truth
 pub true-anywhere : {State Note Fact : Type 0} (w : World State Note Fact) (faults : List Parts) (f : Formula Fact) (b : Bool)
-    → b ≡ truth (is_down w faults) (is_shown_where w faults None) (is_single_where w faults None) f → b ≡ reaches w faults f
+    → b ≡ truth (is_down w faults) (is_shown_where w faults None) (is_single_where w faults None) (unfolded f) → b ≡ reaches w faults f
 true-anywhere w faults f b h =
     let down = is_down w faults in
     let all_count : ℕ → ℕ → Bool = λ nodes last. list_all (λ p. is_down w faults p.node p.step || counts None p.node p.step) (points_to nodes last) in
-    h ∙ iff (truth down (is_shown_where w faults None) (is_single_where w faults None) f) (reaches w faults f)
+    h ∙ iff (truth down (is_shown_where w faults None) (is_single_where w faults None) (unfolded f)) (reaches w faults f)
     (truth-more down down (is_shown_where w faults None) (is_shown w faults) (is_single_where w faults None) (is_single w faults)
-    (λ n t e. e) (λ n t fact e. e) (λ nodes last topic e. (and_parts (all_count nodes last) (is_single w faults nodes last topic) e).1) f)
+    (λ n t e. e) (λ n t fact e. e) (λ nodes last topic e. (and_parts (all_count nodes last) (is_single w faults nodes last topic) e).1) (unfolded f))
     (truth-more down down (is_shown w faults) (is_shown_where w faults None) (is_single w faults) (is_single_where w faults None)
     (λ n t e. e) (λ n t fact e. e) (λ nodes last topic e. and_from (all_count nodes last) (is_single w faults nodes last topic)
     (all_pass (λ p. is_down w faults p.node p.step || counts None p.node p.step) (points_to nodes last)
-    (λ p c. or_right (is_down w faults p.node p.step) true refl)) e) f)
+    (λ p c. or_right (is_down w faults p.node p.step) true refl)) e) (unfolded f))
 
 pub all-anywhere : {State Note Fact : Type 0} (w : World State Note Fact) (faults : List Parts) (limit : Option (List ℕ)) (nodes last : ℕ) (b : Bool)
     → is_some limit ≡ not b → b ≡ true → true ≡ list_all (λ p. is_down w faults p.node p.step || counts limit p.node p.step) (points_to nodes last)

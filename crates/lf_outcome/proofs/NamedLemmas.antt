@@ -13,8 +13,8 @@ use Rattle.lf_outcome.specs.declared.formula.Formula.{Formula}
 use Rattle.lf_outcome.specs.declared.formula.Formula.TheVariants as kind
 use Rattle.lf_outcome.specs.declared.outcome.Outcome.TheVariants.{Delivered, Agreement, Unblocked, OnePrimary, Durable}
 use Rattle.lf_outcome.specs.Named.{shows_or_down, each_shows, formula_of, AllUpShow, UpShows}
-use Rattle.lf_outcome.specs.Truth.{truth, is_down, is_shown, is_single, reaches}
-use Rattle.lf_outcome.proofs.TruthLemmas.{truth-All, truth-Any, truth-Down, truth-Shows}
+use Rattle.lf_outcome.specs.Truth.{is_down, is_shown, is_single, reaches}
+use Rattle.lf_outcome.proofs.TruthLemmas.{said-All, said-Any, said-Down, said-Shows}
 
 -- one more at the end of a disjunction
 or_false : (b : Bool) → (b || false) ≡ b
@@ -68,14 +68,14 @@ module _ {State Note F : Type 0} (w : World State Note F) (faults : List Parts) 
   at_node n t fact =
       let D = is_down w faults in
       let S = is_shown w faults in
-      truth-Any D S (is_single w faults) (kind.Down n t ∷ kind.Shows n t fact ∷ [])
-      ∙ ap (λ b. b || (truth D S (is_single w faults) (kind.Shows n t fact) || false)) (truth-Down D S (is_single w faults) n t)
-      ∙ ap (λ b. not (is_up w faults n t) || (b || false)) (truth-Shows D S (is_single w faults) n t fact)
+      said-Any D S (is_single w faults) (kind.Down n t ∷ kind.Shows n t fact ∷ [])
+      ∙ ap (λ b. b || (reaches w faults (kind.Shows n t fact) || false)) (said-Down D S (is_single w faults) n t)
+      ∙ ap (λ b. not (is_up w faults n t) || (b || false)) (said-Shows D S (is_single w faults) n t fact)
 
   each_of : (nodes t : ℕ) (fact : F)
       → reaches w faults (each_shows nodes t fact) ≡ list_all (λ n. reaches w faults (shows_or_down t fact n)) (range_with_len 0 nodes)
   each_of nodes t fact =
-      truth-All (is_down w faults) (is_shown w faults) (is_single w faults) (map (shows_or_down t fact) (range_with_len 0 nodes))
+      said-All (is_down w faults) (is_shown w faults) (is_single w faults) (map (shows_or_down t fact) (range_with_len 0 nodes))
       ∙ list_all-map (reaches w faults) (shows_or_down t fact) (range_with_len 0 nodes)
 
   each-then : (nodes t : ℕ) (fact : F) → reaches w faults (each_shows nodes t fact) ≡ true → AllUpShow w faults nodes t fact
@@ -137,7 +137,7 @@ module _ {State Note : Type 0} (w : World State Note Fact) (faults : List Parts)
       let A = reaches w faults (each_shows nodes t a) in
       let B = reaches w faults (each_shows nodes t b) in
       let two : reaches w faults (kind.Any (each_shows nodes t a ∷ each_shows nodes t b ∷ [])) ≡ (A || (B || false)) =
-      truth-Any (is_down w faults) (is_shown w faults) (is_single w faults) (each_shows nodes t a ∷ each_shows nodes t b ∷ []) in (
+      said-Any (is_down w faults) (is_shown w faults) (is_single w faults) (each_shows nodes t a ∷ each_shows nodes t b ∷ []) in (
         (λ h. elim (or_cases A (B || false) (sym two ∙ h)) [
           | inl one ↦ inl (each-then w faults nodes t a one)
           | inr other ↦ inr (each-then w faults nodes t b (sym (or_false B) ∙ other))
@@ -159,15 +159,15 @@ module _ {State Note : Type 0} (w : World State Note Fact) (faults : List Parts)
 
   -- the truth of an atom
   down_at : (n : ℕ) → reaches w faults (kind.Down n t) ≡ not (is_up w faults n t)
-  down_at n = truth-Down (is_down w faults) (is_shown w faults) (is_single w faults) n t
+  down_at n = said-Down (is_down w faults) (is_shown w faults) (is_single w faults) n t
 
   shows_at : (n : ℕ) (fact : Fact) → reaches w faults (kind.Shows n t fact) ≡ (is_up w faults n t && w.rules.shows n (view w faults n t) fact)
-  shows_at n fact = truth-Shows (is_down w faults) (is_shown w faults) (is_single w faults) n t fact
+  shows_at n fact = said-Shows (is_down w faults) (is_shown w faults) (is_single w faults) n t fact
 
   primary_of : reaches w faults (formula_of OnePrimary nodes t)
       ≡ (not (is_up w faults 0 t) || (not (is_up w faults 1 t) || ((is_up w faults 1 t && w.rules.shows 1 (view w faults 1 t) Backup) || false)))
   primary_of =
-      truth-Any (is_down w faults) (is_shown w faults) (is_single w faults) (kind.Down 0 t ∷ kind.Down 1 t ∷ kind.Shows 1 t Backup ∷ [])
+      said-Any (is_down w faults) (is_shown w faults) (is_single w faults) (kind.Down 0 t ∷ kind.Down 1 t ∷ kind.Shows 1 t Backup ∷ [])
       ∙ ap (λ b. b || (reaches w faults (kind.Down 1 t) || (reaches w faults (kind.Shows 1 t Backup) || false))) (down_at 0)
       ∙ ap (λ b. not (is_up w faults 0 t) || (b || (reaches w faults (kind.Shows 1 t Backup) || false))) (down_at 1)
       ∙ ap (λ b. not (is_up w faults 0 t) || (not (is_up w faults 1 t) || (b || false))) (shows_at 1 Backup)
@@ -187,7 +187,7 @@ module _ {State Note : Type 0} (w : World State Note Fact) (faults : List Parts)
       let up : ℕ → Bool = λ n. is_up w faults n t in
       let told = up 2 && w.rules.shows 2 (view w faults 2 t) NotDone in
       let zero_holds = up 0 && w.rules.shows 0 (view w faults 0 t) Holds in
-      truth-Any (is_down w faults) (is_shown w faults) (is_single w faults)
+      said-Any (is_down w faults) (is_shown w faults) (is_single w faults)
       (kind.Down 2 t ∷ kind.Shows 2 t NotDone ∷ kind.Shows 0 t Holds ∷ kind.Shows 1 t Holds ∷ [])
       ∙ ap (λ b. b || (R (kind.Shows 2 t NotDone) || (R (kind.Shows 0 t Holds) || (R (kind.Shows 1 t Holds) || false)))) (down_at 2)
       ∙ ap (λ b. not (up 2) || (b || (R (kind.Shows 0 t Holds) || (R (kind.Shows 1 t Holds) || false)))) (shows_at 2 NotDone)

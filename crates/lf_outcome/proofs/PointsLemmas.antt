@@ -11,6 +11,7 @@ use Rattle.lf_outcome.specs.declared.point.Point.{Point}
 use Rattle.lf_outcome.specs.Evidence.{evidence_of, AreUp, ArePoints, Covers}
 use Rattle.lf_outcome.specs.Reaches.{reach_at}
 use Rattle.lf_outcome.specs.Truth.{counts, is_down, is_shown, is_single, reaches_within}
+use Rattle.lf_outcome.specs.Unfolding.{unfolded}
 use Rattle.lf_outcome.proofs.EvidenceLemmas.{rests_on-points, rests_on-suffices}
 
 not-false : (b : Bool) → not b ≡ false → b ≡ true
@@ -35,7 +36,8 @@ module _ {State Note Fact : Type 0} (w : World State Note Fact) (faults : List P
   Up p = is_up w faults p.node p.step ≡ true
 
   pub evidence-up : (f : Formula Fact) → IfSome (evidence_of w faults f) (All Up)
-  evidence-up f = rests_on-points (is_down w faults) (is_shown w faults) (is_single w faults) Up shown_up (λ p e. not-false (is_up w faults p.node p.step) e) f
+  evidence-up f = rests_on-points (is_down w faults) (is_shown w faults) (is_single w faults) Up shown_up (λ p e. not-false (is_up w faults p.node p.step) e)
+      (unfolded f)
 
   -- what holds of each of the points
   pub up-each : (points : List Point) → All Up points → AreUp w faults points
@@ -47,7 +49,7 @@ module _ {State Note Fact : Type 0} (w : World State Note Fact) (faults : List P
   -- a reach that covers them suffices
   pub covers-suffices : (f : Formula Fact) (reach : List ℕ)
       → IfSome (evidence_of w faults f) (λ points. All (λ p. counts (Some reach) p.node p.step ≡ true) points → reaches_within w faults reach f ≡ true)
-  covers-suffices f reach = rests_on-suffices (is_down w faults) (is_shown w faults) (is_single w faults) (counts (Some reach)) f
+  covers-suffices f reach = rests_on-suffices (is_down w faults) (is_shown w faults) (is_single w faults) (counts (Some reach)) (unfolded f)
 
 pub covers-each : (reach : List ℕ) (points : List Point) → Covers reach points → All (λ p. counts (Some reach) p.node p.step ≡ true) points
 covers-each reach points covers = λ k d below.

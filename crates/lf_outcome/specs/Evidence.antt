@@ -9,6 +9,7 @@ use Rattle.lf_outcome.specs.declared.formula.Formula.TheOpen.{Formula-F}
 use Rattle.lf_outcome.specs.declared.point.Point.{Point}
 use Rattle.lf_outcome.specs.Reaches.{reach_at}
 use Rattle.lf_outcome.specs.Truth.{is_down, is_shown, is_single, points_to}
+use Rattle.lf_outcome.specs.Unfolding.{unfold_at}
 
 -- all of the lists, one after another; none where one of them is missing
 abbrev pub all_of : {A : Type 0} → List (Option (List A)) → Option (List A)
@@ -35,16 +36,21 @@ module _ {Fact : Type 0} (down : ℕ → ℕ → Bool) (shown : ℕ → ℕ → 
   rests_step (Formula-F.Down n t) = if down n t then Some [] else None
   rests_step (Formula-F.Shows n t fact) = if shown n t fact then Some (record { node = n; step = t } ∷ []) else None
   rests_step (Formula-F.One nodes last topic) = if single nodes last topic then Some (points_up down nodes last) else None
+  rests_step (Formula-F.Over every first last parts) = None
 
   -- All rests on what all parts rest on, Any on what its first true part rests on, a fact on its point, Down on no point, and One on all of its points at
-  -- which their nodes are up; a false formula rests on nothing
+  -- which their nodes are up; a false formula rests on nothing; of a formula without Over, as truth
   abbrev pub rests_on : Formula Fact → Option (List Point)
   rests_on = fold-Formula Fact (Option (List Point)) rests_step
 
 module _ {State Note Fact : Type 0} (w : World State Note Fact) (faults : List Parts) where
-  -- the points on which the formula rests in the run of the set, where the set reaches it
+  -- the points on which the formula, its steps counted from the step k, rests in the run of the set, where it is true there
+  abbrev pub evidence_at : ℕ → Formula Fact → Option (List Point)
+  evidence_at k f = rests_on (is_down w faults) (is_shown w faults) (is_single w faults) (unfold_at f k)
+
+  -- the points on which the formula, unfolded, rests in the run of the set, where the set reaches it
   abbrev pub evidence_of : Formula Fact → Option (List Point)
-  evidence_of = rests_on (is_down w faults) (is_shown w faults) (is_single w faults)
+  evidence_of f = evidence_at 0 f
 
   -- each of the points is one at which its node is up
   abbrev pub AreUp : List Point → Type 0

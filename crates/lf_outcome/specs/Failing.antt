@@ -3,6 +3,7 @@ use Rattle.std.specs.Prelude.{ℕ, zero, suc, Bool, false, true, not, ◌||◌, 
 use Rattle.lf_faults.specs.declared.fault.Parts.{Parts}
 use Rattle.lf_outcome.specs.declared.formula.Formula.{Formula}
 use Rattle.lf_outcome.specs.Truth.{is_down, is_shown, is_single, truth}
+use Rattle.lf_outcome.specs.Unfolding.{unfolded}
 use Rattle.lf_sim.specs.Runs.{World}
 
 module _ {State Note Fact : Type 0} (w : World State Note Fact) (faults : List Parts) (t : ℕ) where
@@ -17,9 +18,9 @@ module _ {State Note Fact : Type 0} (w : World State Note Fact) (faults : List P
   abbrev pub single_by : ℕ → ℕ → ℕ → Bool
   single_by nodes last topic = is_single w faults nodes (min last t) topic
 
-  -- the formula is true if all that it asks of steps past t turns out true
+  -- the formula, unfolded, is true if all that it asks of steps past t turns out true
   abbrev pub may_reach : Formula Fact → Bool
-  may_reach = truth down_or_later shown_or_later single_by
+  may_reach f = truth down_or_later shown_or_later single_by (unfolded f)
 
   -- it is false even then
   abbrev pub fails_by : Formula Fact → Bool

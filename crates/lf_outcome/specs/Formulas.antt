@@ -1,5 +1,5 @@
 -- Which formulas a scenario may have.
-use Rattle.std.specs.Prelude.{◌≡◌, ℕ, ◌≤◌, Bool, true, ◌&&◌, ◌==◌, nat_le, nat_lt}
+use Rattle.std.specs.Prelude.{◌≡◌, ℕ, ◌≤◌, Bool, true, false, ◌&&◌, ◌==◌, nat_le, nat_lt}
 use Rattle.std.specs.List.{list_all, list_any}
 use Rattle.std.specs.Str.{bytes_eq}
 use Rattle.lf_faults.specs.declared.spec.Bounds.{Bounds}
@@ -11,6 +11,7 @@ use Rattle.lf_outcome.specs.declared.formula.Formula.{Formula, fold-Formula}
 use Rattle.lf_outcome.specs.declared.formula.Formula.TheOpen.{Formula-F}
 use Rattle.lf_outcome.specs.Measures.{depth_of, atoms_of}
 use Rattle.lf_outcome.specs.Limits.{deepest, most_atoms}
+use Rattle.lf_outcome.specs.Unfolding.{unfolded}
 
 -- a node at a step of the run
 abbrev pub is_point : ℕ → ℕ → ℕ → ℕ → Bool
@@ -28,13 +29,14 @@ module _ (k : Kind) (nodes horizon : ℕ) where
   range_step (Formula-F.Down n t) = is_point nodes horizon n t
   range_step (Formula-F.Shows n t fact) = is_point nodes horizon n t && is_fact_of k fact
   range_step (Formula-F.One many last topic) = (many == nodes) && ((last == horizon) && nat_lt topic (topics_of k))
+  range_step (Formula-F.Over every first last parts) = false
 
-  -- each atom speaks of a point of the run, or of all of them, and each fact and topic is one of the protocol's
+  -- each atom speaks of a point of the run, or of all of them, and each fact and topic is one of the protocol's; of a formula without Over
   abbrev pub is_in_range : Formula Fact → Bool
   is_in_range = fold-Formula Fact Bool range_step
 
--- the formula of a scenario: in range, not too deep, and without too many atoms
+-- the formula of a scenario: unfolded it is in range, not too deep, and without too many atoms
 pub record IsFormulaOf (k : Kind) (b : Bounds) (formula : Formula Fact) : Type 0 where
-  pub range : is_in_range k b.nodes b.horizon formula ≡ true
-  pub depth : depth_of formula ≤ deepest
-  pub atoms : atoms_of formula ≤ most_atoms
+  pub range : is_in_range k b.nodes b.horizon (unfolded formula) ≡ true
+  pub depth : depth_of (unfolded formula) ≤ deepest
+  pub atoms : atoms_of (unfolded formula) ≤ most_atoms

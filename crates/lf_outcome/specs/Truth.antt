@@ -1,5 +1,5 @@
 -- When a formula is true, and when a set of faults reaches an outcome.
-use Rattle.std.specs.Prelude.{ℕ, Bool, true, not, ◌&&◌, ◌||◌, ◌==◌, nat_le, if◌then◌else◌, List, map, Option, None, Some}
+use Rattle.std.specs.Prelude.{ℕ, Bool, true, false, not, ◌&&◌, ◌||◌, ◌==◌, nat_le, if◌then◌else◌, List, map, Option, None, Some}
 use Rattle.std.specs.List.{flat_map, list_all, list_any, range_with_len}
 use Rattle.std.specs.Option.{option_to_list}
 use Rattle.lf_faults.specs.declared.fault.Parts.{Parts}
@@ -9,6 +9,7 @@ use Rattle.lf_outcome.specs.declared.formula.Formula.{Formula, fold-Formula}
 use Rattle.lf_outcome.specs.declared.formula.Formula.TheOpen.{Formula-F}
 use Rattle.lf_outcome.specs.declared.point.Point.{Point}
 use Rattle.lf_outcome.specs.Reaches.{reach_at}
+use Rattle.lf_outcome.specs.Unfolding.{unfolded}
 
 -- by a test of which node is down at which step, one of which node shows which fact at which step, and one of the nodes, steps and topics whose entries
 -- are of one value for each key
@@ -20,8 +21,10 @@ module _ {Fact : Type 0} (down : ℕ → ℕ → Bool) (shown : ℕ → ℕ → 
   truth_step (Formula-F.Down n t) = down n t
   truth_step (Formula-F.Shows n t fact) = shown n t fact
   truth_step (Formula-F.One nodes last topic) = single nodes last topic
+  truth_step (Formula-F.Over every first last parts) = false
 
-  -- all parts are true, some part is true, the node is down, the node shows the fact, the entries have one value for each key
+  -- all parts are true, some part is true, the node is down, the node shows the fact, the entries have one value for each key; of a formula without Over:
+  -- what one with Over says is what it says unfolded
   abbrev pub truth : Formula Fact → Bool
   truth = fold-Formula Fact Bool truth_step
 
@@ -75,10 +78,10 @@ module _ {State Note Fact : Type 0} (w : World State Note Fact) (faults : List P
   abbrev pub is_shown_where : Option (List ℕ) → ℕ → ℕ → Fact → Bool
   is_shown_where limit n t fact = counts limit n t && is_shown n t fact
 
-  -- the formula is true in the run of the set: the set reaches the outcome, and elsewhere it misses
+  -- the formula, unfolded, is true in the run of the set: the set reaches the outcome, and elsewhere it misses
   abbrev pub reaches : Formula Fact → Bool
-  reaches = truth is_down is_shown is_single
+  reaches f = truth is_down is_shown is_single (unfolded f)
 
   -- the same, where a fact past the reach counts as not shown, and One as false if a node is up at one of its points past the reach
   abbrev pub reaches_within : List ℕ → Formula Fact → Bool
-  reaches_within reach = truth is_down (is_shown_where (Some reach)) (is_single_where (Some reach))
+  reaches_within reach f = truth is_down (is_shown_where (Some reach)) (is_single_where (Some reach)) (unfolded f)

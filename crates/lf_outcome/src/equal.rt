@@ -42,6 +42,25 @@ pub fn same<F: Eq>(one: &Formula<F>, other: &Formula<F>) -> bool
                 topic: other_topic,
             },
         ) => nodes == other_nodes && last == other_last && topic == other_topic,
+        (
+            Formula::Over {
+                every,
+                first,
+                last,
+                parts,
+            },
+            Formula::Over {
+                every: other_every,
+                first: other_first,
+                last: other_last,
+                parts: other_parts,
+            },
+        ) => {
+            every == other_every
+                && first == other_first
+                && last == other_last
+                && same_parts(parts.as_slice(), other_parts.as_slice())
+        }
         _ => false,
     }
 }

@@ -12,12 +12,32 @@ pub enum Formula<F> {
     /// Some part is true. It is false where there is no part.
     Any(Formulas<F>),
     /// The node isn't up at the step.
-    Down { node: u32, step: u32 },
+    Down {
+        node: u32,
+        step: u32,
+    },
     /// The node is up at the step, and its state after it shows the fact.
-    Shows { node: u32, step: u32, fact: F },
+    Shows {
+        node: u32,
+        step: u32,
+        fact: F,
+    },
     /// Of what the nodes below `nodes` enter under a topic, by their states after the steps 1 to `last` at which they are up, no two entries have one key
     /// and different values.
-    One { nodes: u32, last: u32, topic: u8 },
+    One {
+        nodes: u32,
+        last: u32,
+        topic: u8,
+    },
+    /// Each of the parts at each step from `first` to `last`, by step and then in order, the steps of Down, Shows and Over in the parts counted from that step:
+    /// if `every`, all of them are true, and else some are. There are none where `last` is before `first`. One stays what it is. Steps past 2^32 - 1 count as
+    /// that: no run has them.
+    Over {
+        every: bool,
+        first: u32,
+        last: u32,
+        parts: Formulas<F>,
+    },
 }
 
 /// The parts of a formula.

@@ -16,6 +16,7 @@ mod promises;
 mod reach;
 mod scenario;
 mod truth;
+mod unfolding;
 mod words;
 
 pub use entries::push_up;
@@ -34,4 +35,5 @@ pub use promises::what_fails_stays_missed;
 pub use reach::Reach;
 pub use scenario::Scenario;
 pub use truth::{by_cases, holds, holds_within, single_by_values};
+pub use unfolding::unfold;
 pub use words::outcome_named;

@@ -46,7 +46,7 @@ impl Scenario {
         &self.setting
     }
 
-    /// What the protocol promises: at points of the run, by facts of the protocol, at most `DEEPEST` deep, with at most `MOST_ATOMS` atoms.
+    /// What the protocol promises: unfolded, it is at points of the run, by facts of the protocol, at most `DEEPEST` deep, with at most `MOST_ATOMS` atoms.
     pub fn formula(&self) -> &Formula<Fact>
         ensures value { result.now ≡ self.now.formula }
         ensures fits { IsFormulaOf self.now.setting.machine self.now.setting.spec self.now.formula }

@@ -14,14 +14,13 @@ use Rattle.lf_rule_machine.specs.declared.fact.Fact.{Fact as Told}
 use Rattle.lf_rule_machine.specs.Machines.{is_told, shows_of}
 use Rattle.lf_protocols.specs.declared.fact.Fact.{Fact}
 use Rattle.lf_sim.specs.Runs.{World, is_up, view}
-use Rattle.lf_outcome.specs.declared.formula.Formula.{Formula, fold-roll-Formula}
-use Rattle.lf_outcome.specs.declared.formula.Formula.TheVariants.{rolls-All, rolls-Any, rolls-Down, rolls-Shows, rolls-One}
+use Rattle.lf_outcome.specs.declared.formula.Formula.{Formula}
 use Rattle.lf_outcome.specs.declared.formula.Formula.TheVariants as kind
-use Rattle.lf_outcome.specs.declared.formula.Formula.TheOpen.{Formula-F}
 use Rattle.lf_outcome.specs.Named.{shows_or_down}
 use Rattle.lf_outcome.specs.Entries.{NoTwoDiffer}
 use Rattle.lf_outcome.proofs.Laws.{single-pairs}
-use Rattle.lf_outcome.specs.Truth.{truth, truth_step, is_down, is_shown, is_single, reaches}
+use Rattle.lf_outcome.specs.Truth.{is_single, reaches}
+use Rattle.lf_own_scenario.proofs.ReachLemmas as reaching
 use Rattle.lf_promises.specs.Fronts.{opposite}
 use Rattle.lf_promises.specs.declared.promise.Promise.{Promise}
 use Rattle.lf_promises.specs.declared.promise.Promise.TheVariants as promises
@@ -76,30 +75,17 @@ not-then false h = refl
 
 module _ {State Note : Type 0} (w : World State Note Fact) (faults : List Parts) where
   -- the truth of a formula by its kind
-  abbrev down : ℕ → ℕ → Bool
-  down = is_down w faults
-
-  abbrev shown : ℕ → ℕ → Fact → Bool
-  shown = is_shown w faults
-
-  abbrev single : ℕ → ℕ → ℕ → Bool
-  single = is_single w faults
-
   reach-All : (fs : List (Formula Fact)) → reaches w faults (kind.All fs) ≡ list_all (reaches w faults) fs
-  reach-All fs =
-      ap (truth down shown single) (sym (rolls-All fs)) ∙ fold-roll-Formula Fact Bool (truth_step down shown single) (Formula-F.All fs)
-      ∙ list_all-map (λ b. b) (truth down shown single) fs
+  reach-All = reaching.reach-All w faults
 
   reach-Any : (fs : List (Formula Fact)) → reaches w faults (kind.Any fs) ≡ list_any (reaches w faults) fs
-  reach-Any fs =
-      ap (truth down shown single) (sym (rolls-Any fs)) ∙ fold-roll-Formula Fact Bool (truth_step down shown single) (Formula-F.Any fs)
-      ∙ list_any-map (λ b. b) (truth down shown single) fs
+  reach-Any = reaching.reach-Any w faults
 
   reach-Down : (n t : ℕ) → reaches w faults (kind.Down n t) ≡ not (is_up w faults n t)
-  reach-Down n t = ap (truth down shown single) (sym (rolls-Down n t)) ∙ fold-roll-Formula Fact Bool (truth_step down shown single) (Formula-F.Down n t)
+  reach-Down = reaching.reach-Down w faults
 
   reach-Shows : (n t : ℕ) (f : Fact) → reaches w faults (kind.Shows n t f) ≡ (is_up w faults n t && w.rules.shows n (view w faults n t) f)
-  reach-Shows n t f = ap (truth down shown single) (sym (rolls-Shows n t f)) ∙ fold-roll-Formula Fact Bool (truth_step down shown single) (Formula-F.Shows n t f)
+  reach-Shows = reaching.reach-Shows w faults
 
   reach-node : (n t : ℕ) (f : Fact)
       → reaches w faults (shows_or_down t f n)
@@ -301,9 +287,7 @@ module _ {State Note : Type 0} (w : World State Note Fact) (faults : List Parts)
       ((λ h. shows-when s of t fact n (sym test ∙ h)), (λ h. test ∙ shows-at s of t fact n h))
 
   reach-One : (nodes last topic : ℕ) → reaches w faults (kind.One nodes last topic) ≡ is_single w faults nodes last topic
-  reach-One nodes last topic =
-      ap (truth down shown single) (sym (rolls-One nodes last topic))
-      ∙ fold-roll-Formula Fact Bool (truth_step down shown single) (Formula-F.One nodes last topic)
+  reach-One = reaching.reach-One w faults
 
   pub one-keeps : (s : Scene) (topic : Topic) (first t : ℕ)
       → IsKept w faults s t (from first (promises.One topic)) ↔ NoTwoDiffer w faults s.nodes s.horizon first

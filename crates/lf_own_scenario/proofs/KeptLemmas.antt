@@ -16,14 +16,13 @@ use Rattle.lf_protocols.specs.declared.note.Note.{Note}
 use Rattle.lf_protocols.specs.declared.state.State.{State}
 use Rattle.lf_sim.specs.Runs.{World, is_up, view}
 use Rattle.lf_sim.specs.declared.entry.Entry.{Entry}
-use Rattle.lf_outcome.specs.declared.formula.Formula.{Formula, fold-roll-Formula}
-use Rattle.lf_outcome.specs.declared.formula.Formula.TheVariants.{rolls-All, rolls-Any, rolls-Down, rolls-Shows, rolls-One}
+use Rattle.lf_outcome.specs.declared.formula.Formula.{Formula}
 use Rattle.lf_outcome.specs.declared.formula.Formula.TheVariants as kind
-use Rattle.lf_outcome.specs.declared.formula.Formula.TheOpen.{Formula-F}
 use Rattle.lf_outcome.specs.Named.{shows_or_down}
 use Rattle.lf_outcome.specs.declared.point.Point.{Point}
 use Rattle.lf_outcome.specs.Truth.{agree, all_agree, entered, entries_at, points_at, points_to}
-use Rattle.lf_outcome.specs.Truth.{truth, truth_step, is_down, is_shown, is_single, reaches}
+use Rattle.lf_outcome.specs.Truth.{is_single, reaches}
+use Rattle.lf_own_scenario.proofs.ReachLemmas as reaching
 use Rattle.lf_promises.specs.Fronts.{opposite}
 use Rattle.lf_promises.specs.Inductions.{Steps}
 use Rattle.lf_promises.specs.declared.promise.Many.{Many}
@@ -319,35 +318,20 @@ entry_on d s n v topic =
     if is_true (value_on d s n v topic.guard) then Some (record { key = value_on d s n v topic.key; value = value_on d s n v topic.value }) else None
 
 module _ (w : World State Note Fact) (faults : List Parts) where
-  abbrev down : ℕ → ℕ → Bool
-  down = is_down w faults
-
-  abbrev shown : ℕ → ℕ → Fact → Bool
-  shown = is_shown w faults
-
-  abbrev single : ℕ → ℕ → ℕ → Bool
-  single = is_single w faults
-
   reach-All : (fs : List (Formula Fact)) → reaches w faults (kind.All fs) ≡ list_all (reaches w faults) fs
-  reach-All fs =
-      ap (truth down shown single) (sym (rolls-All fs)) ∙ fold-roll-Formula Fact Bool (truth_step down shown single) (Formula-F.All fs)
-      ∙ list_all-map (λ b. b) (truth down shown single) fs
+  reach-All = reaching.reach-All w faults
 
   reach-Any : (fs : List (Formula Fact)) → reaches w faults (kind.Any fs) ≡ list_any (reaches w faults) fs
-  reach-Any fs =
-      ap (truth down shown single) (sym (rolls-Any fs)) ∙ fold-roll-Formula Fact Bool (truth_step down shown single) (Formula-F.Any fs)
-      ∙ list_any-map (λ b. b) (truth down shown single) fs
+  reach-Any = reaching.reach-Any w faults
 
   reach-Down : (n t : ℕ) → reaches w faults (kind.Down n t) ≡ not (is_up w faults n t)
-  reach-Down n t = ap (truth down shown single) (sym (rolls-Down n t)) ∙ fold-roll-Formula Fact Bool (truth_step down shown single) (Formula-F.Down n t)
+  reach-Down = reaching.reach-Down w faults
 
   reach-Shows : (n t : ℕ) (f : Fact) → reaches w faults (kind.Shows n t f) ≡ (is_up w faults n t && w.rules.shows n (view w faults n t) f)
-  reach-Shows n t f = ap (truth down shown single) (sym (rolls-Shows n t f)) ∙ fold-roll-Formula Fact Bool (truth_step down shown single) (Formula-F.Shows n t f)
+  reach-Shows = reaching.reach-Shows w faults
 
   reach-One : (nodes last topic : ℕ) → reaches w faults (kind.One nodes last topic) ≡ is_single w faults nodes last topic
-  reach-One nodes last topic =
-      ap (truth down shown single) (sym (rolls-One nodes last topic))
-      ∙ fold-roll-Formula Fact Bool (truth_step down shown single) (Formula-F.One nodes last topic)
+  reach-One = reaching.reach-One w faults
 
   reach-node : (n t : ℕ) (f : Fact)
       → reaches w faults (shows_or_down t f n)

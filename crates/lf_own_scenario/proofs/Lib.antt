@@ -1,10 +1,12 @@
 pub mod Laws
+mod ReachLemmas
 mod KeepingLemmas
 mod ListLemmas
 mod MemberLemmas
 mod SizeLemmas
 mod TopicLemmas
 mod UnfoldingLemmas
+mod SpanLemmas
 mod FactMembers
 mod RangeLemmas
 mod Counts

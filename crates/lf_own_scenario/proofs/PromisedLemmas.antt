@@ -2,6 +2,7 @@
 use Rattle.std.proofs.Common.{◌≡◌, ℕ, Bool, true, false, cond, List, [], append-nil, Some, Result, Ok, Err, refl, sym, ap, ◌∙◌, subst}
 use Rattle.std.specs.Prelude.{nat_le, ◌&&◌}
 use Rattle.toml.specs.Data.{string, Members, get_member}
+use Rattle.lf_faults.specs.declared.fault.Parts.{Parts}
 use Rattle.lf_faults.specs.declared.spec.Bounds.{Bounds}
 use Rattle.lf_latency.specs.Arrivals.{arrival_of}
 use Rattle.lf_rules.specs.declared.definition.Given.{Given}
@@ -17,13 +18,16 @@ use Rattle.lf_protocols.specs.Protocols.{rules_of}
 use Rattle.lf_sim.specs.Runs.{World}
 use Rattle.lf_outcome.specs.declared.formula.Formula.{Formula}
 use Rattle.lf_outcome.specs.Measures.{depth_of, atoms_of}
-use Rattle.lf_outcome.specs.Truth.{reaches}
+use Rattle.lf_outcome.specs.Truth.{is_down, is_shown, is_single, reaches, truth}
+use Rattle.lf_outcome.specs.Unfolding.{unfolded as said_by}
+use Rattle.lf_outcome.proofs.Laws.{plain-unfolded, unfolded-plain}
 use Rattle.lf_sim.specs.Settings.{world_of}
 use Rattle.lf_promises.specs.declared.promise.Promise.{Promise}
 use Rattle.lf_own_scenario.specs.declared.error.UnfoldError.TheVariants as unfold_refusals
 use Rattle.lf_own_scenario.specs.declared.scene.Scene.{Scene}
 use Rattle.lf_own_scenario.specs.Topics.{topics_in, count_topics}
-use Rattle.lf_own_scenario.specs.Unfolding.{formula_at, names_nodes, limited, asked_of, unfolded}
+use Rattle.lf_own_scenario.specs.Spans.{spanned_at, unfolded}
+use Rattle.lf_own_scenario.specs.Unfolding.{formula_at, names_nodes, limited, asked_of}
 use Rattle.lf_protocol_file.specs.declared.declared.Declared.{Declared}
 use Rattle.lf_scenario.specs.declared.key.Key.TheVariants as keys
 use Rattle.lf_scenario.specs.declared.error.ScenarioError.TheVariants as refusals
@@ -42,6 +46,7 @@ use Rattle.lf_own_scenario.specs.Scenarios.{Settled, chosen_in, asked_with, IsAs
 use Rattle.lf_own_scenario.specs.Scenarios.{asking as with_asked}
 use Rattle.lf_own_scenario.specs.Zeros.{promise_divides}
 use Rattle.lf_own_scenario.proofs.KeptLemmas.{formula-kept}
+use Rattle.lf_own_scenario.proofs.SpanLemmas.{spanned-says}
 use Rattle.lf_own_scenario.proofs.ViewLemmas.{enters, opposed, told}
 
 -- what stands before a step
@@ -71,17 +76,30 @@ asked-is topics f g h = go (nat_le topics 256) h
     go true e = limited-is f g e
     go false e = absurd cc
 
-unfolded-is : (s : Scene) (p : Promise) (f : Formula Fact) → unfolded s p ≡ Ok f → f ≡ formula_at s 0 p s.horizon
+unfolded-is : (s : Scene) (p : Promise) (f : Formula Fact) → unfolded s p ≡ Ok f → f ≡ spanned_at s 0 p s.horizon
 unfolding unfolded
 unfolded-is s p f h = go (names_nodes s.nodes p) h
   where
-    go : (so : Bool) → cond so (asked_of (count_topics p) (formula_at s 0 p s.horizon)) (Err unfold_refusals.NoNode) ≡ Ok f → f ≡ formula_at s 0 p s.horizon
-    go true e = asked-is (count_topics p) (formula_at s 0 p s.horizon) f e
+    go : (so : Bool) → cond so (asked_of (count_topics p) (spanned_at s 0 p s.horizon)) (Err unfold_refusals.NoNode) ≡ Ok f → f ≡ spanned_at s 0 p s.horizon
+    go true e = asked-is (count_topics p) (spanned_at s 0 p s.horizon) f e
     go false e = absurd cc
+
+-- its formula says what the promise is, step by step,
+pub unfolded-says : (s : Scene) (p : Promise) (f : Formula Fact) → unfolded s p ≡ Ok f → said_by f ≡ formula_at s 0 p s.horizon
+unfolded-says s p f is = ap (λ g. said_by g) (unfolded-is s p f is) ∙ spanned-says s 0 p s.horizon
+
+-- and is true in the same runs
+reaches-says : (w : World State Note Fact) (faults : List Parts) (s : Scene) (p : Promise) (t : ℕ)
+    → reaches w faults (spanned_at s 0 p t) ≡ reaches w faults (formula_at s 0 p t)
+reaches-says w faults s p t =
+    let f = spanned_at s 0 p t in
+    let again : said_by (said_by f) ≡ said_by f = unfolded-plain (said_by f) (plain-unfolded f 0) in
+    ap (truth (is_down w faults) (is_shown w faults) (is_single w faults)) (sym again)
+    ∙ ap (reaches w faults) (spanned-says s 0 p t)
 
 -- what a promise demands is its formula and its topics
 record IsDemand (b : Bounds) (given : List Given) (p : Promise) (x : Demand) : Type 0 where
-  pub formula : x.formula ≡ formula_at (scene_of b given) 0 p b.horizon
+  pub formula : x.formula ≡ spanned_at (scene_of b given) 0 p b.horizon
   pub topics : x.topics ≡ topics_in p
 
 demand-is : (b : Bounds) (given : List Given) (p : Promise) (x : Demand) → demand_of b given p ≡ Ok x → IsDemand b given p x
@@ -108,7 +126,7 @@ record HasText (file : Declared) (ms : Members) (words : List ℕ) (asked : Aske
   pub promise : Promise
   pub protocol : asked.described.protocol ≡ kind_of file asked.described.bounds.nodes given (topics_in promise)
   pub text : said file given words (named words file.outcomes) ≡ Ok promise
-  pub formula : asked.formula ≡ formula_at (scene_of asked.described.bounds given) 0 promise asked.described.bounds.horizon
+  pub formula : asked.formula ≡ spanned_at (scene_of asked.described.bounds given) 0 promise asked.described.bounds.horizon
 
 record IsChosen (file : Declared) (ms : Members) (x : Settled) : Type 0 where
   pub constants : given_in file x.described.bounds.nodes ms ≡ Ok x.given
@@ -171,8 +189,8 @@ module _ (file : Declared) (ms : Members) where
       let bounds : s.setting.spec ≡ a.asked.described.bounds = a.scenario.bounds in
       let protocol : s.setting.machine ≡ kind_of file s.setting.spec.nodes t.given (topics_in t.promise) =
       a.scenario.protocol ∙ t.protocol ∙ ap (λ (b : Bounds). kind_of file b.nodes t.given (topics_in t.promise)) (sym bounds) in
-      let formula : s.formula ≡ formula_at (scene_of s.setting.spec t.given) 0 t.promise s.setting.spec.horizon =
-      a.scenario.formula ∙ t.formula ∙ ap (λ (b : Bounds). formula_at (scene_of b t.given) 0 t.promise b.horizon) (sym bounds) in
+      let formula : s.formula ≡ spanned_at (scene_of s.setting.spec t.given) 0 t.promise s.setting.spec.horizon =
+      a.scenario.formula ∙ t.formula ∙ ap (λ (b : Bounds). spanned_at (scene_of b t.given) 0 t.promise b.horizon) (sym bounds) in
       let nodes = s.setting.spec.nodes in
       let scene = scene_of s.setting.spec t.given in
       let last = s.setting.spec.horizon in
@@ -186,7 +204,7 @@ module _ (file : Declared) (ms : Members) where
         text = t.text;
         protocol = protocol;
         kept = λ faults.
-            ap (reaches (world_of s.setting) faults) formula
+            ap (reaches (world_of s.setting) faults) formula ∙ reaches-says (world_of s.setting) faults scene t.promise last
             ∙ subst (λ (k : Kind). reaches (world_by k last pause arrival) faults (formula_at scene 0 t.promise last)
             ≡ is_kept (world_by k last pause arrival) faults file.definition scene t.promise last) (sym protocol)
             (formula-kept (world_by (kinds.Ruled m) last pause arrival) faults (opposed m last pause arrival faults) file.definition scene (topics_in t.promise)

@@ -21,6 +21,8 @@ use Rattle.lf_outcome.specs.declared.formula.Formula.TheVariants as kind
 use Rattle.lf_outcome.specs.declared.formula.Formula.TheOpen.{Formula-F}
 use Rattle.lf_outcome.specs.Measures.{depth_of, atoms_of}
 use Rattle.lf_outcome.specs.Named.{shows_or_down}
+use Rattle.lf_outcome.specs.Unfolding.{unfolded as said_by}
+use Rattle.lf_outcome.proofs.Laws.{depth-unfolded, atoms-unfolded}
 use Rattle.lf_promises.specs.Facts.{has_told, names_facts}
 use Rattle.lf_promises.specs.Fronts.{opposite}
 use Rattle.lf_promises.specs.declared.promise.Many.{Many}
@@ -34,7 +36,9 @@ use Rattle.lf_own_scenario.specs.Elements.{Member}
 use Rattle.lf_own_scenario.specs.Members.{is_in, members, others}
 use Rattle.lf_own_scenario.specs.Quantities.{ruled, shows, each, any_of, all_but_one, where_any, so_many}
 use Rattle.lf_own_scenario.specs.Topics.{topics_in, count_topics, count_all}
-use Rattle.lf_own_scenario.specs.Unfolding.{formula_at, formulas_at, names_nodes, limited, asked_of, unfolded}
+use Rattle.lf_own_scenario.specs.Unfolding.{formula_at, formulas_at, names_nodes, limited, asked_of}
+use Rattle.lf_own_scenario.specs.Spans.{spanned_at, unfolded}
+use Rattle.lf_own_scenario.proofs.SpanLemmas.{spanned-says}
 use Rattle.lf_own_scenario.proofs.Laws.{all-from, kept-at, range-at, all-flat, names-All, names-Any, names-Always, names-Ever, names-Down, names-At}
 use Rattle.lf_own_scenario.proofs.Laws.{formula-All, formula-Any, formula-Always, formula-Ever, formula-Nodes, formula-Down, formula-At, formula-One}
 use Rattle.lf_own_scenario.proofs.Laws.{topics-All, topics-Any, topics-Always, topics-Ever, topics-One}
@@ -236,19 +240,19 @@ module _ (f g : Formula Fact) where
   is-limited h = limited-by (nat_le (depth_of f) 8 && nat_le (atoms_of f) 4096) refl h
 
 module _ (s : Scene) (p : Promise) (f : Formula Fact) where
-  asked-by : (t : Bool) → cond t (limited (formula_at s 0 p s.horizon)) (Err refusals.TooLarge) ≡ Ok f → IsLimited (formula_at s 0 p s.horizon) f
-  asked-by true h = is-limited (formula_at s 0 p s.horizon) f h
+  asked-by : (t : Bool) → cond t (limited (spanned_at s 0 p s.horizon)) (Err refusals.TooLarge) ≡ Ok f → IsLimited (spanned_at s 0 p s.horizon) f
+  asked-by true h = is-limited (spanned_at s 0 p s.horizon) f h
   asked-by false h = absurd cc
 
-  is-asked : asked_of (count_topics p) (formula_at s 0 p s.horizon) ≡ Ok f → IsLimited (formula_at s 0 p s.horizon) f
+  is-asked : asked_of (count_topics p) (spanned_at s 0 p s.horizon) ≡ Ok f → IsLimited (spanned_at s 0 p s.horizon) f
   unfolding asked_of
   is-asked h = asked-by (nat_le (count_topics p) 256) h
 
   record IsUnfolded : Type 0 where
     pub nodes : names_nodes s.nodes p ≡ true
-    pub limits : IsLimited (formula_at s 0 p s.horizon) f
+    pub limits : IsLimited (spanned_at s 0 p s.horizon) f
 
-  unfolded-by : (t : Bool) → t ≡ names_nodes s.nodes p → cond t (asked_of (count_topics p) (formula_at s 0 p s.horizon)) (Err refusals.NoNode) ≡ Ok f
+  unfolded-by : (t : Bool) → t ≡ names_nodes s.nodes p → cond t (asked_of (count_topics p) (spanned_at s 0 p s.horizon)) (Err refusals.NoNode) ≡ Ok f
       → IsUnfolded
   unfolded-by true is h = record { nodes = sym is; limits = is-asked h }
   unfolded-by false is h = absurd cc
@@ -260,10 +264,11 @@ module _ (s : Scene) (p : Promise) (f : Formula Fact) where
 -- the formula of a promise is one of the scenario
 module _ (m : Instance) (s : Scene) (p : Promise) (f : Formula Fact) where
   range-of : m.topics ≡ topics_in p → 1 ≤ s.horizon → names_facts m.definition p ≡ true → IsUnfolded s p f
-      → is_in_range (kinds.Ruled m) s.nodes s.horizon f ≡ true
+      → is_in_range (kinds.Ruled m) s.nodes s.horizon (said_by f) ≡ true
   range-of own some facts is =
       let same : length m.topics ≡ count_topics p = ap length own in
-      ap (is_in_range (kinds.Ruled m) s.nodes s.horizon) (sym is.limits.same)
+      ap (λ g. is_in_range (kinds.Ruled m) s.nodes s.horizon (said_by g)) (sym is.limits.same)
+      ∙ ap (is_in_range (kinds.Ruled m) s.nodes s.horizon) (spanned-says s 0 p s.horizon)
       ∙ promise-fits m s p 0 s.horizon (omega (arith, same)) (record { first = some; last = omega arith }) is.nodes facts
 
 pub formula-of : (m : Instance) (b : Bounds) (s : Scene) (p : Promise) (f : Formula Fact) → IsInLimits b → s.nodes ≡ b.nodes → s.horizon ≡ b.horizon
@@ -273,7 +278,8 @@ formula-of m b s p f limits nodes horizon own facts is =
     let inside = range-of m s p f own (omega (arith, limits.horizon.0, horizon)) facts found in
     record {
       range =
-          ap (λ h. is_in_range (kinds.Ruled m) b.nodes h f) (sym horizon) ∙ ap (λ n. is_in_range (kinds.Ruled m) n s.horizon f) (sym nodes) ∙ inside;
-      depth = let P : Formula Fact → Type 0 = λ h. depth_of h ≤ deepest in subst P found.limits.same found.limits.depth;
-      atoms = let P : Formula Fact → Type 0 = λ h. atoms_of h ≤ most_atoms in subst P found.limits.same found.limits.atoms;
+          ap (λ h. is_in_range (kinds.Ruled m) b.nodes h (said_by f)) (sym horizon)
+          ∙ ap (λ n. is_in_range (kinds.Ruled m) n s.horizon (said_by f)) (sym nodes) ∙ inside;
+      depth = let deep = ap depth_of found.limits.same in let said = depth-unfolded f 0 in omega (arith, deep, said, found.limits.depth);
+      atoms = let many = ap atoms_of found.limits.same in let said = atoms-unfolded f 0 in omega (arith, many, said, found.limits.atoms);
     }

@@ -3,6 +3,7 @@ pub mod Members
 pub mod Quantities
 pub mod Topics
 pub mod Unfolding
+pub mod Spans
 pub mod Sizes
 pub mod Keeping
 pub mod Zeros

@@ -21,7 +21,7 @@ use Rattle.lf_protocols.specs.declared.fact.Fact.{Fact}
 use Rattle.lf_outcome.specs.declared.formula.Formula.{Formula}
 use Rattle.lf_own_scenario.specs.declared.error.UnfoldError.{UnfoldError}
 use Rattle.lf_own_scenario.specs.declared.scene.Scene.{Scene}
-use Rattle.lf_own_scenario.specs.Unfolding.{unfolded}
+use Rattle.lf_own_scenario.specs.Spans.{unfolded}
 use Rattle.lf_protocol_file.specs.declared.declared.Declared.{Declared}
 use Rattle.lf_protocol_file.specs.declared.declared.Outcome.{Outcome}
 use Rattle.lf_scenario.specs.declared.key.Key.{Key}

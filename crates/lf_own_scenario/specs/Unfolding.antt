@@ -80,7 +80,3 @@ limited formula = if nat_le (depth_of formula) 8 && nat_le (atoms_of formula) 40
 -- the same, without too many topics
 unfoldable pub asked_of : ℕ → Formula Fact → Result (Formula Fact) UnfoldError
 asked_of topics formula = if nat_le topics 256 then limited formula else Err refusals.TooLarge
-
--- the formula of a promise at the last step, with its topics numbered from 0
-unfoldable pub unfolded : Scene → Promise → Result (Formula Fact) UnfoldError
-unfolded s promise = if names_nodes s.nodes promise then asked_of (count_topics promise) (formula_at s 0 promise s.horizon) else Err refusals.NoNode

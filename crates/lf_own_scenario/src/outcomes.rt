@@ -4,7 +4,7 @@ ghost use Rattle.std.specs.Prelude.{◌≡◌, true, [], IfOk, IfSome, Ok};
 ghost use Rattle.toml.specs.View.{table_view, view};
 ghost use Rattle.lf_faults.specs.Allowed.{IsInLimits};
 ghost use Rattle.lf_promises.specs.Facts.{names_facts};
-ghost use Rattle.lf_own_scenario.specs.Unfolding.{unfolded};
+ghost use Rattle.lf_own_scenario.specs.Spans.{unfolded};
 ghost use Rattle.lf_outcome.specs.Formulas.{IsFormulaOf};
 ghost use Rattle.lf_scenario.specs.Ranges.{IsInRange};
 ghost use Rattle.lf_scenario.specs.Values.{required};

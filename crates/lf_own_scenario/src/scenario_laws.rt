@@ -15,10 +15,18 @@ ghost use Rattle.lf_promises.specs.declared.promise.Promise.{Promise};
 ghost use Rattle.lf_promises.specs.Facts.{names_facts};
 ghost use Rattle.lf_own_scenario.specs.declared.scene.Scene.{Scene};
 ghost use Rattle.lf_own_scenario.specs.Topics.{topics_in};
-ghost use Rattle.lf_own_scenario.specs.Unfolding.{unfolded};
+ghost use Rattle.lf_outcome.specs.Unfolding.{unfolded as said_by};
+ghost use Rattle.lf_own_scenario.specs.Spans.{unfolded};
+ghost use Rattle.lf_own_scenario.specs.Unfolding.{formula_at};
 ghost use Rattle.lf_protocol_file.specs.declared.declared.Declared.{Declared};
 ghost use Rattle.lf_outcome.specs.Formulas.{IsFormulaOf};
 ghost use Rattle.lf_own_scenario.specs.Constants.{given_in};
+
+/// What the formula of a promise says, without spans of steps, is the promise unfolded step by step at the last step, with its topics numbered from 0.
+pub fn formulas_are_unfolded()
+    ensures { (s : Scene) (promise : Promise) (formula : Formula Fact) → unfolded s promise ≡ Ok formula →
+        said_by formula ≡ formula_at s 0 promise s.horizon }
+{}
 
 /// The formula of a promise that names facts of its protocol alone is a formula of the scenario, for every protocol of rules and all bounds.
 pub fn promises_are_formulas()

@@ -1,11 +1,13 @@
 //! How large the formula of a promise is, counted before anything of it is made.
 //!
-//! A formula is as large at one step as at another, and whatever numbers its topics have, so it is counted at step 0 with topics from 0.
+//! It is counted as it is unfolded, step by step. It is as large at one step as at another, and whatever numbers its topics have, so it is counted at step 0
+//! with topics from 0.
 
 ghost use Rattle.std.specs.Prelude.{◌≡◌, ◌&&◌, length, map, max, min, nat_le, sum};
 ghost use Rattle.std.specs.List.{fold};
 ghost use Rattle.lf_outcome.specs.Measures.{atoms_of, depth_of};
 ghost use Rattle.lf_own_scenario.specs.Sizes.{atoms_of_many, depth_of_many};
+ghost use Rattle.lf_own_scenario.specs.Spans.{spanned_at};
 ghost use Rattle.lf_own_scenario.specs.Unfolding.{formula_at};
 
 use crate::Scene;
@@ -23,8 +25,8 @@ pub const MOST_TOPICS: u32 = 256;
 
 /// Whether the formula of a promise at the last step isn't too deep and hasn't too many atoms.
 pub(crate) fn fits(scene: &Scene, promise: &Promise) -> bool
-    ensures { result ≡ (nat_le (depth_of (formula_at scene.now 0 promise.now scene.now.horizon)) 8
-        && nat_le (atoms_of (formula_at scene.now 0 promise.now scene.now.horizon)) 4096) }
+    ensures { result ≡ (nat_le (depth_of (spanned_at scene.now 0 promise.now scene.now.horizon)) 8
+        && nat_le (atoms_of (spanned_at scene.now 0 promise.now scene.now.horizon)) 4096) }
 {
     depth(scene, promise) <= DEEPEST && atoms(scene, promise) <= MOST_ATOMS
 }

@@ -1,14 +1,16 @@
 //! The formula of a promise.
 
 ghost use Rattle.std.specs.Prelude.{◌≡◌, ◌≢◌, ◌≤◌, ◌+◌, ◌++◌, IfOk, MatchResult, Ok, Err};
-ghost use Rattle.std.specs.List.{flat_map, range_with_len};
+ghost use Rattle.std.specs.List.{flat_map, list_all, range_with_len};
 ghost use Rattle.lf_own_scenario.specs.Topics.{count_topics, count_all};
-ghost use Rattle.lf_own_scenario.specs.Unfolding.{formula_at, formulas_at, unfolded};
+ghost use Rattle.lf_outcome.specs.Unfolding.{joined};
+ghost use Rattle.lf_own_scenario.specs.Spans.{all_spanned, is_span, is_steady, over_steps, spanned_at, unfolded};
 
 use crate::checking::names_nodes;
 use crate::members::members;
 use crate::quantities::so_many;
 use crate::sizes::{MOST_TOPICS, fits};
+use crate::spans::is_span;
 use crate::topics::count_topics;
 use crate::{Scene, UnfoldError};
 use lf_list::Listed;
@@ -19,12 +21,13 @@ use std::alloc::{AllocError, Global};
 
 /// The formula that a promise is in a scenario.
 ///
-/// At step u, which is the last one, or each under `Always` and `Ever`:
+/// At step u, which is the last one, and under `Always` and `Ever` the one that is named there:
 ///
 /// | promise | formula |
 /// |---|---|
 /// | `All`, `Any` | `All` or `Any` of its parts at u, in order |
-/// | `Always`, `Ever` | `All` or `Any` of its parts at step 1, at step 2, and so on to the last |
+/// | `Always`, `Ever` | `Over` the steps 1 to the last, every one or some, of its parts at step 0 |
+/// | the same, with `Always` or `Ever` in a part | `All` or `Any` of its parts at step 1, at step 2, and so on to the last |
 /// | each of the nodes shows a fact | `All` of `Any [Down n, Shows n fact]`, for each node n of them, ascending |
 /// | no node shows it | the same with the fact's opposite |
 /// | some node shows it | `Any` of `Shows n fact`, for each node n, ascending |
@@ -32,9 +35,11 @@ use std::alloc::{AllocError, Global};
 /// | `Down`, `At` | `Down`, `Shows` |
 /// | `One` | `One` of all nodes up to the last step, under the topic's number: how many topics stand to the left of it, as `topics_in` has them |
 ///
+/// `Over` counts the steps of its parts from each of its own, so what is said of all steps can't be a part of it.
+///
 /// It is refused where it names a node by its number that there isn't, and else where the formula is too large, or has more than 256 topics. How large it would
-/// be is counted first, so nothing is made of a formula that is too large.
-#[tactic(auto, unfolding(crate::specs::Unfolding::unfolded, crate::specs::Unfolding::asked_of, crate::specs::Unfolding::limited))]
+/// be, unfolded, is counted first, so nothing is made of a formula that is too large.
+#[tactic(auto, unfolding(crate::specs::Spans::unfolded, crate::specs::Unfolding::asked_of, crate::specs::Unfolding::limited))]
 pub fn unfold(alloc: Global, scene: &Scene, promise: &Promise) -> Result<Formula<Fact>, UnfoldError>
     ensures { MatchResult result (λ formula. unfolded scene.now promise.now ≡ Ok formula)
         (λ e. e ≢ UnfoldError.Memory → unfolded scene.now promise.now ≡ Err e) }
@@ -63,7 +68,7 @@ fn formula_at(
     promise: &Promise,
     step: u32,
 ) -> Result<Formula<Fact>, AllocError>
-    ensures { IfOk result (λ formula. first + count_topics promise.now ≤ 256 → formula ≡ formula_at scene.now first promise.now step) }
+    ensures { IfOk result (λ formula. first + count_topics promise.now ≤ 256 → formula ≡ spanned_at scene.now first promise.now step) }
 {
     match promise {
         Promise::All(parts) => Ok(Formula::All(parts_at(
@@ -80,18 +85,8 @@ fn formula_at(
             parts.as_slice(),
             step,
         )?)),
-        Promise::Always(parts) => Ok(Formula::All(parts_always(
-            alloc,
-            scene,
-            first,
-            parts.as_slice(),
-        )?)),
-        Promise::Ever(parts) => Ok(Formula::Any(parts_always(
-            alloc,
-            scene,
-            first,
-            parts.as_slice(),
-        )?)),
+        Promise::Always(parts) => over_steps(alloc, scene, first, true, parts.as_slice()),
+        Promise::Ever(parts) => over_steps(alloc, scene, first, false, parts.as_slice()),
         Promise::Nodes { many, fact, of } => {
             let nodes = members(alloc, scene, of)?;
             so_many(alloc, *many, nodes.as_slice(), step, *fact)
@@ -107,6 +102,43 @@ fn formula_at(
             last: scene.horizon,
             topic: number(first),
         }),
+    }
+}
+
+/// All or some of the parts at all steps: over the span of the steps if each part is of one step, and else step by step. A topic has the same number at each.
+#[cycle(unfolding)]
+fn over_steps(
+    alloc: Global,
+    scene: &Scene,
+    first: u32,
+    every: bool,
+    parts: &[Promise],
+) -> Result<Formula<Fact>, AllocError>
+    ensures { IfOk result (λ formula. first + count_all parts.now ≤ 256 → formula
+        ≡ over_steps every scene.now.horizon (is_span scene.now.horizon (list_all is_steady parts.now))
+        (all_spanned scene.now first parts.now 0) (flat_map (all_spanned scene.now first parts.now) (range_with_len 1 scene.now.horizon))) }
+{
+    if is_span(scene.horizon, parts) {
+        Ok(Formula::Over {
+            every,
+            first: 1,
+            last: scene.horizon,
+            parts: parts_at(alloc, scene, first, parts, 0)?,
+        })
+    } else {
+        let parts = parts_always(alloc, scene, first, parts)?;
+        Ok(joined(every, parts))
+    }
+}
+
+/// All of the parts, or some.
+fn joined(every: bool, parts: Formulas<Fact>) -> Formula<Fact>
+    ensures { result ≡ joined every parts }
+{
+    if every {
+        Formula::All(parts)
+    } else {
+        Formula::Any(parts)
     }
 }
 
@@ -129,7 +161,7 @@ fn parts_at(
     parts: &[Promise],
     step: u32,
 ) -> Result<Formulas<Fact>, AllocError>
-    ensures { IfOk result (λ formulas. first + count_all parts.now ≤ 256 → formulas ≡ formulas_at scene.now first parts.now step) }
+    ensures { IfOk result (λ formulas. first + count_all parts.now ≤ 256 → formulas ≡ all_spanned scene.now first parts.now step) }
 {
     let mut formulas = Vec::new(alloc);
     put_parts(alloc, scene, first, parts, step, &mut formulas)?;
@@ -144,7 +176,8 @@ fn parts_always(
     first: u32,
     parts: &[Promise],
 ) -> Result<Formulas<Fact>, AllocError>
-    ensures { IfOk result (λ formulas. first + count_all parts.now ≤ 256 → formulas ≡ flat_map (formulas_at scene.now first parts.now) (range_with_len 1 scene.now.horizon)) }
+    ensures { IfOk result (λ formulas. first + count_all parts.now ≤ 256 → formulas
+        ≡ flat_map (all_spanned scene.now first parts.now) (range_with_len 1 scene.now.horizon)) }
 {
     let mut formulas = Vec::new(alloc);
     'steps: for before in 0..scene.horizon {
@@ -163,7 +196,7 @@ fn put_parts(
     step: u32,
     formulas: &mut Vec<Formula<Fact>>,
 ) -> Result<(), AllocError>
-    ensures { IfOk result (λ _. first + count_all parts.now ≤ 256 → formulas.new.items ≡ formulas.old.items ++ formulas_at scene.now first parts.now step) }
+    ensures { IfOk result (λ _. first + count_all parts.now ≤ 256 → formulas.new.items ≡ formulas.old.items ++ all_spanned scene.now first parts.now step) }
 {
     let mut next = first;
     'parts: for part in parts {

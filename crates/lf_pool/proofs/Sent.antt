@@ -67,7 +67,7 @@ hands_send : IsSend hands.the_row
 hands_send = search (claim_send, found_send, crosses, sendable) depth 60 fits 20000
 
 scratch_send : IsSend (scratch.the_field).row
-scratch_send = search (spent_send, scenario_send, scenario_sync, protocols_cross, crosses, sendable) depth 60 fits 20000
+scratch_send = search (spent_send, scenario_send, scenario_sync, protocols_cross, crosses, formulas_cross, sendable) depth 60 fits 20000
 
 module _ (T : RattleType) (s : searched.Ghosts T.Denot) (l : ledger.Ghosts T.Denot) where
   locked_send : IsSend (locked.the_row T s l)

@@ -3,7 +3,7 @@
 ghost use Rattle.lf_sim.specs.Settings.{IsRun, world_of};
 
 use crate::entries::differing;
-use lf_outcome::{Formula, holds};
+use lf_outcome::{Formula, holds, unfold};
 use lf_protocols::{Fact, Protocol};
 use lf_sim::{Run, Setting};
 use serde::Serialize;
@@ -45,12 +45,12 @@ pub(crate) fn failed_atoms(
         run,
     };
     let mut failed = Vec::new(alloc);
-    gathering.gather(formula, &mut failed)?;
+    gathering.gather(&unfold(alloc, formula)?, &mut failed)?;
     Ok(failed)
 }
 
 impl Gathering<'_> {
-    /// Adds the atoms that make the formula false, where it is.
+    /// Adds the atoms that make the formula false, where it is. There is no Over in it: it is unfolded.
     #[cycle(gather)]
     fn gather(&self, formula: &Formula<Fact>, failed: &mut Vec<Failed>) -> Result<(), AllocError>
         requires { IsRun (world_of self.now.setting.now) self.now.run.now }
@@ -65,6 +65,7 @@ impl Gathering<'_> {
                 put(*node, *step, Some(self.fact_text(*fact)?), None, failed)
             }
             Formula::One { nodes, last, topic } => self.gather_one(*nodes, *last, *topic, failed),
+            Formula::Over { .. } => Ok(()),
         }
     }
 

@@ -3,7 +3,7 @@
 ghost use Rattle.lf_sim.specs.Settings.{IsRun, world_of};
 
 use crate::entries::{differing, entries};
-use lf_outcome::{Formula, first_failing};
+use lf_outcome::{Formula, first_failing, unfold};
 use lf_sim::{Machine, Run, Setting};
 use std::alloc::{AllocError, Global};
 
@@ -42,9 +42,10 @@ impl Marks {
         let mut marks = Marks {
             marks: [[Mark::Passed; 49]; 8],
         };
-        looking.ask(formula, &mut marks)?;
-        if let Some(first) = first_failing(setting, formula, run) {
-            looking.blame(formula, first, &mut marks)?;
+        let unfolded = unfold(alloc, formula)?;
+        looking.ask(&unfolded, &mut marks)?;
+        if let Some(first) = first_failing(setting, &unfolded, run) {
+            looking.blame(&unfolded, first, &mut marks)?;
         }
         Ok(marks)
     }
@@ -76,7 +77,7 @@ struct Looking<'a, M: Machine> {
 }
 
 impl<M: Machine> Looking<'_, M> {
-    /// Marks all points at which the formula looks: of one value for each key those at which something is entered.
+    /// Marks all points at which the formula looks: of one value for each key those at which something is entered. There is no Over in it: it is unfolded.
     #[cycle(ask)]
     fn ask(&self, formula: &Formula<M::Fact>, marks: &mut Marks) -> Result<(), AllocError>
         requires { IsRun (world_of self.now.setting.now) self.now.run.now }
@@ -88,6 +89,7 @@ impl<M: Machine> Looking<'_, M> {
                 Ok(())
             }
             Formula::One { nodes, last, topic } => self.ask_one(*nodes, *last, *topic, marks),
+            Formula::Over { .. } => Ok(()),
         }
     }
 
@@ -114,7 +116,8 @@ impl<M: Machine> Looking<'_, M> {
     }
 
     /// Marks the points by which a formula is seen to fail that is first seen so by this step: of an `All` those of the parts that are seen to fail by then,
-    /// of an `Any` those of all parts, as all are, and of one value for each key those whose entries have one key and different values by then.
+    /// of an `Any` those of all parts, as all are, and of one value for each key those whose entries have one key and different values by then. There is no
+    /// Over in it: it is unfolded.
     #[cycle(blame)]
     fn blame(
         &self,
@@ -135,6 +138,7 @@ impl<M: Machine> Looking<'_, M> {
             Formula::One { nodes, last, topic } => {
                 self.blame_one(*nodes, (*last).min(first), *topic, marks)
             }
+            Formula::Over { .. } => Ok(()),
         }
     }
 

@@ -17,13 +17,13 @@ use Rattle.lf_residual.proofs.Comparing.{any_is}
 use Rattle.lf_residual.proofs.Members.{passes, all_pass, not_both}
 
 -- entries that are the same are one
-same-one : (x y : Entered) → is_same x y ≡ true → x ≡ y
+pub same-one : (x y : Entered) → is_same x y ≡ true → x ≡ y
 same-one x y h =
     let topic = and_parts (x.topic == y.topic) ((x.key == y.key) && (x.value == y.value)) h in
     let rest = and_parts (x.key == y.key) (x.value == y.value) topic.1 in
     λ i. record { topic = eqb-true x.topic y.topic topic.0 i; key = eqb-true x.key y.key rest.0 i; value = eqb-true x.value y.value rest.1 i }
 
-one-same : (x : Entered) → is_same x x ≡ true
+pub one-same : (x : Entered) → is_same x x ≡ true
 one-same x =
     and_from (x.topic == x.topic) ((x.key == x.key) && (x.value == x.value)) (eq-eqb x.topic x.topic refl)
     (and_from (x.key == x.key) (x.value == x.value) (eq-eqb x.key x.key refl) (eq-eqb x.value x.value refl))
@@ -76,7 +76,7 @@ module _ (e : Entered) (es : List Entered) where
   put-there : Contains (put e es) e
   put-there = Contains-append_right (take at es) (e ∷ drop at es) e (Contains-first e (drop at es))
 
-  put-from : (x : Entered) → Contains (put e es) x → Contains es x ⊎ (e ≡ x)
+  pub put-from : (x : Entered) → Contains (put e es) x → Contains es x ⊎ (e ≡ x)
   put-from x there = elim (Contains-append_cases (take at es) (e ∷ drop at es) x there) [
     | inl before ↦ inl (subst (λ xs. Contains xs x) (take-append-drop at es) (Contains-append_left (take at es) (drop at es) x before))
     | inr later ↦ elim (cases_in e (drop at es) x later) [

@@ -1,12 +1,13 @@
 -- The truths of a formula's parts, in runs that differ at no points but marked ones, and how they are judged again one by one.
-use Rattle.std.proofs.Common.{◌≡◌, ◌⊎◌, ℕ, zero, suc, ◌+◌, ◌-◌, ◌<◌, ◌≤◌, Bool, true, false, not, ◌&&◌, ◌||◌, List, [], ◌∷◌, ◌++◌, length, take, drop}
-use Rattle.std.proofs.Common.{get_or, set, map, refl, sym, ap, ◌∙◌, subst, inl, inr, arith}
+use Rattle.std.proofs.Common.{◌≡◌, ℕ, zero, suc, ◌+◌, ◌<◌, ◌≤◌, Bool, true, false, not, ◌&&◌, ◌||◌, List, [], ◌∷◌, ◌++◌, length, take, drop}
+use Rattle.std.proofs.Common.{get_or, set, map, refl, sym, ap, ◌∙◌, subst, arith}
 use Rattle.std.specs.Prelude.{if◌then◌else◌, None, Some, slice_get}
 use Rattle.std.specs.List.{AllByRecursion, flat_map, list_all, list_any, range_with_len}
 use Rattle.std.specs.Option.{option_to_list, unwrap_or}
 use Rattle.std.proofs.Math.Nat.{min-le_left, min-le_right, le-max_left, le-max_right}
 use Rattle.std.proofs.Math.Seq.{get_or-append_seam}
 use Rattle.std.proofs.lemmas.List.{append-nil, append_assoc, drop_all, drop_more, flat_map_more, length-append, length_push, set_at, take_all, take_more}
+use Rattle.std.proofs.lemmas.List.Sums.{AllPass-from_list_all}
 use Rattle.std.proofs.lemmas.List.Folds.{list_all_more, list_any_more}
 use Rattle.lf_faults.specs.declared.fault.Parts.{Parts}
 use Rattle.lf_sim.specs.Changes.{AreSameBut, IsSameAt}
@@ -16,15 +17,18 @@ use Rattle.lf_sim.proofs.Laws.{IsRunning-up}
 use Rattle.lf_outcome.specs.declared.formula.Formula.{Formula}
 use Rattle.lf_outcome.specs.declared.formula.Formula.TheVariants as kind
 use Rattle.lf_outcome.specs.declared.point.Point.{Point}
-use Rattle.lf_outcome.specs.Truth.{all_agree, entered, entries_at, is_down, is_shown, is_single, points_at, points_to, reaches}
+use Rattle.lf_outcome.specs.Truth.{all_agree, entered, is_down, is_shown, is_single, points_at, points_to}
+use Rattle.lf_outcome.specs.Unfolding.{is_plain, unfolded}
+use Rattle.lf_outcome.proofs.Laws.{plain-All, plain-Any, plain-Down, plain-One, plain-Shows, unfolded-plain}
 use Rattle.lf_protocols.specs.declared.fact.Fact.{Fact}
 use Rattle.lf_residual.specs.declared.part.Part.{Part}
 use Rattle.lf_residual.specs.declared.part.Scope.{Scope}
-use Rattle.lf_residual.specs.Judging.{truths_of, truths_step}
+use Rattle.lf_residual.specs.Judging.{said, truths_of, truths_step}
 use Rattle.lf_residual.specs.Parts.{IsWithin, all_parts, both_scopes, part_of, parts_of, scope_at, scope_to, size_of}
-use Rattle.lf_residual.specs.Recursion.{Made, by_parts}
-use Rattle.lf_residual.proofs.Formulas.{by_induction, everywhere, by-All, by-Any, by-Down, by-Shows, by-One}
-use Rattle.lf_residual.proofs.Formulas.{part-All, part-Any, part-Down, part-Shows, part-One, truth-All, truth-Any, truth-Down, truth-Shows, truth-One}
+use Rattle.lf_residual.specs.Recursion.{Made}
+use Rattle.lf_residual.proofs.Formulas.{by_induction, everywhere, by-All, by-Any, by-Down, by-Shows, by-One, by-Over}
+use Rattle.lf_residual.proofs.Formulas.{part-All, part-Any, part-Down, part-Shows, part-One, part-Over}
+use Rattle.lf_residual.proofs.Formulas.{truth-All, truth-Any, truth-Down, truth-Shows, truth-One, truth-Over}
 use Rattle.lf_residual.proofs.Likeness.{sizes}
 use Rattle.lf_residual.proofs.Places.{parts-count, split-first, split-rest}
 
@@ -38,42 +42,47 @@ module _ {State Note : Type 0} (w : World State Note Fact) (faults : List Parts)
   with_truths f = record { formula = f; it = truths_of w faults f }
 
   pub truths-All : (parts : List (Formula Fact))
-      → truths_of w faults (kind.All parts) ≡ reaches w faults (kind.All parts) ∷ flat_map (truths_of w faults) parts
+      → truths_of w faults (kind.All parts) ≡ said w faults (kind.All parts) ∷ flat_map (truths_of w faults) parts
   truths-All parts =
       by-All (truths_step w faults) parts
-      ∙ ap (λ bs. reaches w faults (kind.All parts) ∷ bs) (flat-map (λ (m : Made (List Bool)). m.it) with_truths parts)
+      ∙ ap (λ bs. said w faults (kind.All parts) ∷ bs) (flat-map (λ (m : Made (List Bool)). m.it) with_truths parts)
 
   pub truths-Any : (parts : List (Formula Fact))
-      → truths_of w faults (kind.Any parts) ≡ reaches w faults (kind.Any parts) ∷ flat_map (truths_of w faults) parts
+      → truths_of w faults (kind.Any parts) ≡ said w faults (kind.Any parts) ∷ flat_map (truths_of w faults) parts
   truths-Any parts =
       by-Any (truths_step w faults) parts
-      ∙ ap (λ bs. reaches w faults (kind.Any parts) ∷ bs) (flat-map (λ (m : Made (List Bool)). m.it) with_truths parts)
+      ∙ ap (λ bs. said w faults (kind.Any parts) ∷ bs) (flat-map (λ (m : Made (List Bool)). m.it) with_truths parts)
 
-  pub truths-Down : (n t : ℕ) → truths_of w faults (kind.Down n t) ≡ reaches w faults (kind.Down n t) ∷ []
+  pub truths-Down : (n t : ℕ) → truths_of w faults (kind.Down n t) ≡ said w faults (kind.Down n t) ∷ []
   truths-Down n t = by-Down (truths_step w faults) n t
 
-  pub truths-Shows : (n t : ℕ) (fact : Fact) → truths_of w faults (kind.Shows n t fact) ≡ reaches w faults (kind.Shows n t fact) ∷ []
+  pub truths-Shows : (n t : ℕ) (fact : Fact) → truths_of w faults (kind.Shows n t fact) ≡ said w faults (kind.Shows n t fact) ∷ []
   truths-Shows n t fact = by-Shows (truths_step w faults) n t fact
 
-  pub truths-One : (nodes last topic : ℕ) → truths_of w faults (kind.One nodes last topic) ≡ reaches w faults (kind.One nodes last topic) ∷ []
+  pub truths-One : (nodes last topic : ℕ) → truths_of w faults (kind.One nodes last topic) ≡ said w faults (kind.One nodes last topic) ∷ []
   truths-One nodes last topic = by-One (truths_step w faults) nodes last topic
 
-  pub reaches-All : (parts : List (Formula Fact)) → reaches w faults (kind.All parts) ≡ list_all (reaches w faults) parts
-  reaches-All parts = truth-All (is_down w faults) (is_shown w faults) (is_single w faults) parts
+  pub truths-Over : (every : Bool) (first last : ℕ) (parts : List (Formula Fact))
+      → truths_of w faults (kind.Over every first last parts) ≡ said w faults (kind.Over every first last parts) ∷ []
+  truths-Over every first last parts = by-Over (truths_step w faults) every first last parts
 
-  pub reaches-Any : (parts : List (Formula Fact)) → reaches w faults (kind.Any parts) ≡ list_any (reaches w faults) parts
-  reaches-Any parts = truth-Any (is_down w faults) (is_shown w faults) (is_single w faults) parts
+  pub said-All : (parts : List (Formula Fact)) → said w faults (kind.All parts) ≡ list_all (said w faults) parts
+  said-All parts = truth-All (is_down w faults) (is_shown w faults) (is_single w faults) parts
+
+  pub said-Any : (parts : List (Formula Fact)) → said w faults (kind.Any parts) ≡ list_any (said w faults) parts
+  said-Any parts = truth-Any (is_down w faults) (is_shown w faults) (is_single w faults) parts
 
   -- the first is that of the formula
-  pub truths-head : (f : Formula Fact) → (rest : List Bool) × (truths_of w faults f ≡ reaches w faults f ∷ rest)
+  pub truths-head : (f : Formula Fact) → (rest : List Bool) × (truths_of w faults f ≡ said w faults f ∷ rest)
   truths-head =
-      by_induction (λ f. (rest : List Bool) × (truths_of w faults f ≡ reaches w faults f ∷ rest))
+      by_induction (λ f. (rest : List Bool) × (truths_of w faults f ≡ said w faults f ∷ rest))
       (record {
         all = λ parts every. (flat_map (truths_of w faults) parts, truths-All parts);
         any = λ parts every. (flat_map (truths_of w faults) parts, truths-Any parts);
         down = λ n t. ([], truths-Down n t);
         shows = λ n t fact. ([], truths-Shows n t fact);
         one = λ nodes last topic. ([], truths-One nodes last topic);
+        over = λ every first last parts own. ([], truths-Over every first last parts);
       })
 
   -- there are as many as parts
@@ -85,11 +94,11 @@ module _ {State Note : Type 0} (w : World State Note Fact) (faults : List Parts)
   flat-count (part ∷ parts) every =
       length-append (truths_of w faults part) (flat_map (truths_of w faults) parts) ∙ (λ i. every.0 i + flat-count parts every.1 i)
 
-  node-count : (f : Formula Fact) (parts : List (Formula Fact)) → truths_of w faults f ≡ reaches w faults f ∷ flat_map (truths_of w faults) parts
+  node-count : (f : Formula Fact) (parts : List (Formula Fact)) → truths_of w faults f ≡ said w faults f ∷ flat_map (truths_of w faults) parts
       → size_of f ≡ sizes parts + 1 → AllByRecursion Counts parts → Counts f
   node-count f parts is size every =
       let inner = flat-count parts every in
-      let one : length (reaches w faults f ∷ flat_map (truths_of w faults) parts) ≡ length (flat_map (truths_of w faults) parts) + 1 = omega arith in
+      let one : length (said w faults f ∷ flat_map (truths_of w faults) parts) ≡ length (flat_map (truths_of w faults) parts) + 1 = omega arith in
       ap length is ∙ omega (arith, one, inner, size)
 
   pub truths-count : (f : Formula Fact) → Counts f
@@ -101,6 +110,8 @@ module _ {State Note : Type 0} (w : World State Note Fact) (faults : List Parts)
         down = λ n t. ap length (truths-Down n t) ∙ sym (ap (λ (p : Part). p.size) (part-Down n t));
         shows = λ n t fact. ap length (truths-Shows n t fact) ∙ sym (ap (λ (p : Part). p.size) (part-Shows n t fact));
         one = λ nodes last topic. ap length (truths-One nodes last topic) ∙ sym (ap (λ (p : Part). p.size) (part-One nodes last topic));
+        over = λ every first last parts own.
+            ap length (truths-Over every first last parts) ∙ sym (ap (λ (p : Part). p.size) (part-Over every first last parts));
       })
 
   pub flat-truths : (parts : List (Formula Fact)) → length (flat_map (truths_of w faults) parts) ≡ sizes parts
@@ -109,22 +120,26 @@ module _ {State Note : Type 0} (w : World State Note Fact) (faults : List Parts)
 -- The truths of a formula by its kind, with its parts as read
 module _ {State Note : Type 0} (w : World State Note Fact) (faults : List Parts) (f : Formula Fact) where
   abbrev Has : List (Formula Fact) → Type 0
-  Has xs = truths_of w faults f ≡ reaches w faults f ∷ flat_map (truths_of w faults) xs
+  Has xs = truths_of w faults f ≡ said w faults f ∷ flat_map (truths_of w faults) xs
 
   pub truths-from_all : (parts xs : List (Formula Fact)) → f ≡ kind.All parts → xs ≡ parts → Has xs
-  truths-from_all parts xs is read = subst Has (sym read) (subst (λ g. truths_of w faults g ≡ reaches w faults g ∷ flat_map (truths_of w faults) parts) (sym is) (truths-All w faults parts))
+  truths-from_all parts xs is read =
+      subst Has (sym read)
+      (subst (λ g. truths_of w faults g ≡ said w faults g ∷ flat_map (truths_of w faults) parts) (sym is) (truths-All w faults parts))
 
   pub truths-from_any : (parts xs : List (Formula Fact)) → f ≡ kind.Any parts → xs ≡ parts → Has xs
-  truths-from_any parts xs is read = subst Has (sym read) (subst (λ g. truths_of w faults g ≡ reaches w faults g ∷ flat_map (truths_of w faults) parts) (sym is) (truths-Any w faults parts))
+  truths-from_any parts xs is read =
+      subst Has (sym read)
+      (subst (λ g. truths_of w faults g ≡ said w faults g ∷ flat_map (truths_of w faults) parts) (sym is) (truths-Any w faults parts))
 
-  pub reaches-from_all : (parts xs : List (Formula Fact)) → f ≡ kind.All parts → xs ≡ parts → list_all (reaches w faults) xs ≡ reaches w faults f
-  reaches-from_all parts xs is read = ap (list_all (reaches w faults)) read ∙ sym (reaches-All w faults parts) ∙ ap (reaches w faults) (sym is)
+  pub said-from_all : (parts xs : List (Formula Fact)) → f ≡ kind.All parts → xs ≡ parts → list_all (said w faults) xs ≡ said w faults f
+  said-from_all parts xs is read = ap (list_all (said w faults)) read ∙ sym (said-All w faults parts) ∙ ap (said w faults) (sym is)
 
-  pub reaches-from_any : (parts xs : List (Formula Fact)) → f ≡ kind.Any parts → xs ≡ parts → list_any (reaches w faults) xs ≡ reaches w faults f
-  reaches-from_any parts xs is read = ap (list_any (reaches w faults)) read ∙ sym (reaches-Any w faults parts) ∙ ap (reaches w faults) (sym is)
+  pub said-from_any : (parts xs : List (Formula Fact)) → f ≡ kind.Any parts → xs ≡ parts → list_any (said w faults) xs ≡ said w faults f
+  said-from_any parts xs is read = ap (list_any (said w faults)) read ∙ sym (said-Any w faults parts) ∙ ap (said w faults) (sym is)
 
   abbrev HasOne : Formula Fact → Type 0
-  HasOne g = truths_of w faults g ≡ reaches w faults g ∷ []
+  HasOne g = truths_of w faults g ≡ said w faults g ∷ []
 
   pub truths-from_down : (n t : ℕ) → f ≡ kind.Down n t → HasOne f
   truths-from_down n t is = subst HasOne (sym is) (truths-Down w faults n t)
@@ -134,6 +149,40 @@ module _ {State Note : Type 0} (w : World State Note Fact) (faults : List Parts)
 
   pub truths-from_one : (nodes last topic : ℕ) → f ≡ kind.One nodes last topic → HasOne f
   truths-from_one nodes last topic is = subst HasOne (sym is) (truths-One w faults nodes last topic)
+
+  pub truths-from_over : (every : Bool) (first last : ℕ) (parts : List (Formula Fact)) → f ≡ (kind.Over every first last parts) → HasOne f
+  truths-from_over every first last parts is = subst HasOne (sym is) (truths-Over w faults every first last parts)
+
+  -- which is false
+  pub said-from_over : (every : Bool) (first last : ℕ) (parts : List (Formula Fact)) → f ≡ (kind.Over every first last parts) → said w faults f ≡ false
+  said-from_over every first last parts is =
+      ap (said w faults) is ∙ truth-Over (is_down w faults) (is_shown w faults) (is_single w faults) every first last parts
+
+-- An atom is as it is unfolded
+module _ (f : Formula Fact) where
+  pub own-down : (n t : ℕ) → f ≡ kind.Down n t → unfolded f ≡ f
+  own-down n t is = subst (λ (g : Formula Fact). unfolded g ≡ g) (sym is) (unfolded-plain (kind.Down n t) (plain-Down Fact n t))
+
+  pub own-shows : (n t : ℕ) (fact : Fact) → f ≡ kind.Shows n t fact → unfolded f ≡ f
+  own-shows n t fact is = subst (λ (g : Formula Fact). unfolded g ≡ g) (sym is) (unfolded-plain (kind.Shows n t fact) (plain-Shows n t fact))
+
+  pub own-one : (nodes last topic : ℕ) → f ≡ kind.One nodes last topic → unfolded f ≡ f
+  own-one nodes last topic is =
+      subst (λ (g : Formula Fact). unfolded g ≡ g) (sym is) (unfolded-plain (kind.One nodes last topic) (plain-One Fact nodes last topic))
+
+  -- and so are the parts of a formula without Over, as read
+  pub plain-from_all : (parts xs : List (Formula Fact)) → f ≡ kind.All parts → xs ≡ parts → is_plain f ≡ true → list_all is_plain xs ≡ true
+  plain-from_all parts xs is read plain =
+      ap (list_all is_plain) read ∙ sym (plain-All parts) ∙ ap (λ (g : Formula Fact). is_plain g) (sym is) ∙ plain
+
+  pub plain-from_any : (parts xs : List (Formula Fact)) → f ≡ kind.Any parts → xs ≡ parts → is_plain f ≡ true → list_all is_plain xs ≡ true
+  plain-from_any parts xs is read plain =
+      ap (list_all is_plain) read ∙ sym (plain-Any parts) ∙ ap (λ (g : Formula Fact). is_plain g) (sym is) ∙ plain
+
+pub one-plain : (parts : List (Formula Fact)) (i : ℕ) (part : Formula Fact) → list_all is_plain parts ≡ true → i < length parts
+    → part ≡ get_or parts i part → is_plain part ≡ true
+one-plain parts i part plain inside is =
+    ap (λ (g : Formula Fact). is_plain g) is ∙ AllPass-from_list_all is_plain parts plain i part inside
 
 -- Scopes
 within-left : (a b : Scope) (n t : ℕ) → IsWithin a n t → IsWithin (both_scopes a b) n t
@@ -241,11 +290,11 @@ module _ {State Note : Type 0} (w : World State Note Fact) (from to : List Parts
 
   -- so a formula of whose points none is marked has the same truth in both, and so have its parts
   abbrev IsKept : Formula Fact → Type 0
-  IsKept f = AreFree (part_of f).scope → (reaches w from f ≡ reaches w to f) × (truths_of w from f ≡ truths_of w to f)
+  IsKept f = AreFree (part_of f).scope → (said w from f ≡ said w to f) × (truths_of w from f ≡ truths_of w to f)
 
   record AreKept (parts : List (Formula Fact)) : Type 0 where
-    all : list_all (reaches w from) parts ≡ list_all (reaches w to) parts
-    any : list_any (reaches w from) parts ≡ list_any (reaches w to) parts
+    all : list_all (said w from) parts ≡ list_all (said w to) parts
+    any : list_any (said w from) parts ≡ list_any (said w to) parts
     truths : flat_map (truths_of w from) parts ≡ flat_map (truths_of w to) parts
 
   are-kept : (parts : List (Formula Fact)) → AllByRecursion IsKept parts → AreFree (all_parts part_of parts).scope → AreKept parts
@@ -265,12 +314,12 @@ module _ {State Note : Type 0} (w : World State Note Fact) (from to : List Parts
   free-in : (f : Formula Fact) (s : Scope) → (part_of f).scope ≡ s → AreFree (part_of f).scope → AreFree s
   free-in f s is free n t node last within = free n t node last (subst (λ x. IsWithin x n t) (sym is) within)
 
-  atom-kept : (f : Formula Fact) → ((faults : List Parts) → truths_of w faults f ≡ reaches w faults f ∷ [])
-      → reaches w from f ≡ reaches w to f → (reaches w from f ≡ reaches w to f) × (truths_of w from f ≡ truths_of w to f)
+  atom-kept : (f : Formula Fact) → ((faults : List Parts) → truths_of w faults f ≡ said w faults f ∷ [])
+      → said w from f ≡ said w to f → (said w from f ≡ said w to f) × (truths_of w from f ≡ truths_of w to f)
   atom-kept f truths is = (is, truths from ∙ ap (λ b. b ∷ []) is ∙ sym (truths to))
 
   abbrev truth_by : Formula Fact → List Parts → Bool
-  truth_by f faults = reaches w faults f
+  truth_by f faults = said w faults f
 
   pub kept : (f : Formula Fact) → IsKept f
   kept =
@@ -278,11 +327,11 @@ module _ {State Note : Type 0} (w : World State Note Fact) (from to : List Parts
       (record {
         all = λ parts every free.
             let each = are-kept parts every (free-in (kind.All parts) (all_parts part_of parts).scope (ap (λ (p : Part). p.scope) (part-All parts)) free) in
-            let is = reaches-All w from parts ∙ each.all ∙ sym (reaches-All w to parts) in
+            let is = said-All w from parts ∙ each.all ∙ sym (said-All w to parts) in
             (is, truths-All w from parts ∙ (λ i. is i ∷ each.truths i) ∙ sym (truths-All w to parts));
         any = λ parts every free.
             let each = are-kept parts every (free-in (kind.Any parts) (all_parts part_of parts).scope (ap (λ (p : Part). p.scope) (part-Any parts)) free) in
-            let is = reaches-Any w from parts ∙ each.any ∙ sym (reaches-Any w to parts) in
+            let is = said-Any w from parts ∙ each.any ∙ sym (said-Any w to parts) in
             (is, truths-Any w from parts ∙ (λ i. is i ∷ each.truths i) ∙ sym (truths-Any w to parts));
         down = λ n t free.
             let at = free-in (kind.Down n t) (scope_at n t) (ap (λ (p : Part). p.scope) (part-Down n t)) free in
@@ -307,11 +356,15 @@ module _ {State Note : Type 0} (w : World State Note Fact) (from to : List Parts
               step_last = early;
             }))
             ∙ sym (truth-One (is_down w to) (is_shown w to) (is_single w to) nodes last topic));
+        over = λ every first last parts own free.
+            atom-kept (kind.Over every first last parts) (λ faults. truths-Over w faults every first last parts)
+            (truth-Over (is_down w from) (is_shown w from) (is_single w from) every first last parts
+            ∙ sym (truth-Over (is_down w to) (is_shown w to) (is_single w to) every first last parts));
       })
 
   -- and an atom whose one point isn't marked
   pub atom-free : (f : Formula Fact) (n t : ℕ) → (part_of f).scope ≡ scope_at n t → (n < w.rules.nodes → t ≤ w.horizon → is_marked points n t ≡ false)
-      → reaches w from f ≡ reaches w to f
+      → said w from f ≡ said w to f
   atom-free f n t is free =
       (kept f (λ m u node last within.
       let at = at-point n t m u (subst (λ s. IsWithin s m u) is within) in
@@ -333,17 +386,17 @@ module _ {State Note : Type 0} (w : World State Note Fact) (to : List Parts) (po
       → (truth ≡ value) × (new ≡ before ++ (truths to ++ behind))
 
   first-truth : (faults : List Parts) (f : Formula Fact) (at : ℕ) (before behind truths : List Bool) (d : Bool) → length before ≡ at
-      → truths ≡ before ++ (truths_of w faults f ++ behind) → get_or truths at d ≡ reaches w faults f
+      → truths ≡ before ++ (truths_of w faults f ++ behind) → get_or truths at d ≡ said w faults f
   first-truth faults f at before behind truths d count is =
       let head = truths-head w faults f in
       ap (λ xs. get_or xs at d) (is ∙ ap (λ xs. before ++ (xs ++ behind)) head.1)
-      ∙ ap (λ n. get_or (before ++ reaches w faults f ∷ (head.0 ++ behind)) n d) (sym count)
-      ∙ get_or-append_seam before (reaches w faults f) (head.0 ++ behind) d
+      ∙ ap (λ n. get_or (before ++ said w faults f ∷ (head.0 ++ behind)) n d) (sym count)
+      ∙ get_or-append_seam before (said w faults f) (head.0 ++ behind) d
 
   -- a formula whose scope has no marked point stays as it is
   pub judges-apart : (f : Formula Fact) (at : ℕ) (truth d : Bool) (old : List Bool)
       → ((n t : ℕ) → n < w.rules.nodes → IsWithin (part_of f).scope n t → is_marked points n t ≡ false)
-      → truth ≡ get_or old at d → Judges at truth (reaches w to f) (λ faults. truths_of w faults f) old old
+      → truth ≡ get_or old at d → Judges at truth (said w to f) (λ faults. truths_of w faults f) old old
   judges-apart f at truth d old free read from before behind same count is =
       let own = kept w from to points same f (λ n t node last within. free n t node within) in (
         read ∙ first-truth from f at before behind old d count is ∙ own.0,
@@ -351,27 +404,27 @@ module _ {State Note : Type 0} (w : World State Note Fact) (to : List Parts) (po
       )
 
   -- an atom's truth, put in its place
-  pub judges-atom : (f : Formula Fact) (at : ℕ) (truth d : Bool) (old : List Bool) → ((faults : List Parts) → truths_of w faults f ≡ reaches w faults f ∷ [])
-      → ((from : List Parts) → AreSameBut w from to points → get_or old at d ≡ reaches w from f → truth ≡ reaches w to f)
-      → Judges at truth (reaches w to f) (λ faults. truths_of w faults f) old (set old at truth)
+  pub judges-atom : (f : Formula Fact) (at : ℕ) (truth d : Bool) (old : List Bool) → ((faults : List Parts) → truths_of w faults f ≡ said w faults f ∷ [])
+      → ((from : List Parts) → AreSameBut w from to points → get_or old at d ≡ said w from f → truth ≡ said w to f)
+      → Judges at truth (said w to f) (λ faults. truths_of w faults f) old (set old at truth)
   judges-atom f at truth d old own judged from before behind same count is =
       let now = judged from same (first-truth from f at before behind old d count is) in (
         now,
         ap (λ xs. set xs at truth) (is ∙ ap (λ xs. before ++ (xs ++ behind)) (own from))
-            ∙ set_at before (reaches w from f) behind truth at count ∙ ap (λ b. before ++ b ∷ behind) now
+            ∙ set_at before (said w from f) behind truth at count ∙ ap (λ b. before ++ b ∷ behind) now
             ∙ ap (λ xs. before ++ (xs ++ behind)) (sym (own to)),
       )
 
   -- and that of a formula with parts, after those of its parts
   pub judges-node : (f : Formula Fact) (xs : List (Formula Fact)) (at : ℕ) (truth value : Bool) (old new : List Bool)
-      → ((faults : List Parts) → truths_of w faults f ≡ reaches w faults f ∷ flat_map (truths_of w faults) xs) → value ≡ reaches w to f
+      → ((faults : List Parts) → truths_of w faults f ≡ said w faults f ∷ flat_map (truths_of w faults) xs) → value ≡ said w to f
       → Judges (at + 1) truth value (λ faults. flat_map (truths_of w faults) xs) old new
-      → Judges at truth (reaches w to f) (λ faults. truths_of w faults f) old (set new at truth)
+      → Judges at truth (said w to f) (λ faults. truths_of w faults f) old (set new at truth)
   judges-node f xs at truth value old new own is_value inner from before behind same count is =
-      let was : Bool = reaches w from f in
+      let was : Bool = said w from f in
       let within = inner from (before ++ was ∷ []) behind same (length_push before was ∙ ap (λ n. n + 1) count)
       (is ∙ ap (λ ys. before ++ (ys ++ behind)) (own from) ∙ sym (append_assoc before (was ∷ []) (flat_map (truths_of w from) xs ++ behind))) in
-      let now : truth ≡ reaches w to f = within.0 ∙ is_value in (
+      let now : truth ≡ said w to f = within.0 ∙ is_value in (
         now,
         ap (λ ys. set ys at truth) (within.1 ∙ append_assoc before (was ∷ []) (flat_map (truths_of w to) xs ++ behind))
             ∙ set_at before was (flat_map (truths_of w to) xs ++ behind) truth at count
@@ -420,9 +473,9 @@ module _ {State Note : Type 0} (w : World State Note Fact) (to : List Parts) (po
       pub next-at : take (size_of part) (drop at ps) ≡ parts_of part
       next-at = split-first (size_of part) (sizes later) at ps (parts_of part) (flat_map parts_of later) (parts-count part) table_now
 
-      module _ (b next : Bool) (new : List Bool) (child : Judges at b (reaches w to part) (λ faults. truths_of w faults part) truths new)
+      module _ (b next : Bool) (new : List Bool) (child : Judges at b (said w to part) (λ faults. truths_of w faults part) truths new)
           (same_count : length new ≡ length truths)
-          (more : truth ≡ fold (take i parts) → b ≡ reaches w to part → next ≡ fold (take (i + 1) parts)) where
+          (more : truth ≡ fold (take i parts) → b ≡ said w to part → next ≡ fold (take (i + 1) parts)) where
         further : (from : List Parts) (before behind : List Bool) → AreSameBut w from to points → length before ≡ first
             → old ≡ before ++ (flat_map (truths_of w from) parts ++ behind)
             → (next ≡ fold (take (i + 1) parts))
@@ -463,30 +516,30 @@ module _ {State Note : Type 0} (w : World State Note Fact) (to : List Parts) (po
         )
 
   pub all-more : (parts : List (Formula Fact)) (i : ℕ) (part : Formula Fact) (truth b : Bool) → i < length parts → part ≡ get_or parts i part
-      → truth ≡ list_all (reaches w to) (take i parts) → b ≡ reaches w to part → (truth && b) ≡ list_all (reaches w to) (take (i + 1) parts)
+      → truth ≡ list_all (said w to) (take i parts) → b ≡ said w to part → (truth && b) ≡ list_all (said w to) (take (i + 1) parts)
   all-more parts i part truth b inside is so one =
-      (λ j. so j && one j) ∙ ap (λ x. list_all (reaches w to) (take i parts) && reaches w to x) is
-      ∙ sym (list_all_more (reaches w to) parts i part inside)
+      (λ j. so j && one j) ∙ ap (λ x. list_all (said w to) (take i parts) && said w to x) is
+      ∙ sym (list_all_more (said w to) parts i part inside)
 
   pub any-more : (parts : List (Formula Fact)) (i : ℕ) (part : Formula Fact) (truth b : Bool) → i < length parts → part ≡ get_or parts i part
-      → truth ≡ list_any (reaches w to) (take i parts) → b ≡ reaches w to part → (truth || b) ≡ list_any (reaches w to) (take (i + 1) parts)
+      → truth ≡ list_any (said w to) (take i parts) → b ≡ said w to part → (truth || b) ≡ list_any (said w to) (take (i + 1) parts)
   any-more parts i part truth b inside is so one =
-      (λ j. so j || one j) ∙ ap (λ x. list_any (reaches w to) (take i parts) || reaches w to x) is
-      ∙ sym (list_any_more (reaches w to) parts i part inside)
+      (λ j. so j || one j) ∙ ap (λ x. list_any (said w to) (take i parts) || said w to x) is
+      ∙ sym (list_any_more (said w to) parts i part inside)
 
 -- A whole formula's truths
 module _ {State Note : Type 0} (w : World State Note Fact) (faults : List Parts) where
   pub first-of_all : (f : Formula Fact) (truths : List Bool) (truth : Bool) → truths ≡ truths_of w faults f → Some truth ≡ slice_get truths 0
-      → truth ≡ reaches w faults f
+      → truth ≡ said w faults f
   first-of_all f truths truth is read =
       let head = truths-head w faults f in
-      let same : Some truth ≡ Some (reaches w faults f) = read ∙ ap (λ xs. slice_get xs 0) (is ∙ head.1) in
+      let same : Some truth ≡ Some (said w faults f) = read ∙ ap (λ xs. slice_get xs 0) (is ∙ head.1) in
       ap (λ o. unwrap_or o truth) same
 
   pub none-of_all : (f : Formula Fact) (truths : List Bool) → truths ≡ truths_of w faults f → None ≡ slice_get truths 0 → ⊥
   none-of_all f truths is read =
       let head = truths-head w faults f in
-      let same : None ≡ Some (reaches w faults f) = read ∙ ap (λ xs. slice_get xs 0) (is ∙ head.1) in cc
+      let same : None ≡ Some (said w faults f) = read ∙ ap (λ xs. slice_get xs 0) (is ∙ head.1) in cc
 
   pub all-truths : (f : Formula Fact) (truths : List Bool) → truths ≡ truths_of w faults f → take (size_of f) truths ≡ truths_of w faults f
   all-truths f truths is =

@@ -1,6 +1,6 @@
 -- What was entered so far under the topics that a formula asks about.
-use Rattle.std.specs.Prelude.{ℕ, Bool, not, ◌&&◌, ◌||◌, ◌==◌, if◌then◌else◌, List, ◌∷◌, ◌++◌, take, drop, fold, Option, None, Some}
-use Rattle.std.specs.List.{list_all, list_any, prefix_len}
+use Rattle.std.specs.Prelude.{◌≡◌, ℕ, Bool, true, not, ◌&&◌, ◌||◌, ◌==◌, if◌then◌else◌, List, ◌∷◌, ◌++◌, take, drop, fold, Option, None, Some}
+use Rattle.std.specs.List.{AllPairs, list_all, list_any, prefix_len}
 use Rattle.std.specs.declared.cmp.Ordering.{Ordering}
 use Rattle.std.specs.Ordering.{nat_cmp, ordering_then, is_lt}
 use Rattle.lf_sim.specs.declared.entry.Entry.{Entry}
@@ -29,6 +29,10 @@ order e f = ordering_then (nat_cmp e.topic f.topic) (ordering_then (nat_cmp e.ke
 
 abbrev pub precedes : Entered → Entered → Bool
 precedes e f = is_lt (order e f)
+
+-- entries that stand in order: no two are the same
+abbrev pub AreInOrder : List Entered → Type 0
+AreInOrder = AllPairs (λ e f. precedes e f ≡ true)
 
 abbrev pub put : Entered → List Entered → List Entered
 put e es =

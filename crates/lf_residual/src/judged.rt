@@ -1,7 +1,8 @@
 //! The truth of each part of a formula, kept from one run to the next.
 
 ghost use Rattle.std.specs.Prelude.{◌≡◌, ℕ, true, List, ◌++◌, IfOk, OnOk, IfSome, Some, None, if◌then◌else◌};
-ghost use Rattle.std.specs.List.{flat_map};
+ghost use Rattle.std.specs.List.{flat_map, list_all};
+ghost use Rattle.lf_outcome.specs.Unfolding.{is_plain};
 ghost use Rattle.std.specs.Option.{is_some, option_map};
 ghost use Rattle.lf_faults.specs.declared.fault.Parts.{Parts};
 ghost use Rattle.lf_outcome.specs.Evidence.{AreUp, ArePoints, Covers, evidence_of};
@@ -16,16 +17,18 @@ use crate::Part;
 use crate::judging::{Change, judge_again};
 use crate::outline::put_parts;
 use crate::resting::{Ground, put_points};
-use lf_outcome::{Formula, Point, holds};
+use lf_outcome::{Formula, Point, holds, unfold};
 use lf_protocols::{Fact, Protocol};
 use lf_sim::{Marks, Run, Setting};
 use std::alloc::{AllocError, Global};
 
-/// The parts of a formula, and the truth of each in a run.
+/// The parts of a formula, and the truth of each in a run: unfolded, each part of an Over at each of its steps is a part.
 ///
 /// Where the run is made that of another set of faults, those parts alone are judged again that speak of points which changed.
 #[derive(Drop)]
 pub struct Judged {
+    /// The formula without Over.
+    formula: Formula<Fact>,
     /// The parts, in preorder.
     parts: Vec<Part>,
     /// The truth of each part, in preorder.
@@ -43,11 +46,16 @@ impl Judged {
         requires { IsRun (world_of setting.now) run.now }
         ensures { IfOk result (IsJudged (world_of setting.now) (set_of run.now) formula.now) }
     {
+        let formula = unfold(alloc, formula)?;
         let mut parts = Vec::new(alloc);
-        put_parts(formula, &mut parts)?;
+        put_parts(&formula, &mut parts)?;
         let mut truths = Vec::with_capacity(alloc, parts.len())?;
-        put_truths(setting, formula, run, &mut truths)?;
-        Ok(Judged { parts, truths })
+        put_truths(setting, &formula, run, &mut truths)?;
+        Ok(Judged {
+            formula,
+            parts,
+            truths,
+        })
     }
 
     /// Judges the formula in another run, where the points at which that may differ from the one before are marked. It takes no memory.
@@ -68,7 +76,7 @@ impl Judged {
             changed,
             parts: self.parts.as_slice(),
         };
-        judge_again(&change, formula, 0, self.truths.as_mut_slice());
+        judge_again(&change, &self.formula, 0, self.truths.as_mut_slice());
     }
 
     /// Whether the run reaches the outcome, where the formula was judged in it.
@@ -138,12 +146,12 @@ impl Judged {
             parts: self.parts.as_slice(),
             truths: self.truths.as_slice(),
         };
-        put_points(&ground, formula, 0, points)?;
+        put_points(&ground, &self.formula, 0, points)?;
         Ok(true)
     }
 }
 
-/// Puts the truth of each part of a formula at the end. The error is that memory has run out.
+/// Puts the truth of each part of a formula without Over at the end. The error is that memory has run out.
 #[cycle(put_truths)]
 fn put_truths(
     setting: &Setting<Protocol>,
@@ -151,7 +159,8 @@ fn put_truths(
     run: &Run<Protocol>,
     truths: &mut Vec<bool>,
 ) -> Result<(), AllocError>
-    requires { IsRun (world_of setting.now) run.now }
+    requires run { IsRun (world_of setting.now) run.now }
+    requires plain { is_plain formula.now ≡ true }
     ensures { OnOk result (truths.new.items ≡ truths.old.items ++ truths_of (world_of setting.now) (set_of run.now) formula.now) }
 {
     truths.push(holds(setting, formula, run))?;
@@ -161,6 +170,7 @@ fn put_truths(
         Formula::Down { .. } => Ok(()),
         Formula::Shows { .. } => Ok(()),
         Formula::One { .. } => Ok(()),
+        Formula::Over { .. } => Ok(()),
     }
 }
 
@@ -172,7 +182,8 @@ fn put_each(
     run: &Run<Protocol>,
     truths: &mut Vec<bool>,
 ) -> Result<(), AllocError>
-    requires { IsRun (world_of setting.now) run.now }
+    requires run { IsRun (world_of setting.now) run.now }
+    requires plain { list_all is_plain parts.now ≡ true }
     ensures { OnOk result (truths.new.items ≡ truths.old.items ++ flat_map (truths_of (world_of setting.now) (set_of run.now)) parts.now) }
 {
     'parts: for part in parts {

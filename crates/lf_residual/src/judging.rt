@@ -3,12 +3,12 @@
 ghost use Rattle.std.specs.Prelude.{◌≡◌, ◌+◌, ◌<◌, ◌≤◌, ◌++◌, ℕ, Bool, true, false, List, take, drop, length, slice_index_or};
 ghost use Rattle.std.specs.List.{flat_map, list_all, list_any};
 ghost use Rattle.lf_faults.specs.declared.fault.Parts.{Parts};
-ghost use Rattle.lf_outcome.specs.Truth.{reaches};
+ghost use Rattle.lf_outcome.specs.Unfolding.{unfolded};
 ghost use Rattle.lf_sim.specs.Changes.{AreSameBut};
 ghost use Rattle.lf_sim.specs.Marks.{is_marked};
 ghost use Rattle.lf_sim.specs.Settings.{IsRun, set_of, world_of};
 ghost use Rattle.lf_residual.specs.declared.part.Part.{Part};
-ghost use Rattle.lf_residual.specs.Judging.{truths_of};
+ghost use Rattle.lf_residual.specs.Judging.{said, truths_of};
 ghost use Rattle.lf_residual.specs.Parts.{IsWithin, all_parts, part_of, parts_of, scope_at, size_of};
 
 use crate::Part;
@@ -56,7 +56,7 @@ impl Change<'_> {
     }
 }
 
-/// Judges again a formula whose truth stands at a place, with those of its parts behind it: they are of a run which differs at no points but those
+/// Judges again a formula without Over whose truth stands at a place, with those of its parts behind it: they are of a run which differs at no points but those
 /// that are marked. The truth now.
 // Inlined, so that a part of which no point changed costs no call.
 #[inline(always)]
@@ -72,7 +72,7 @@ pub(crate) fn judge_again(
     ensures { let w = world_of change.now.setting.now in let to = set_of change.now.run.now in
         (from : List Parts) (before behind : List Bool) → AreSameBut w from to change.now.changed.now.points → length before ≡ at →
         truths.old ≡ before ++ (truths_of w from formula.now ++ behind) →
-        (result ≡ reaches w to formula.now) × (truths.new ≡ before ++ (truths_of w to formula.now ++ behind)) }
+        (result ≡ said w to formula.now) × (truths.new ≡ before ++ (truths_of w to formula.now ++ behind)) }
 {
     let part = change.parts[at];
     if change.touches(&part) {
@@ -91,7 +91,7 @@ fn judge_touched(change: &Change, formula: &Formula<Fact>, at: usize, truths: &m
     ensures { let w = world_of change.now.setting.now in let to = set_of change.now.run.now in
         (from : List Parts) (before behind : List Bool) → AreSameBut w from to change.now.changed.now.points → length before ≡ at →
         truths.old ≡ before ++ (truths_of w from formula.now ++ behind) →
-        (result ≡ reaches w to formula.now) × (truths.new ≡ before ++ (truths_of w to formula.now ++ behind)) }
+        (result ≡ said w to formula.now) × (truths.new ≡ before ++ (truths_of w to formula.now ++ behind)) }
 {
     let truth = match formula {
         Formula::All(parts) => judge_all(change, parts.as_slice(), at + 1, truths),
@@ -99,6 +99,7 @@ fn judge_touched(change: &Change, formula: &Formula<Fact>, at: usize, truths: &m
         Formula::Down { node, step } => judge_atom(change, formula, *node, *step, truths[at]),
         Formula::Shows { node, step, .. } => judge_atom(change, formula, *node, *step, truths[at]),
         Formula::One { .. } => holds(change.setting, formula, change.run),
+        Formula::Over { .. } => false,
     };
     truths[at] = truth;
     truth
@@ -106,10 +107,11 @@ fn judge_touched(change: &Change, formula: &Formula<Fact>, at: usize, truths: &m
 
 /// The same of an atom that speaks of one point, and has this truth.
 fn judge_atom(change: &Change, formula: &Formula<Fact>, node: u32, step: u32, truth: bool) -> bool
-    requires { (part_of formula.now).scope ≡ scope_at node step }
+    requires scope { (part_of formula.now).scope ≡ scope_at node step }
+    requires plain { unfolded formula.now ≡ formula.now }
     ensures { let w = world_of change.now.setting.now in let to = set_of change.now.run.now in
-        (from : List Parts) → AreSameBut w from to change.now.changed.now.points → truth ≡ reaches w from formula.now →
-        result ≡ reaches w to formula.now }
+        (from : List Parts) → AreSameBut w from to change.now.changed.now.points → truth ≡ said w from formula.now →
+        result ≡ said w to formula.now }
 {
     if change.has(node, step) {
         holds(change.setting, formula, change.run)
@@ -126,7 +128,7 @@ fn judge_all(change: &Change, parts: &[Formula<Fact>], first: usize, truths: &mu
     ensures { let w = world_of change.now.setting.now in let to = set_of change.now.run.now in
         (from : List Parts) (before behind : List Bool) → AreSameBut w from to change.now.changed.now.points → length before ≡ first →
         truths.old ≡ before ++ (flat_map (truths_of w from) parts.now ++ behind) →
-        (result ≡ list_all (reaches w to) parts.now) × (truths.new ≡ before ++ (flat_map (truths_of w to) parts.now ++ behind)) }
+        (result ≡ list_all (said w to) parts.now) × (truths.new ≡ before ++ (flat_map (truths_of w to) parts.now ++ behind)) }
 {
     let mut at = first;
     let mut all = true;
@@ -146,7 +148,7 @@ fn judge_any(change: &Change, parts: &[Formula<Fact>], first: usize, truths: &mu
     ensures { let w = world_of change.now.setting.now in let to = set_of change.now.run.now in
         (from : List Parts) (before behind : List Bool) → AreSameBut w from to change.now.changed.now.points → length before ≡ first →
         truths.old ≡ before ++ (flat_map (truths_of w from) parts.now ++ behind) →
-        (result ≡ list_any (reaches w to) parts.now) × (truths.new ≡ before ++ (flat_map (truths_of w to) parts.now ++ behind)) }
+        (result ≡ list_any (said w to) parts.now) × (truths.new ≡ before ++ (flat_map (truths_of w to) parts.now ++ behind)) }
 {
     let mut at = first;
     let mut any = false;

@@ -3,11 +3,10 @@
 ghost use Rattle.std.specs.Prelude.{◌≡◌, ◌+◌, ◌<◌, ◌++◌, true, [], OnOk, length, map, take, drop, slice_index_or};
 ghost use Rattle.std.specs.List.{flat_map, list_all};
 ghost use Rattle.std.specs.Option.{unwrap_or};
-ghost use Rattle.lf_outcome.specs.Evidence.{all_of, evidence_of, first_of};
-ghost use Rattle.lf_outcome.specs.Truth.{reaches};
+ghost use Rattle.lf_outcome.specs.Evidence.{all_of, first_of};
 ghost use Rattle.lf_sim.specs.Settings.{IsRun, set_of, world_of};
 ghost use Rattle.lf_residual.specs.declared.part.Part.{Part};
-ghost use Rattle.lf_residual.specs.Judging.{truths_of};
+ghost use Rattle.lf_residual.specs.Judging.{points_for, said, truths_of};
 ghost use Rattle.lf_residual.specs.Parts.{all_parts, part_of, parts_of, size_of};
 
 use crate::Part;
@@ -36,7 +35,7 @@ impl Ground<'_> {
     }
 }
 
-/// Puts the points behind others on which a true formula rests, whose truth stands at a place. The error is that memory has run out.
+/// Puts the points behind others on which a true formula without Over rests, whose truth stands at a place. The error is that memory has run out.
 #[cycle(put_points)]
 pub(crate) fn put_points(
     ground: &Ground,
@@ -47,9 +46,9 @@ pub(crate) fn put_points(
     requires parts { take (size_of formula.now) (drop at ground.now.parts.now) ≡ parts_of formula.now }
     requires truths { take (size_of formula.now) (drop at ground.now.truths.now) ≡
         truths_of (world_of ground.now.setting.now) (set_of ground.now.run.now) formula.now }
-    requires holds { reaches (world_of ground.now.setting.now) (set_of ground.now.run.now) formula.now ≡ true }
+    requires holds { said (world_of ground.now.setting.now) (set_of ground.now.run.now) formula.now ≡ true }
     ensures { OnOk result (points.new.items ≡
-        points.old.items ++ unwrap_or (evidence_of (world_of ground.now.setting.now) (set_of ground.now.run.now) formula.now) []) }
+        points.old.items ++ unwrap_or (points_for (world_of ground.now.setting.now) (set_of ground.now.run.now) formula.now) []) }
 {
     match formula {
         Formula::All(parts) => put_all(ground, parts.as_slice(), at + 1, points),
@@ -65,6 +64,7 @@ pub(crate) fn put_points(
         Formula::One { nodes, last, .. } => {
             push_up(ground.setting, ground.run, *nodes, *last, points)
         }
+        Formula::Over { .. } => Ok(()),
     }
 }
 
@@ -79,9 +79,9 @@ fn put_all(
     requires parts { take (all_parts part_of parts.now).size (drop first ground.now.parts.now) ≡ flat_map parts_of parts.now }
     requires truths { take (all_parts part_of parts.now).size (drop first ground.now.truths.now) ≡
         flat_map (truths_of (world_of ground.now.setting.now) (set_of ground.now.run.now)) parts.now }
-    requires holds { list_all (reaches (world_of ground.now.setting.now) (set_of ground.now.run.now)) parts.now ≡ true }
+    requires holds { list_all (said (world_of ground.now.setting.now) (set_of ground.now.run.now)) parts.now ≡ true }
     ensures { OnOk result (points.new.items ≡
-        points.old.items ++ unwrap_or (all_of (map (evidence_of (world_of ground.now.setting.now) (set_of ground.now.run.now)) parts.now)) []) }
+        points.old.items ++ unwrap_or (all_of (map (points_for (world_of ground.now.setting.now) (set_of ground.now.run.now)) parts.now)) []) }
 {
     let mut at = first;
     'parts: for part in parts {
@@ -103,7 +103,7 @@ fn put_first(
     requires truths { take (all_parts part_of parts.now).size (drop first ground.now.truths.now) ≡
         flat_map (truths_of (world_of ground.now.setting.now) (set_of ground.now.run.now)) parts.now }
     ensures { OnOk result (points.new.items ≡
-        points.old.items ++ unwrap_or (first_of (map (evidence_of (world_of ground.now.setting.now) (set_of ground.now.run.now)) parts.now)) []) }
+        points.old.items ++ unwrap_or (first_of (map (points_for (world_of ground.now.setting.now) (set_of ground.now.run.now)) parts.now)) []) }
 {
     let mut at = first;
     'parts: for part in parts {

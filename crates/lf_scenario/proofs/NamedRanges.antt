@@ -22,6 +22,7 @@ use Rattle.lf_outcome.specs.Measures.{depth_of, atoms_of}
 use Rattle.lf_outcome.specs.Named.{shows_or_down, each_shows, formula_of}
 use Rattle.lf_outcome.proofs.Laws.{depth_of-parts, atoms_of-parts, depth_of-Down, depth_of-Shows, atoms_of-Down, atoms_of-Shows}
 use Rattle.lf_outcome.specs.Formulas.{is_point, is_fact_of, range_step, is_in_range, IsFormulaOf}
+use Rattle.lf_scenario.proofs.PlainRanges.{written-fits}
 
 -- a node that shows a fact or is down
 module _ (t : ℕ) (fact : Fact) where
@@ -117,7 +118,7 @@ module _ (k : Kind) (b : Bounds) (limits : IsInLimits b) (one other : Fact) wher
   both = each_shows b.nodes b.horizon one ∷ each_shows b.nodes b.horizon other ∷ []
 
   either_each : is_fact_of k one ≡ true → is_fact_of k other ≡ true → IsFormulaOf k b (kind.Any both)
-  either_each first second = record {
+  either_each first second = written-fits k b (kind.Any both) (record {
     range =
         range-Any k b.nodes b.horizon both
         ∙ and_from (is_in_range k b.nodes b.horizon (each_shows b.nodes b.horizon one)) (is_in_range k b.nodes b.horizon
@@ -133,16 +134,16 @@ module _ (k : Kind) (b : Bounds) (limits : IsInLimits b) (one other : Fact) wher
         let whole : atoms_of (kind.Any both) ≡ 0 + atoms_of (each_shows b.nodes b.horizon one) + atoms_of (each_shows b.nodes b.horizon other) =
         atoms_of-parts (kind.Any both) both (inr refl) in
         omega (arith, whole, atoms-each b.horizon one b.nodes, atoms-each b.horizon other b.nodes, limits.nodes.1);
-  }
+  })
 
 -- each node that is up
 module _ (k : Kind) (b : Bounds) (limits : IsInLimits b) (fact : Fact) where
   all_each : is_fact_of k fact ≡ true → IsFormulaOf k b (each_shows b.nodes b.horizon fact)
-  all_each own = record {
+  all_each own = written-fits k b (each_shows b.nodes b.horizon fact) (record {
     range = range-each k b.nodes b.horizon limits.horizon.0 fact own;
     depth = omega (arith, depth-each b.horizon fact b.nodes);
     atoms = omega (arith, atoms-each b.horizon fact b.nodes, limits.nodes.1);
-  }
+  })
 
 -- one of some atoms
 module _ (k : Kind) (b : Bounds) (limits : IsInLimits b) where
@@ -155,7 +156,7 @@ module _ (k : Kind) (b : Bounds) (limits : IsInLimits b) where
   one_of_three : (x y z : Formula Fact) → fits_in x ≡ true → fits_in y ≡ true → fits_in z ≡ true
       → depth_of x ≡ 1 → depth_of y ≡ 1 → depth_of z ≡ 1 → atoms_of x ≡ 1 → atoms_of y ≡ 1 → atoms_of z ≡ 1
       → IsFormulaOf k b (kind.Any (x ∷ y ∷ z ∷ []))
-  one_of_three x y z in_x in_y in_z deep_x deep_y deep_z one_x one_y one_z = record {
+  one_of_three x y z in_x in_y in_z deep_x deep_y deep_z one_x one_y one_z = written-fits k b (kind.Any (x ∷ y ∷ z ∷ [])) (record {
     range =
         range-Any k b.nodes b.horizon (x ∷ y ∷ z ∷ [])
         ∙ and_from (fits_in x) (fits_in y && (fits_in z && true)) in_x (and_from (fits_in y) (fits_in z && true) in_y (and_from (fits_in z) true in_z refl));
@@ -167,12 +168,12 @@ module _ (k : Kind) (b : Bounds) (limits : IsInLimits b) where
         let whole : atoms_of (kind.Any (x ∷ y ∷ z ∷ [])) ≡ 0 + atoms_of x + atoms_of y + atoms_of z =
         atoms_of-parts (kind.Any (x ∷ y ∷ z ∷ [])) (x ∷ y ∷ z ∷ []) (inr refl) in
         omega (arith, whole, one_x, one_y, one_z);
-  }
+  })
 
   one_of_four : (w x y z : Formula Fact) → fits_in w ≡ true → fits_in x ≡ true → fits_in y ≡ true → fits_in z ≡ true
       → depth_of w ≡ 1 → depth_of x ≡ 1 → depth_of y ≡ 1 → depth_of z ≡ 1 → atoms_of w ≡ 1 → atoms_of x ≡ 1 → atoms_of y ≡ 1 → atoms_of z ≡ 1
       → IsFormulaOf k b (kind.Any (w ∷ x ∷ y ∷ z ∷ []))
-  one_of_four w x y z in_w in_x in_y in_z deep_w deep_x deep_y deep_z one_w one_x one_y one_z = record {
+  one_of_four w x y z in_w in_x in_y in_z deep_w deep_x deep_y deep_z one_w one_x one_y one_z = written-fits k b (kind.Any (w ∷ x ∷ y ∷ z ∷ [])) (record {
     range =
         range-Any k b.nodes b.horizon (w ∷ x ∷ y ∷ z ∷ [])
         ∙ and_from (fits_in w) (fits_in x && (fits_in y && (fits_in z && true))) in_w
@@ -185,7 +186,7 @@ module _ (k : Kind) (b : Bounds) (limits : IsInLimits b) where
         let whole : atoms_of (kind.Any (w ∷ x ∷ y ∷ z ∷ [])) ≡ 0 + atoms_of w + atoms_of x + atoms_of y + atoms_of z =
         atoms_of-parts (kind.Any (w ∷ x ∷ y ∷ z ∷ [])) (w ∷ x ∷ y ∷ z ∷ []) (inr refl) in
         omega (arith, whole, one_w, one_x, one_y, one_z);
-  }
+  })
 
   down_fits : (n : ℕ) → n < b.nodes → fits_in (kind.Down n last) ≡ true
   down_fits n below = down k b.nodes b.horizon limits.horizon.0 n below

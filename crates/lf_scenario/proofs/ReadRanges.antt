@@ -31,6 +31,7 @@ use Rattle.lf_scenario.specs.Values.{Reading, ◌>>=◌, whole}
 use Rattle.lf_outcome.specs.Formulas.{is_point, is_fact_of, is_in_range, IsFormulaOf}
 use Rattle.lf_scenario.specs.Outcomes.{by_word, down_in, fact_in, formula_in, found_fact, in_formula}
 use Rattle.lf_scenario.specs.Outcomes.{limited, list_formula, named_in, node_in, outcome_in, parts_in, shows_in, step_in}
+use Rattle.lf_scenario.proofs.PlainRanges.{written-fits}
 use Rattle.lf_scenario.proofs.NamedRanges.{outcomes_fit, range-All, range-Any, range-Down, range-Shows}
 
 -- what is read, if something is, has a property
@@ -152,7 +153,11 @@ module _ (k : Kind) (b : Bounds) (limits : IsInLimits b) where
       → Gives (IsFormulaOf k b) (cond t (Ok f) (Err refusals.Formula))
   kept f h true is =
       let (deep, many) = and_parts (nat_le (depth_of f) deepest) (nat_le (atoms_of f) most_listed) (sym is) in
-      given (IsFormulaOf k b) f (record { range = h; depth = leb-true (depth_of f) deepest deep; atoms = omega (arith, leb-true (atoms_of f) most_listed many) })
+      given (IsFormulaOf k b) f (written-fits k b f (record {
+        range = h;
+        depth = leb-true (depth_of f) deepest deep;
+        atoms = omega (arith, leb-true (atoms_of f) most_listed many);
+      }))
   kept f h false is = refused (IsFormulaOf k b) refusals.Formula
 
   limits_kept : (f : Formula Fact) → fits f → Gives (IsFormulaOf k b) (limited f)

@@ -59,13 +59,7 @@ fn stop_in(reader: &Reader<'_>, slip: Slip) -> Stop {
 
 /// What is told of a refusal in what is to have one value.
 fn stop_asked(reader: &Reader<'_>, slip: Slip) -> Stop {
-    let place = Place {
-        definition: reader.place.definition,
-        names: reader.place.names,
-        fields: reader.place.fields,
-        scope: Scope::Outcome,
-        within: Within::Nothing,
-    };
+    let place = asked_place(reader);
     let inner = Reader {
         spot: Spot::Fact,
         place: &place,
@@ -74,8 +68,19 @@ fn stop_asked(reader: &Reader<'_>, slip: Slip) -> Stop {
     stop_at(&inner, slip)
 }
 
+/// Where the expressions of an outcome stand: they know a state, and no step.
+pub(crate) fn asked_place<'a>(reader: &Reader<'a>) -> Place<'a> {
+    Place {
+        definition: reader.place.definition,
+        names: reader.place.names,
+        fields: reader.place.fields,
+        scope: Scope::Outcome,
+        within: Within::Nothing,
+    }
+}
+
 /// Whether a piece stands in what is to have one value: behind `one value of`, and before what joins the next part.
-fn is_asked(reader: &Reader<'_>, at: usize) -> bool {
+pub(crate) fn is_asked(reader: &Reader<'_>, at: usize) -> bool {
     let mut depth: Option<u32> = None;
     for here in 0..at {
         depth = match (reader.piece(here), depth) {

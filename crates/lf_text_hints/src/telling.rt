@@ -4,9 +4,9 @@ use crate::atoms::VALUES;
 use crate::calls::CALLS;
 use crate::events::EVENTS;
 use crate::kinds::KINDS;
-use crate::outcomes::UNITS;
+use crate::outcomes::{UNITS, asked_place, is_asked};
 use lf_diagnostics::{
-    Class, Known, LONGEST_PART, Near, OPERATORS, Place, Reader, Spot, Stop, Told, Words,
+    Class, Hint, Known, LONGEST_PART, Near, OPERATORS, Place, Reader, Spot, Stop, Told, Words,
     first_named, meant_by, near_name, said, said_of,
 };
 use std::alloc::{AllocError, Global};
@@ -28,13 +28,10 @@ pub(crate) fn tell_stop(
     } else {
         said_of(place.text, source, stop.words.as_str())
     };
-    let (denied, word) = parted(stop.near, reader.piece(stop.from));
-    let hint = match meant(alloc, reader, stop, word)? {
-        Some(meant) => hint.and(
-            format_args!("; did you mean `{denied}{meant}`?"),
-            LONGEST_PART,
-        ),
-        None => hint.and_str(listed(reader, stop.near).as_str(), LONGEST_PART),
+    let hint = if reader.spot == Spot::Outcome && is_asked(reader, stop.from) {
+        with_asked_names(alloc, reader, stop, hint)?
+    } else {
+        with_names(alloc, reader, stop, hint)?
     };
     let behind = match reader.pieces.get(stop.from) {
         Some(piece) => piece.from.len(),
@@ -45,6 +42,39 @@ pub(crate) fn tell_stop(
         before: text.len().saturating_sub(behind),
         length: source.chars().count(),
     })
+}
+
+/// The same hint, with the name that may be meant at a stop, or those that may stand there.
+fn with_names(
+    alloc: Global,
+    reader: &Reader<'_>,
+    stop: &Stop,
+    hint: Hint,
+) -> Result<Hint, AllocError> {
+    let (denied, word) = parted(stop.near, reader.piece(stop.from));
+    Ok(match meant(alloc, reader, stop, word)? {
+        Some(meant) => hint.and(
+            format_args!("; did you mean `{denied}{meant}`?"),
+            LONGEST_PART,
+        ),
+        None => hint.and_str(listed(reader, stop.near).as_str(), LONGEST_PART),
+    })
+}
+
+/// The same at a stop in what is to have one value.
+fn with_asked_names(
+    alloc: Global,
+    reader: &Reader<'_>,
+    stop: &Stop,
+    hint: Hint,
+) -> Result<Hint, AllocError> {
+    let place = asked_place(reader);
+    let inner = Reader {
+        spot: Spot::Fact,
+        place: &place,
+        ..*reader
+    };
+    with_names(alloc, &inner, stop, hint)
 }
 
 /// What stands before the name in a word, and the name: `not_` may stand before a fact's.

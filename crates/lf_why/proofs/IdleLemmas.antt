@@ -1,14 +1,17 @@
 -- Nodes that do nothing stay as they start, and are up where others are.
-use Rattle.std.proofs.Common.{◌≡◌, ◌↔◌, ℕ, zero, suc, ◌+◌, ◌<◌, ◌≤◌, ◌&&◌, ◌||◌, ◌==◌, Bool, true, false, not, List, [], min, refl, sym, ap, subst, ◌∙◌, add-one}
+use Rattle.std.proofs.Common.{◌≡◌, ◌↔◌, ℕ, zero, suc, ◌+◌, ◌<◌, ◌≤◌, ◌&&◌, ◌||◌, ◌==◌, Bool, true, false, not, List, [], ◌∷◌, map, min, refl, sym, ap, subst, ◌∙◌, add-one}
 use Rattle.std.proofs.Common.{arith}
 use Rattle.std.specs.Prelude.{Option, None, Some, if◌then◌else◌}
-use Rattle.std.specs.List.{list_all, list_any, range_with_len}
+use Rattle.std.specs.List.{flat_map, list_all, list_any, range_with_len}
 use Rattle.std.proofs.lemmas.Bool.{eq-eqb, eqb-true}
+use Rattle.std.proofs.lemmas.List.Folds.{list_all-append, list_all-map, list_any-append}
 use Rattle.lf_list.proofs.Laws.{none-in}
 use Rattle.lf_outcome.specs.declared.formula.Formula.{Formula}
 use Rattle.lf_outcome.specs.declared.formula.Formula.TheVariants as kind
 use Rattle.lf_outcome.specs.Entries.{IsUpAt, NoTwoDiffer}
-use Rattle.lf_outcome.specs.Truth.{agree, is_single, reaches}
+use Rattle.lf_outcome.specs.Truth.{agree, is_down, is_shown, is_single, reaches, truth}
+use Rattle.lf_outcome.specs.Unfolding.{joined, later, steps, unfold_at}
+use Rattle.lf_outcome.proofs.Laws.{plain-unfolded, unfold-All, unfold-Any, unfold-Down, unfold-One, unfold-Over, unfold-Shows, unfolded-plain}
 use Rattle.lf_sim.specs.declared.entry.Entry.{Entry}
 use Rattle.lf_sim.specs.Runs.{World, is_up, view}
 use Rattle.lf_sim.proofs.Laws.{before_step-awake, did-down, did-up, did-zero, IsRunning-up, up-IsRunning}
@@ -119,35 +122,106 @@ pub some_step : (t : ℕ) → (t ≡ 0 → ⊥) → 1 ≤ t
 some_step zero e = absurd (e refl)
 some_step (suc t) e = omega arith
 
+list_any-map : {X Y : Type 0} (p : X → Bool) (h : Y → X) (ys : List Y) → list_any p (map h ys) ≡ list_any (λ y. p (h y)) ys
+list_any-map p h [] = refl
+list_any-map p h (y ∷ ys) = ap (λ b. p (h y) || b) (list_any-map p h ys)
+
 -- the promise in that world, by the kinds of formulas, where the law of the kinds is known
 module _ {State Note Fact : Type 0} (w : World State Note Fact) where
   abbrev pub kept : Formula Fact → Bool
   kept = reaches (idle_world w) []
 
-  pub kept_all : (f : Formula Fact) (parts xs : List (Formula Fact)) (b : Bool) → kept (kind.All parts) ≡ list_all kept parts → f ≡ kind.All parts
-      → xs ≡ parts → b ≡ list_all kept xs → b ≡ kept f
-  kept_all f parts xs b law is read h = h ∙ ap (list_all kept) read ∙ sym law ∙ ap kept (sym is)
+  -- what the formula says where its steps are counted from the step k
+  abbrev pub kept_at : ℕ → Formula Fact → Bool
+  kept_at k f = kept (unfold_at f k)
 
-  pub kept_any : (f : Formula Fact) (parts xs : List (Formula Fact)) (b : Bool) → kept (kind.Any parts) ≡ list_any kept parts → f ≡ kind.Any parts
-      → xs ≡ parts → b ≡ list_any kept xs → b ≡ kept f
-  kept_any f parts xs b law is read h = h ∙ ap (list_any kept) read ∙ sym law ∙ ap kept (sym is)
+  -- the parts, as they are unfolded
+  abbrev pub parts_at : ℕ → List (Formula Fact) → List (Formula Fact)
+  parts_at k parts = map (λ part. unfold_at part k) parts
 
-  pub kept_down : (f : Formula Fact) (n t : ℕ) (up : Bool) → kept (kind.Down n t) ≡ not (is_up (idle_world w) [] n t) → f ≡ kind.Down n t
-      → up ≡ is_up w [] n t → not up ≡ kept f
-  kept_down f n t up law is runs = ap not (runs ∙ idle_up w n t) ∙ sym law ∙ ap kept (sym is)
+  abbrev pub parts_over : ℕ → ℕ → ℕ → List (Formula Fact) → List (Formula Fact)
+  parts_over k first last parts = flat_map (λ t. parts_at (later k t) parts) (steps first last)
 
-  module _ (f : Formula Fact) (n t : ℕ) (fact : Fact) (up : Bool)
-      (law : kept (kind.Shows n t fact) ≡ (is_up (idle_world w) [] n t && w.rules.shows n (view (idle_world w) [] n t) fact))
-      (is : f ≡ kind.Shows n t fact) (runs : up ≡ is_up w [] n t) where
-    pub kept_shown : (shown : Bool) (start : State) → up ≡ true → start ≡ w.rules.start n → shown ≡ w.rules.shows n start fact → shown ≡ kept f
-    kept_shown shown start on begins shows =
-        shows ∙ ap (λ s. w.rules.shows n s fact) (begins ∙ sym (idle_stays w n t))
-        ∙ ap (λ b. b && w.rules.shows n (view (idle_world w) [] n t) fact) (sym on ∙ runs ∙ idle_up w n t) ∙ sym law ∙ ap kept (sym is)
+  pub kept_first : (f : Formula Fact) (b : Bool) → b ≡ kept_at 0 f → b ≡ kept f
+  kept_first f b h =
+      h ∙ ap (truth (is_down (idle_world w) []) (is_shown (idle_world w) []) (is_single (idle_world w) []))
+      (unfolded-plain (unfold_at f 0) (plain-unfolded f 0))
 
-    pub kept_off : up ≡ false → false ≡ kept f
-    kept_off off =
-        ap (λ b. b && w.rules.shows n (view (idle_world w) [] n t) fact) (sym off ∙ runs ∙ idle_up w n t) ∙ sym law ∙ ap kept (sym is)
+  all-over : (k : ℕ) (parts : List (Formula Fact)) (ts : List ℕ)
+      → list_all kept (flat_map (λ t. parts_at (later k t) parts) ts) ≡ list_all (λ t. list_all (kept_at (later k t)) parts) ts
+  all-over k parts [] = refl
+  all-over k parts (t ∷ ts) =
+      let here = parts_at (later k t) parts in
+      let rest = flat_map (λ u. parts_at (later k u) parts) ts in
+      list_all-append kept here rest ∙ ap (λ b. b && list_all kept rest) (list_all-map kept (λ part. unfold_at part (later k t)) parts)
+      ∙ ap (λ b. list_all (kept_at (later k t)) parts && b) (all-over k parts ts)
 
-  pub kept_one : (f : Formula Fact) (nodes last topic : ℕ) (b : Bool) → kept (kind.One nodes last topic) ≡ is_single (idle_world w) [] nodes last topic
-      → f ≡ kind.One nodes last topic → b ≡ is_single (idle_world w) [] nodes last topic → b ≡ kept f
-  kept_one f nodes last topic b law is h = h ∙ sym law ∙ ap kept (sym is)
+  any-over : (k : ℕ) (parts : List (Formula Fact)) (ts : List ℕ)
+      → list_any kept (flat_map (λ t. parts_at (later k t) parts) ts) ≡ list_any (λ t. list_any (kept_at (later k t)) parts) ts
+  any-over k parts [] = refl
+  any-over k parts (t ∷ ts) =
+      let here = parts_at (later k t) parts in
+      let rest = flat_map (λ u. parts_at (later k u) parts) ts in
+      list_any-append kept here rest ∙ ap (λ b. b || list_any kept rest) (list_any-map kept (λ part. unfold_at part (later k t)) parts)
+      ∙ ap (λ b. list_any (kept_at (later k t)) parts || b) (any-over k parts ts)
+
+  module _ (f : Formula Fact) (k : ℕ) (parts xs : List (Formula Fact)) (b : Bool) where
+    pub kept_all : kept (kind.All (parts_at k parts)) ≡ list_all kept (parts_at k parts) → f ≡ kind.All parts → xs ≡ parts
+        → b ≡ list_all (kept_at k) xs → b ≡ kept_at k f
+    kept_all law is read h =
+        h ∙ ap (list_all (kept_at k)) read ∙ sym (list_all-map kept (λ part. unfold_at part k) parts) ∙ sym law
+        ∙ sym (ap kept (ap (λ (g : Formula Fact). unfold_at g k) is ∙ unfold-All parts k))
+
+    pub kept_any : kept (kind.Any (parts_at k parts)) ≡ list_any kept (parts_at k parts) → f ≡ kind.Any parts → xs ≡ parts
+        → b ≡ list_any (kept_at k) xs → b ≡ kept_at k f
+    kept_any law is read h =
+        h ∙ ap (list_any (kept_at k)) read ∙ sym (list_any-map kept (λ part. unfold_at part k) parts) ∙ sym law
+        ∙ sym (ap kept (ap (λ (g : Formula Fact). unfold_at g k) is ∙ unfold-Any parts k))
+
+    module _ (every : Bool) (first last : ℕ) (is : f ≡ kind.Over every first last parts) (read : xs ≡ parts) where
+      abbrev over : List (Formula Fact)
+      over = parts_over k first last parts
+
+      unfolds : unfold_at f k ≡ joined every over
+      unfolds = ap (λ (g : Formula Fact). unfold_at g k) is ∙ unfold-Over every first last parts k
+
+      pub kept_every : every ≡ true → kept (kind.All over) ≡ list_all kept over
+          → b ≡ list_all (λ t. list_all (kept_at (later k t)) xs) (steps first last) → b ≡ kept_at k f
+      kept_every so law h =
+          h ∙ ap (λ fs. list_all (λ t. list_all (kept_at (later k t)) fs) (steps first last)) read
+          ∙ sym (all-over k parts (steps first last)) ∙ sym law ∙ sym (ap kept (unfolds ∙ ap (λ c. joined c over) so))
+
+      pub kept_some : every ≡ false → kept (kind.Any over) ≡ list_any kept over
+          → b ≡ list_any (λ t. list_any (kept_at (later k t)) xs) (steps first last) → b ≡ kept_at k f
+      kept_some so law h =
+          h ∙ ap (λ fs. list_any (λ t. list_any (kept_at (later k t)) fs) (steps first last)) read
+          ∙ sym (any-over k parts (steps first last)) ∙ sym law ∙ sym (ap kept (unfolds ∙ ap (λ c. joined c over) so))
+
+  module _ (f : Formula Fact) (k n s t : ℕ) (at : t ≡ later k s) where
+    pub kept_down : (up : Bool) → kept (kind.Down n t) ≡ not (is_up (idle_world w) [] n t) → f ≡ kind.Down n s
+        → up ≡ is_up w [] n t → not up ≡ kept_at k f
+    kept_down up law is runs =
+        ap not (runs ∙ idle_up w n t) ∙ sym law
+        ∙ sym (ap kept (ap (λ (g : Formula Fact). unfold_at g k) is ∙ unfold-Down n s k ∙ ap (kind.Down n) (sym at)))
+
+    module _ (fact : Fact) (up : Bool)
+        (law : kept (kind.Shows n t fact) ≡ (is_up (idle_world w) [] n t && w.rules.shows n (view (idle_world w) [] n t) fact))
+        (is : f ≡ kind.Shows n s fact) (runs : up ≡ is_up w [] n t) where
+      says : kept (kind.Shows n t fact) ≡ kept_at k f
+      says = sym (ap kept (ap (λ (g : Formula Fact). unfold_at g k) is ∙ unfold-Shows n s fact k ∙ ap (λ u. kind.Shows n u fact) (sym at)))
+
+      pub kept_shown : (shown : Bool) (start : State) → up ≡ true → start ≡ w.rules.start n → shown ≡ w.rules.shows n start fact
+          → shown ≡ kept_at k f
+      kept_shown shown start on begins shows =
+          shows ∙ ap (λ s. w.rules.shows n s fact) (begins ∙ sym (idle_stays w n t))
+          ∙ ap (λ b. b && w.rules.shows n (view (idle_world w) [] n t) fact) (sym on ∙ runs ∙ idle_up w n t) ∙ sym law ∙ says
+
+      pub kept_off : up ≡ false → false ≡ kept_at k f
+      kept_off off =
+          ap (λ b. b && w.rules.shows n (view (idle_world w) [] n t) fact) (sym off ∙ runs ∙ idle_up w n t) ∙ sym law ∙ says
+
+  pub kept_one : (f : Formula Fact) (k nodes last topic : ℕ) (b : Bool)
+      → kept (kind.One nodes last topic) ≡ is_single (idle_world w) [] nodes last topic
+      → f ≡ kind.One nodes last topic → b ≡ is_single (idle_world w) [] nodes last topic → b ≡ kept_at k f
+  kept_one f k nodes last topic b law is h =
+      h ∙ sym law ∙ sym (ap kept (ap (λ (g : Formula Fact). unfold_at g k) is ∙ unfold-One nodes last topic k))

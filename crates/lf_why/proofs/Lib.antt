@@ -4,5 +4,6 @@ mod Differences
 mod IdleLemmas
 pub mod Laws
 mod NoneLemmas
+mod StepLoops
 mod Taken
 mod Told

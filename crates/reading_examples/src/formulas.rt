@@ -50,7 +50,7 @@ fn flags(alloc: Global) -> Result<Definition, AllocError> {
 }
 
 /// Appends what a formula is: a capital letter is a fact that is denied, and behind it stand the node and the step. Behind `o` stand how many nodes, the last
-/// step and the number of the topic.
+/// step and the number of the topic, and behind `t` the first and the last step at which the parts behind them are meant.
 #[cycle(formula)]
 fn tell(formula: &Formula<Fact>, text: &mut String) -> Result<(), AllocError> {
     match formula {
@@ -67,6 +67,15 @@ fn tell(formula: &Formula<Fact>, text: &mut String) -> Result<(), AllocError> {
         Formula::One { nodes, last, topic } => {
             tell_atom('o', *nodes, *last, text)?;
             text.push(digit(u32::from(*topic)))
+        }
+        Formula::Over {
+            every,
+            first,
+            last,
+            parts,
+        } => {
+            tell_atom('t', *first, *last, text)?;
+            tell_parts(if *every { '&' } else { '|' }, parts.as_slice(), text)
         }
     }
 }
@@ -163,8 +172,8 @@ fn promises_are_formulas(rt: HostRuntime) {
         (1, "at most one has of 1", "|(&())"),
         (1, "at most one has of {}", "&()"),
         (1, "each has of 5", "&()"),
-        (3, "always down 1", "&(d11d12d13)"),
-        (2, "ever (down 0 or has at 1)", "|(|(d01s11)|(d02s12))"),
+        (3, "always down 1", "t13&(d10)"),
+        (2, "ever (down 0 or has at 1)", "t12|(|(d00s10))"),
         (2, "down 0 and (not has at 1 or down 2)", "&(d02|(S12d22))"),
         (
             2,

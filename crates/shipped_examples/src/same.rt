@@ -1,6 +1,6 @@
-//! Pairs of texts that say the same scenario of a protocol file.
+//! Pairs of texts that say the same scenario of a protocol file, or the same formula once it is unfolded.
 
-use lf_outcome::Scenario;
+use lf_outcome::{Scenario, same, unfold};
 use lf_own_scenario::read_with;
 use lf_protocol_file::{ProtocolFile, read_protocol};
 use std::alloc::{AllocError, Global};
@@ -27,9 +27,15 @@ const SAME: &str = concat!(
     // The name of an outcome comes before what it says itself.
     "outcome = \"done\"~outcome = \"no late\"\n",
     "outcome = \"some not done of peers\"~outcome = [\"any\", [\"shows\", 1, 2, \"not_done\"], [\"shows\", 2, 2, \"not_done\"]]\n",
-    "outcome = \"always down 0\"~outcome = [\"all\", [\"down\", 0, 1], [\"down\", 0, 2]]\n",
     "outcome = \"down 0 or down 1 and down 2\"~outcome = [\"any\", [\"down\", 0, 2], [\"all\", [\"down\", 1, 2], [\"down\", 2, 2]]]\n",
     "outcome = \"done\";given = { peers = \"all - 0\" }~outcome = \"done\";given = { limit = 3, peers = \"{1, 2}\" }\n",
+);
+
+/// The same of scenarios whose formulas are the same where they are unfolded.
+const UNFOLDED: &str = concat!(
+    "outcome = \"always down 0\"~outcome = [\"all\", [\"down\", 0, 1], [\"down\", 0, 2]]\n",
+    "outcome = \"ever done at 1\"~outcome = [\"any\", [\"shows\", 1, 1, \"done\"], [\"shows\", 1, 2, \"done\"]]\n",
+    "outcome = \"ever down 2 or down 1\"~outcome = [\"any\", [\"any\", [\"down\", 2, 1], [\"down\", 2, 2]], [\"down\", 1, 2]]\n",
 );
 
 /// The scenario with these last lines. None where it is refused.
@@ -55,6 +61,22 @@ fn row_is_same(alloc: Global, file: &ProtocolFile, row: &str) -> bool {
     one.same(&other)
 }
 
+/// Whether the two scenarios that a row says have, unfolded, one formula, and aren't the same.
+fn row_unfolds_to_one(alloc: Global, file: &ProtocolFile, row: &str) -> bool {
+    let (one, other) = row.split_once('~').unwrap_or((row, ""));
+    let (Ok(Some(one)), Ok(Some(other))) = (
+        with_lines(alloc, file, one),
+        with_lines(alloc, file, other),
+    ) else {
+        return false;
+    };
+    let (Ok(unfolded), Ok(others)) = (unfold(alloc, one.formula()), unfold(alloc, other.formula()))
+    else {
+        return false;
+    };
+    same(&unfolded, &others) && !one.same(&other)
+}
+
 /// Each row's scenarios are the same.
 fn are_same(rt: &impl Abort, alloc: Global, file: &ProtocolFile) {
     for row in SAME.lines() {
@@ -62,10 +84,25 @@ fn are_same(rt: &impl Abort, alloc: Global, file: &ProtocolFile) {
     }
 }
 
+/// Each row's scenarios have one formula once it is unfolded.
+fn unfold_to_one(rt: &impl Abort, alloc: Global, file: &ProtocolFile) {
+    for row in UNFOLDED.lines() {
+        assert!(rt; row_unfolds_to_one(alloc, file, row), "at {row}");
+    }
+}
+
 #[test]
 fn texts_say_the_same(rt: HostRuntime) {
     match read_protocol(rt.alloc(), FILE.as_bytes()) {
         Ok(file) => are_same(&rt, rt.alloc(), &file),
+        Err(_) => assert!(&rt; false),
+    }
+}
+
+#[test]
+fn spans_say_what_each_step_does(rt: HostRuntime) {
+    match read_protocol(rt.alloc(), FILE.as_bytes()) {
+        Ok(file) => unfold_to_one(&rt, rt.alloc(), &file),
         Err(_) => assert!(&rt; false),
     }
 }

@@ -4,6 +4,7 @@ use Rattle.std.specs.Option.{unwrap_or}
 use Rattle.lf_sim.specs.Settings.{set_of, world_of}
 use Rattle.lf_outcome.specs.Evidence.{evidence_of}
 use Rattle.lf_outcome.specs.Truth.{counts, is_down, is_shown, is_single, reaches_within}
+use Rattle.lf_outcome.specs.Unfolding.{unfolded}
 use Rattle.lf_outcome.proofs.EvidenceLemmas.{rests_on-truth, true_of_it}
 use Rattle.lf_outcome.proofs.PointsLemmas.{Up, evidence-up, up-each, points-each, covers-suffices, covers-each}
 use Rattle.lf_outcome.proofs.gathering.evidence.Goals as goal
@@ -12,7 +13,8 @@ pub returns-then-branch-clause-truth : goal.returns-then-branch-clause-truth
 returns-then-branch-clause-truth g c =
     let w = world_of c.args.setting.now in
     let faults = set_of c.args.run.now in
-    sym c.if-branch.true ∙ c.in_ok-gather.ensures.found ∙ rests_on-truth (is_down w faults) (is_shown w faults) (is_single w faults) c.args.formula.now
+    sym c.if-branch.true ∙ c.in_ok-gather.ensures.found ∙ rests_on-truth (is_down w faults) (is_shown w faults) (is_single w faults) (unfolded
+    c.args.formula.now)
 
 pub returns-then-branch-clause-points : goal.returns-then-branch-clause-points
 returns-then-branch-clause-points g c =
@@ -49,4 +51,5 @@ pub returns-else-branch-clause-truth : goal.returns-else-branch-clause-truth
 returns-else-branch-clause-truth g c =
     let w = world_of c.args.setting.now in
     let faults = set_of c.args.run.now in
-    sym c.if-branch.false ∙ c.in_ok-gather.ensures.found ∙ rests_on-truth (is_down w faults) (is_shown w faults) (is_single w faults) c.args.formula.now
+    sym c.if-branch.false ∙ c.in_ok-gather.ensures.found ∙ rests_on-truth (is_down w faults) (is_shown w faults) (is_single w faults) (unfolded
+    c.args.formula.now)

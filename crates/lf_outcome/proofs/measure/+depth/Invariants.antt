@@ -1,7 +1,8 @@
 use Rattle.std.proofs.Common.{◌≡◌, min, max, take, map}
 use Rattle.std.specs.List.{fold}
 use Rattle.lf_outcome.specs.Measures.{depth_of}
+use Rattle.lf_outcome.specs.Unfolding.{unfolded}
 use Rattle.lf_outcome.proofs.measure.+depth.Given as goal
 
-abbrev pub invariant-parts : goal.invariant-parts
-invariant-parts g l = l.deepest ≡ min (fold max 0 (map depth_of (take l.part-index l.part-items))) 4294967295
+abbrev pub invariant-deepest-parts : goal.invariant-deepest-parts
+invariant-deepest-parts g l = l.deepest ≡ min (fold max 0 (map (λ part. depth_of (unfolded part)) (take l.part-index l.parts))) 4294967295

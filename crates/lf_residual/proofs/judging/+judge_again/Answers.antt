@@ -1,21 +1,22 @@
-use Rattle.std.proofs.Common.{◌≡◌, ◌+◌, ◌≤◌, ◌&&◌, ◌||◌, Bool, true, false, List, refl, sym, ap, subst, ◌∙◌, inl, inr, arith, rules, set}
-use Rattle.std.specs.List.{list_all, list_any, flat_map}
+use Rattle.std.proofs.Common.{◌≡◌, ◌+◌, ◌≤◌, ◌&&◌, ◌||◌, Bool, true, false, List, refl, sym, ap, subst, ◌∙◌, inl, inr, arith, set}
+use Rattle.std.specs.List.{list_all, list_any}
 use Rattle.lf_outcome.specs.declared.formula.Formula.{Formula}
-use Rattle.lf_outcome.specs.Truth.{reaches}
 use Rattle.lf_protocols.specs.declared.fact.Fact.{Fact}
 use Rattle.lf_sim.specs.Settings.{set_of, world_of}
 use Rattle.lf_residual.specs.declared.part.Part.{Part}
 use Rattle.lf_residual.specs.Parts.{IsWithin, all_parts, part_of, size_of}
-use Rattle.lf_residual.specs.Judging.{truths_of}
-use Rattle.lf_residual.proofs.Formulas.{part-Down, part-Shows, part-One}
+use Rattle.lf_residual.specs.Judging.{said, truths_of}
+use Rattle.lf_residual.proofs.Formulas.{part-Down, part-Shows}
 use Rattle.lf_residual.proofs.JudgedLemmas.{Judges, SoFar, all-more, any-more, judges-apart, judges-atom, judges-node, next-at, one-further}
-use Rattle.lf_residual.proofs.JudgedLemmas.{reaches-from_all, reaches-from_any, sizes-part, so_far-all, so_far-none}
+use Rattle.lf_residual.proofs.JudgedLemmas.{own-down, own-one, own-shows, said-from_over, truths-from_over}
+use Rattle.lf_residual.proofs.JudgedLemmas.{said-from_all, said-from_any, sizes-part, so_far-all, so_far-none}
 use Rattle.lf_residual.proofs.JudgedLemmas.{truths-from_all, truths-from_any, truths-from_down, truths-from_one, truths-from_shows}
 use Rattle.lf_residual.proofs.OutlineLemmas.{part-from}
 use Rattle.lf_residual.proofs.Places.{is-at, inner-at}
 use Rattle.lf_residual.proofs.judging.+judge_again.Goals as goal
 use Rattle.lf_residual.proofs.judging.+judge_again.Goals.{judge_all-then-all, judge_all-else-all, judge_any-then-any, judge_any-else-any}
-use Rattle.lf_residual.proofs.judging.+judge_again.Goals.{judge_touched-in-All, judge_touched-in-Any, judge_touched-in-Down, judge_touched-in-Shows, judge_touched-in-One}
+use Rattle.lf_residual.proofs.judging.+judge_again.Goals.{judge_touched-in-All, judge_touched-in-Any, judge_touched-in-Down}
+use Rattle.lf_residual.proofs.judging.+judge_again.Goals.{judge_touched-in-Shows, judge_touched-in-One, judge_touched-in-Over}
 
 pub judge_again-returns-else-touches : goal.judge_again-returns-else-touches
 judge_again-returns-else-touches t c =
@@ -30,7 +31,7 @@ judge_all-parts-init t c =
     let change = c.args.change.now in
     let w = world_of change.setting.now in
     let to = set_of change.run.now in
-    so_far-none w to change.changed.now.points (list_all (reaches w to)) change.parts.now c.args.parts.now c.args.first c.args.truths.now true refl
+    so_far-none w to change.changed.now.points (list_all (said w to)) change.parts.now c.args.parts.now c.args.first c.args.truths.now true refl
     c.requires.parts
 
 pub judge_all-judge_again-truth-requires : goal.judge_all-judge_again-truth-requires
@@ -47,7 +48,7 @@ judge_all-judge_again-truth-requires t c =
     let long = c.requires.truths in (
       omega (arith, small),
       (
-        next-at w to change.changed.now.points (list_all (reaches w to)) change.parts.now parts c.args.first c.args.truths.now l.part-index l.at l.all
+        next-at w to change.changed.now.points (list_all (said w to)) change.parts.now parts c.args.first c.args.truths.now l.part-index l.at l.all
             l.truths part c.parts-test.true c.part-item.is l.invariant,
         omega (arith, count, long),
       ),
@@ -60,7 +61,7 @@ judge_all-size_at-at-requires t c =
     let to = set_of change.run.now in
     let part = c.part-item.result in
     let l = c.parts in
-    (is-at part l.at change.parts.now (next-at w to change.changed.now.points (list_all (reaches w to)) change.parts.now c.args.parts.now c.args.first
+    (is-at part l.at change.parts.now (next-at w to change.changed.now.points (list_all (said w to)) change.parts.now c.args.parts.now c.args.first
     c.args.truths.now l.part-index l.at l.all l.truths part c.parts-test.true c.part-item.is l.invariant)).there
 
 pub judge_all-overflow_add-at : goal.judge_all-overflow_add-at
@@ -70,7 +71,7 @@ judge_all-overflow_add-at t c =
     let to = set_of change.run.now in
     let part = c.part-item.result in
     let l = c.parts in
-    let at = is-at part l.at change.parts.now (next-at w to change.changed.now.points (list_all (reaches w to)) change.parts.now c.args.parts.now
+    let at = is-at part l.at change.parts.now (next-at w to change.changed.now.points (list_all (said w to)) change.parts.now c.args.parts.now
     c.args.first c.args.truths.now l.part-index l.at l.all l.truths part c.parts-test.true c.part-item.is l.invariant) in
     let own : c.size_at-at.result ≡ size_of part = c.size_at-at.ensures (part_of part) ∙ ap (λ (p : Part). p.size) (at.is (part_of part)) in
     let fits = at.fits in
@@ -87,7 +88,7 @@ judge_all-parts-preserved t c =
     let part = c.part-item.result in
     let l = c.parts in
     let one = c.judge_again-truth.result in
-    let fold : List (Formula Fact) → Bool = list_all (reaches w to) in
+    let fold : List (Formula Fact) → Bool = list_all (said w to) in
     let at = is-at part l.at ps (next-at w to change.changed.now.points fold ps parts c.args.first old l.part-index l.at l.all l.truths part
     c.parts-test.true c.part-item.is l.invariant) in
     let own : size_of part ≡ c.size_at-at.result = sym (c.size_at-at.ensures (part_of part) ∙ ap (λ (p : Part). p.size) (at.is (part_of part))) in
@@ -106,7 +107,7 @@ judge_all-returns t c =
     let change = c.args.change.now in
     let w = world_of change.setting.now in
     let to = set_of change.run.now in
-    so_far-all w to change.changed.now.points (list_all (reaches w to)) change.parts.now c.args.parts.now c.args.first c.args.truths.now
+    so_far-all w to change.changed.now.points (list_all (said w to)) change.parts.now c.args.parts.now c.args.first c.args.truths.now
     c.parts.part-index c.parts.at c.parts.all c.parts.truths c.parts-test.false c.parts.invariant
 
 pub judge_any-parts-init : goal.judge_any-parts-init
@@ -114,7 +115,7 @@ judge_any-parts-init t c =
     let change = c.args.change.now in
     let w = world_of change.setting.now in
     let to = set_of change.run.now in
-    so_far-none w to change.changed.now.points (list_any (reaches w to)) change.parts.now c.args.parts.now c.args.first c.args.truths.now false refl
+    so_far-none w to change.changed.now.points (list_any (said w to)) change.parts.now c.args.parts.now c.args.first c.args.truths.now false refl
     c.requires.parts
 
 pub judge_any-judge_again-truth-requires : goal.judge_any-judge_again-truth-requires
@@ -131,7 +132,7 @@ judge_any-judge_again-truth-requires t c =
     let long = c.requires.truths in (
       omega (arith, small),
       (
-        next-at w to change.changed.now.points (list_any (reaches w to)) change.parts.now parts c.args.first c.args.truths.now l.part-index l.at l.any
+        next-at w to change.changed.now.points (list_any (said w to)) change.parts.now parts c.args.first c.args.truths.now l.part-index l.at l.any
             l.truths part c.parts-test.true c.part-item.is l.invariant,
         omega (arith, count, long),
       ),
@@ -144,7 +145,7 @@ judge_any-size_at-at-requires t c =
     let to = set_of change.run.now in
     let part = c.part-item.result in
     let l = c.parts in
-    (is-at part l.at change.parts.now (next-at w to change.changed.now.points (list_any (reaches w to)) change.parts.now c.args.parts.now c.args.first
+    (is-at part l.at change.parts.now (next-at w to change.changed.now.points (list_any (said w to)) change.parts.now c.args.parts.now c.args.first
     c.args.truths.now l.part-index l.at l.any l.truths part c.parts-test.true c.part-item.is l.invariant)).there
 
 pub judge_any-overflow_add-at : goal.judge_any-overflow_add-at
@@ -154,7 +155,7 @@ judge_any-overflow_add-at t c =
     let to = set_of change.run.now in
     let part = c.part-item.result in
     let l = c.parts in
-    let at = is-at part l.at change.parts.now (next-at w to change.changed.now.points (list_any (reaches w to)) change.parts.now c.args.parts.now
+    let at = is-at part l.at change.parts.now (next-at w to change.changed.now.points (list_any (said w to)) change.parts.now c.args.parts.now
     c.args.first c.args.truths.now l.part-index l.at l.any l.truths part c.parts-test.true c.part-item.is l.invariant) in
     let own : c.size_at-at.result ≡ size_of part = c.size_at-at.ensures (part_of part) ∙ ap (λ (p : Part). p.size) (at.is (part_of part)) in
     let fits = at.fits in
@@ -171,7 +172,7 @@ judge_any-parts-preserved t c =
     let part = c.part-item.result in
     let l = c.parts in
     let one = c.judge_again-truth.result in
-    let fold : List (Formula Fact) → Bool = list_any (reaches w to) in
+    let fold : List (Formula Fact) → Bool = list_any (said w to) in
     let at = is-at part l.at ps (next-at w to change.changed.now.points fold ps parts c.args.first old l.part-index l.at l.any l.truths part
     c.parts-test.true c.part-item.is l.invariant) in
     let own : size_of part ≡ c.size_at-at.result = sym (c.size_at-at.ensures (part_of part) ∙ ap (λ (p : Part). p.size) (at.is (part_of part))) in
@@ -190,7 +191,7 @@ judge_any-returns t c =
     let change = c.args.change.now in
     let w = world_of change.setting.now in
     let to = set_of change.run.now in
-    so_far-all w to change.changed.now.points (list_any (reaches w to)) change.parts.now c.args.parts.now c.args.first c.args.truths.now
+    so_far-all w to change.changed.now.points (list_any (said w to)) change.parts.now c.args.parts.now c.args.first c.args.truths.now
     c.parts.part-index c.parts.at c.parts.any c.parts.truths c.parts-test.false c.parts.invariant
 
 pub judge_touched-judge_all-truth-requires : goal.judge_touched-judge_all-truth-requires
@@ -248,24 +249,24 @@ judge_touched-returns t c =
     let at = c.args.at in
     let old = c.args.truths.now in
     let m = c.match-formula in
-    let Now : Bool → List Bool → Type 0 = λ b bs. Judges w to marked at b (reaches w to f) (λ faults. truths_of w faults f) old (set bs at b) in
+    let Now : Bool → List Bool → Type 0 = λ b bs. Judges w to marked at b (said w to f) (λ faults. truths_of w faults f) old (set bs at b) in
     elim m.branch [
       | judge_touched-in-All x ↦
           let xs = x.as_slice.result.now in
           let new = x.judge_all-truth.new.truths in
           let b = x.judge_all-truth.result in
           subst (λ d. Now d m.truths) (sym x.truth-is) (subst (Now b) (sym x.truths-is)
-          (judges-node w to marked f xs at b (list_all (reaches w to) xs) old new
+          (judges-node w to marked f xs at b (list_all (said w to) xs) old new
           (λ faults. truths-from_all w faults f x.in-All.parts xs x.in-All.is x.as_slice.ensures)
-          (reaches-from_all w to f x.in-All.parts xs x.in-All.is x.as_slice.ensures) x.judge_all-truth.ensures))
+          (said-from_all w to f x.in-All.parts xs x.in-All.is x.as_slice.ensures) x.judge_all-truth.ensures))
       | judge_touched-in-Any x ↦
           let xs = x.as_slice-in-Any.result.now in
           let new = x.judge_any-truth.new.truths in
           let b = x.judge_any-truth.result in
           subst (λ d. Now d m.truths) (sym x.truth-is) (subst (Now b) (sym x.truths-is)
-          (judges-node w to marked f xs at b (list_any (reaches w to) xs) old new
+          (judges-node w to marked f xs at b (list_any (said w to) xs) old new
           (λ faults. truths-from_any w faults f x.in-Any.parts xs x.in-Any.is x.as_slice-in-Any.ensures)
-          (reaches-from_any w to f x.in-Any.parts xs x.in-Any.is x.as_slice-in-Any.ensures) x.judge_any-truth.ensures))
+          (said-from_any w to f x.in-Any.parts xs x.in-Any.is x.as_slice-in-Any.ensures) x.judge_any-truth.ensures))
       | judge_touched-in-Down x ↦
           let b = x.judge_atom-truth.result in
           subst (λ d. Now d m.truths) (sym x.truth-is) (subst (Now b) (sym x.truths-is)
@@ -280,13 +281,23 @@ judge_touched-returns t c =
           let b = x.holds-truth.result in
           subst (λ d. Now d m.truths) (sym x.truth-is) (subst (Now b) (sym x.truths-is)
           (judges-atom w to marked f at b false old
-          (λ faults. truths-from_one w faults f x.in-One.nodes x.in-One.last x.in-One.topic x.in-One.is) (λ from same was. x.holds-truth.ensures)))
+          (λ faults. truths-from_one w faults f x.in-One.nodes x.in-One.last x.in-One.topic x.in-One.is) (λ from same was.
+          x.holds-truth.ensures ∙ ap (said w to) (own-one f x.in-One.nodes x.in-One.last x.in-One.topic x.in-One.is))))
+      | judge_touched-in-Over x ↦
+          subst (λ d. Now d m.truths) (sym x.truth-is) (subst (Now false) (sym x.truths-is)
+          (judges-atom w to marked f at false false old
+          (λ faults. truths-from_over w faults f x.in-Over.every x.in-Over.first x.in-Over.last x.in-Over.parts x.in-Over.is)
+          (λ from same was. sym (said-from_over w to f x.in-Over.every x.in-Over.first x.in-Over.last x.in-Over.parts x.in-Over.is))))
     ]
 
 pub judge_touched-judge_atom-truth-requires : goal.judge_touched-judge_atom-truth-requires
-judge_touched-judge_atom-truth-requires t c =
-    ap (λ g. (part_of g).scope) c.in-Down.is ∙ ap (λ (p : Part). p.scope) (part-Down c.in-Down.node c.in-Down.step)
+judge_touched-judge_atom-truth-requires t c = record {
+  scope = ap (λ g. (part_of g).scope) c.in-Down.is ∙ ap (λ (p : Part). p.scope) (part-Down c.in-Down.node c.in-Down.step);
+  plain = own-down c.args.formula.now c.in-Down.node c.in-Down.step c.in-Down.is;
+}
 
 pub judge_touched-judge_atom-truth-requires-in-Shows : goal.judge_touched-judge_atom-truth-requires-in-Shows
-judge_touched-judge_atom-truth-requires-in-Shows t c =
-    ap (λ g. (part_of g).scope) c.in-Shows.is ∙ ap (λ (p : Part). p.scope) (part-Shows c.in-Shows.node c.in-Shows.step c.in-Shows.fact)
+judge_touched-judge_atom-truth-requires-in-Shows t c = record {
+  scope = ap (λ g. (part_of g).scope) c.in-Shows.is ∙ ap (λ (p : Part). p.scope) (part-Shows c.in-Shows.node c.in-Shows.step c.in-Shows.fact);
+  plain = own-shows c.args.formula.now c.in-Shows.node c.in-Shows.step c.in-Shows.fact c.in-Shows.is;
+}

@@ -1,16 +1,15 @@
-use Rattle.std.proofs.Common.{◌≡◌, ◌+◌, ◌<◌, ◌≤◌, ◌++◌, false, List, take, refl, sym, ap, subst, ◌∙◌, inl, inr, arith}
+use Rattle.std.proofs.Common.{◌≡◌, ◌+◌, ◌≤◌, ◌++◌, false, sym, ap, subst, ◌∙◌, inl, inr, arith}
 use Rattle.std.specs.Prelude.{OnOk}
 use Rattle.std.specs.List.{flat_map}
 use Rattle.std.proofs.lemmas.List.{append-nil, take_all}
 use Rattle.lf_sim.specs.Settings.{set_of, world_of}
-use Rattle.lf_outcome.specs.Truth.{reaches}
 use Rattle.lf_residual.specs.declared.part.Part.{Part}
 use Rattle.lf_residual.specs.Parts.{all_parts, part_of, size_of}
 use Rattle.lf_residual.proofs.JudgedLemmas.{sizes-part, truths-from_all, truths-from_any}
 use Rattle.lf_residual.proofs.OutlineLemmas.{part-from}
 use Rattle.lf_residual.proofs.Places.{is-at, inner-at}
 use Rattle.lf_residual.proofs.RestingLemmas.{Walk, all-grounds, all-true, first-later, first-none, first-now, grounds-more, ground_of}
-use Rattle.lf_residual.proofs.RestingLemmas.{ground-all, ground-any, ground-down, ground-one, ground-shows, inner-truths}
+use Rattle.lf_residual.proofs.RestingLemmas.{ground-all, ground-any, ground-down, ground-one, ground-over, ground-shows, inner-truths}
 use Rattle.lf_residual.proofs.RestingLemmas.{next-parts, next-truths, next-walk, one-true, truth-here, truth-inside}
 use Rattle.lf_residual.proofs.resting.+put_points.Goals as goal
 
@@ -247,3 +246,10 @@ put_points-returns-in-One t c =
     subst (λ ps. OnOk c.push_up.result (c.push_up.new.points.items ≡ c.args.points.now.items ++ ps))
     (sym (ground-one (world_of ground.setting.now) (set_of ground.run.now) c.args.formula.now c.in-One.nodes c.in-One.last _ c.in-One.is c.requires.holds))
     c.push_up.ensures
+
+pub put_points-returns-in-Over : goal.put_points-returns-in-Over
+put_points-returns-in-Over t c =
+    let ground = c.args.ground.now in
+    let old = c.args.points.now.items in
+    sym (append-nil old)
+    ∙ ap (λ ps. old ++ ps) (sym (ground-over (world_of ground.setting.now) (set_of ground.run.now) c.args.formula.now _ _ _ _ c.in-Over.is))

@@ -1,7 +1,8 @@
 use Rattle.std.proofs.Common.{◌≡◌, ◌+◌, ◌*◌, ◌++◌, take, drop, map}
 use Rattle.std.specs.List.{flat_map}
-use Rattle.lf_outcome.specs.Evidence.{evidence_of, first_of}
+use Rattle.lf_outcome.specs.Evidence.{first_of}
 use Rattle.lf_sim.specs.Settings.{set_of, world_of}
+use Rattle.lf_residual.specs.Judging.{points_for}
 use Rattle.lf_residual.specs.Parts.{all_parts, part_of, size_of}
 use Rattle.lf_residual.proofs.RestingLemmas.{Walk, ground_of}
 use Rattle.lf_residual.proofs.resting.+put_points.Given as goal
@@ -28,6 +29,6 @@ abbrev pub invariant-put_first-parts : goal.invariant-put_first-parts
 invariant-put_first-parts l = record {
   walk : Walk (world_of l.ground.setting.now) (set_of l.ground.run.now) l.ground.parts.now l.ground.truths.now l.parts l.part-index l.at;
   put : l.points.items ≡ l.initial.points.items;
-  later : first_of (map (evidence_of (world_of l.ground.setting.now) (set_of l.ground.run.now)) l.parts)
-      ≡ first_of (map (evidence_of (world_of l.ground.setting.now) (set_of l.ground.run.now)) (drop l.part-index l.parts));
+  later : first_of (map (points_for (world_of l.ground.setting.now) (set_of l.ground.run.now)) l.parts)
+      ≡ first_of (map (points_for (world_of l.ground.setting.now) (set_of l.ground.run.now)) (drop l.part-index l.parts));
 }

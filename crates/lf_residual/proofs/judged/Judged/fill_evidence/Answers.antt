@@ -13,27 +13,37 @@ pub returns-then-not-holds-clause-value : goal.returns-then-not-holds-clause-val
 returns-then-not-holds-clause-value c =
     let w = world_of c.args.setting.now in
     let faults = set_of c.args.run.now in
-    let f = c.args.formula.now in
-    sym (rests-none w faults f (sym (c.holds.ensures w faults f c.requires.judged) ∙ c.if-not-holds.true))
+    let judged = c.requires.judged in
+    let holds = c.holds.ensures w faults c.args.formula.now judged in
+    sym (sym (judged.rests faults) ∙ rests-none w faults c.args.self.now.formula (judged.says faults ∙ sym holds ∙ c.if-not-holds.true))
 
 pub put_points-requires-clause-parts : goal.put_points-requires-clause-parts
 put_points-requires-clause-parts c =
-    all-listed c.args.formula.now c.as_slice.result.now (c.as_slice.ensures.value ∙ c.requires.judged.parts)
+    all-listed c.args.self.now.formula c.as_slice.result.now (c.as_slice.ensures.value ∙ c.requires.judged.parts)
 
 pub put_points-requires-clause-truths : goal.put_points-requires-clause-truths
 put_points-requires-clause-truths c =
-    all-truths (world_of c.args.setting.now) (set_of c.args.run.now) c.args.formula.now c.as_slice-2.result.now
+    all-truths (world_of c.args.setting.now) (set_of c.args.run.now) c.args.self.now.formula c.as_slice-2.result.now
     (c.as_slice-2.ensures.value ∙ c.requires.judged.truths)
+
+pub put_points-requires-clause-holds : goal.put_points-requires-clause-holds
+put_points-requires-clause-holds c =
+    let w = world_of c.args.setting.now in
+    let faults = set_of c.args.run.now in
+    let judged = c.requires.judged in
+    judged.says faults ∙ sym (c.holds.ensures w faults c.args.formula.now judged) ∙ c.if-not-holds.false
 
 pub returns-clause-value : goal.returns-clause-value
 returns-clause-value c =
     let w = world_of c.args.setting.now in
     let faults = set_of c.args.run.now in
     let f = c.args.formula.now in
+    let own = c.args.self.now.formula in
+    let judged = c.requires.judged in
     let items : List Point = c.put_points.new.points.items in
-    let put : items ≡ ground_of w faults f = c.in_ok-put_points.ensures ∙ ap (λ ps. ps ++ ground_of w faults f) c.clear.ensures.items in
-    let is : evidence_of w faults f ≡ Some items =
-    rests-some w faults f (sym (c.holds.ensures w faults f c.requires.judged) ∙ c.if-not-holds.false) ∙ ap Some (sym put) in
+    let put : items ≡ ground_of w faults own = c.in_ok-put_points.ensures ∙ ap (λ ps. ps ++ ground_of w faults own) c.clear.ensures.items in
+    let true_there = judged.says faults ∙ sym (c.holds.ensures w faults f judged) ∙ c.if-not-holds.false in
+    let is : evidence_of w faults f ≡ Some items = sym (judged.rests faults) ∙ rests-some w faults own true_there ∙ ap Some (sym put) in
     sym is
 
 pub returns-clause-points : goal.returns-clause-points
@@ -41,10 +51,12 @@ returns-clause-points c = λ found.
     let w = world_of c.args.setting.now in
     let faults = set_of c.args.run.now in
     let f = c.args.formula.now in
+    let own = c.args.self.now.formula in
+    let judged = c.requires.judged in
     let items : List Point = c.put_points.new.points.items in
-    let put : items ≡ ground_of w faults f = c.in_ok-put_points.ensures ∙ ap (λ ps. ps ++ ground_of w faults f) c.clear.ensures.items in
-    let is : evidence_of w faults f ≡ Some items =
-    rests-some w faults f (sym (c.holds.ensures w faults f c.requires.judged) ∙ c.if-not-holds.false) ∙ ap Some (sym put) in
+    let put : items ≡ ground_of w faults own = c.in_ok-put_points.ensures ∙ ap (λ ps. ps ++ ground_of w faults own) c.clear.ensures.items in
+    let true_there = judged.says faults ∙ sym (c.holds.ensures w faults f judged) ∙ c.if-not-holds.false in
+    let is : evidence_of w faults f ≡ Some items = sym (judged.rests faults) ∙ rests-some w faults own true_there ∙ ap Some (sym put) in
     evidence-points w faults f items is
 
 pub returns-clause-up : goal.returns-clause-up
@@ -52,10 +64,12 @@ returns-clause-up c = λ found.
     let w = world_of c.args.setting.now in
     let faults = set_of c.args.run.now in
     let f = c.args.formula.now in
+    let own = c.args.self.now.formula in
+    let judged = c.requires.judged in
     let items : List Point = c.put_points.new.points.items in
-    let put : items ≡ ground_of w faults f = c.in_ok-put_points.ensures ∙ ap (λ ps. ps ++ ground_of w faults f) c.clear.ensures.items in
-    let is : evidence_of w faults f ≡ Some items =
-    rests-some w faults f (sym (c.holds.ensures w faults f c.requires.judged) ∙ c.if-not-holds.false) ∙ ap Some (sym put) in
+    let put : items ≡ ground_of w faults own = c.in_ok-put_points.ensures ∙ ap (λ ps. ps ++ ground_of w faults own) c.clear.ensures.items in
+    let true_there = judged.says faults ∙ sym (c.holds.ensures w faults f judged) ∙ c.if-not-holds.false in
+    let is : evidence_of w faults f ≡ Some items = sym (judged.rests faults) ∙ rests-some w faults own true_there ∙ ap Some (sym put) in
     evidence-up w faults f items is
 
 pub returns-clause-suffices : goal.returns-clause-suffices
@@ -63,8 +77,10 @@ returns-clause-suffices c = λ found.
     let w = world_of c.args.setting.now in
     let faults = set_of c.args.run.now in
     let f = c.args.formula.now in
+    let own = c.args.self.now.formula in
+    let judged = c.requires.judged in
     let items : List Point = c.put_points.new.points.items in
-    let put : items ≡ ground_of w faults f = c.in_ok-put_points.ensures ∙ ap (λ ps. ps ++ ground_of w faults f) c.clear.ensures.items in
-    let is : evidence_of w faults f ≡ Some items =
-    rests-some w faults f (sym (c.holds.ensures w faults f c.requires.judged) ∙ c.if-not-holds.false) ∙ ap Some (sym put) in
+    let put : items ≡ ground_of w faults own = c.in_ok-put_points.ensures ∙ ap (λ ps. ps ++ ground_of w faults own) c.clear.ensures.items in
+    let true_there = judged.says faults ∙ sym (c.holds.ensures w faults f judged) ∙ c.if-not-holds.false in
+    let is : evidence_of w faults f ≡ Some items = sym (judged.rests faults) ∙ rests-some w faults own true_there ∙ ap Some (sym put) in
     evidence-suffices w faults f items is
