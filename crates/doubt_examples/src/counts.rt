@@ -1,0 +1,59 @@
+//! In how many runs the rules of a small protocol are taken.
+
+use crate::asking::asking;
+use lf_faults::{FaultSet, FaultSpec};
+use lf_latency::{Links, Network};
+use lf_protocols::Protocol;
+use lf_sim::Setting;
+use lf_stakes::{rules_taken, single_sets};
+use std::alloc::Global;
+
+/// A protocol of two nodes up to step 3, whose notes arrive at the next step, with omissions up to step 2, one crash and no pause.
+fn setting(protocol: Option<Protocol>) -> Option<Setting<Protocol>> {
+    let network = Network::new([0; 32], Links::new(2, 1, 1), 2, 3);
+    Setting::new(protocol?, network, FaultSpec::new(2, 3, 2, 1, 2)?)
+}
+
+/// Whether the counts over these sets are those wanted.
+fn counts(alloc: Global, setting: &Setting<Protocol>, sets: &[FaultSet], wanted: &[usize]) -> bool {
+    match rules_taken(alloc, setting, sets) {
+        Ok(counts) => counts.as_slice() == wanted,
+        Err(_) => false,
+    }
+}
+
+/// Whether the counts over so many single sets are those wanted.
+fn single_counts(alloc: Global, protocol: Option<Protocol>, runs: usize, wanted: &[usize]) -> bool {
+    let Some(setting) = setting(protocol) else {
+        return false;
+    };
+    match single_sets(alloc, &setting.spec) {
+        Ok(sets) => sets.len() == runs && counts(alloc, &setting, sets.as_slice(), wanted),
+        Err(_) => false,
+    }
+}
+
+// Of 11 runs, node 0 sends in all but that in which it crashes at step 1. Node 1 hears no note where node 0 does so, or where it crashes itself at step 1 or 2:
+// a note that is lost is followed by another.
+#[test]
+fn each_run_counts_once(rt: HostRuntime) {
+    assert!(rt; single_counts(rt.alloc(), asking(rt.alloc()), 11, &[10, 0, 8]));
+}
+
+#[test]
+fn a_set_that_is_given_twice_counts_twice(rt: HostRuntime) {
+    let twice = [FaultSet::empty(), FaultSet::empty()];
+    let holds = match setting(asking(rt.alloc())) {
+        Some(setting) => {
+            counts(rt.alloc(), &setting, &twice, &[2, 0, 2])
+                && counts(rt.alloc(), &setting, &[], &[0, 0, 0])
+        }
+        None => false,
+    };
+    assert!(rt; holds);
+}
+
+#[test]
+fn a_protocol_that_is_not_one_of_rules_has_no_count(rt: HostRuntime) {
+    assert!(rt; single_counts(rt.alloc(), Protocol::retry(2, 1), 11, &[]));
+}

@@ -1,0 +1,5 @@
+mod PlacesLemmas
+mod ChangesLemmas
+mod FormedLemmas
+mod ListsLemmas
+pub mod Laws

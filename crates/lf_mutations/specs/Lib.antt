@@ -1,0 +1,3 @@
+pub mod Mutations
+pub mod Places
+pub mod Changes

@@ -1,0 +1,7 @@
+mod CountsLemmas
+pub mod Laws
+mod OrdersLemmas
+mod RulesLemmas
+mod RangesLemmas
+mod SinglesLemmas
+mod TakenLemmas
