@@ -1,11 +1,11 @@
-//! In how many runs the rules of a small protocol are taken.
+//! In how many runs the rules of a small protocol are taken, and its nodes enter something under its topics.
 
 use crate::asking::asking;
 use lf_faults::{FaultSet, FaultSpec};
 use lf_latency::{Links, Network};
 use lf_protocols::Protocol;
 use lf_sim::Setting;
-use lf_stakes::{rules_taken, single_sets};
+use lf_stakes::{rules_taken, single_sets, times_entered};
 use std::alloc::Global;
 
 /// A protocol of two nodes up to step 3, whose notes arrive at the next step, with omissions up to step 2, one crash and no pause.
@@ -56,4 +56,21 @@ fn a_set_that_is_given_twice_counts_twice(rt: HostRuntime) {
 #[test]
 fn a_protocol_that_is_not_one_of_rules_has_no_count(rt: HostRuntime) {
     assert!(rt; single_counts(rt.alloc(), Protocol::retry(2, 1), 11, &[]));
+}
+
+/// In how many of the runs of the single sets something is entered under a topic. None where memory has run out.
+fn single_entered(alloc: Global, topic: u8) -> Option<usize> {
+    let setting = setting(asking(alloc))?;
+    let sets = single_sets(alloc, &setting.spec).ok()?;
+    times_entered(alloc, &setting, sets.as_slice(), topic).ok()
+}
+
+// Under topic 0 each node enters something, under topic 1 node 1 where it has heard a note, as it does by rule 3, and under topic 2 none. There is no topic 3.
+#[test]
+fn each_run_counts_for_a_topic(rt: HostRuntime) {
+    let alloc = rt.alloc();
+    let each = single_entered(alloc, 0) == Some(11);
+    let heard = single_entered(alloc, 1) == Some(8);
+    let none = single_entered(alloc, 2) == Some(0) && single_entered(alloc, 3) == Some(0);
+    assert!(rt; each && heard && none);
 }

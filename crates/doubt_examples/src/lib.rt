@@ -1,4 +1,5 @@
-//! Worked examples of what an answer hangs on: the sets of small bounds, and the runs in which the rules of small protocols are taken.
+//! Worked examples of what an answer hangs on: the sets of small bounds, and the runs in which the rules of small protocols are taken, something is entered
+//! under their topics, and outcomes are reached.
 #![tactic(auto)]
 
 #[cfg(test)]
@@ -7,5 +8,7 @@ mod asking;
 mod counts;
 #[cfg(test)]
 mod mutations;
+#[cfg(test)]
+mod reached;
 #[cfg(test)]
 mod sets;

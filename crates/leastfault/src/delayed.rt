@@ -85,7 +85,7 @@ pub(crate) fn answer_asked<V: Watch>(
 /// The reply that tells the answer over every delay to a scenario's text: the fewest faults that, with some delays of notes, defeat the
 /// outcome, and behind them which notes come late; or that no allowed faults do, whatever each note takes between its least delay and
 /// its spread beyond that.
-pub(crate) fn every_delay_reply<V: Watch>(
+pub fn every_delay_reply<V: Watch>(
     alloc: Global,
     known: Option<&ProtocolFile>,
     text: &[u8],

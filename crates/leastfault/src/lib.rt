@@ -37,6 +37,7 @@ pub use answer::plain_answer;
 pub use answering::{Wanted, answer_reply, search_reply};
 pub use commands::{Executed, execute};
 pub use delay_laws::{every_delay_replies_are_one, every_delay_replies_replay};
+pub use delayed::every_delay_reply;
 pub use engine::{
     all_bytes, all_shared, check_bytes, check_bytes_rows, run_bytes, search_bytes, search_shared,
 };

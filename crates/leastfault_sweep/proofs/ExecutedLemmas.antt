@@ -22,9 +22,8 @@ use Rattle.lf_sweep.specs.declared.fault.SweepFault.{SweepFault}
 use Rattle.lf_sweep.specs.declared.fault.SweepFault.TheVariants as faults
 use Rattle.lf_sweep.specs.declared.marks.Marks.{Marks}
 use Rattle.lf_sweep.specs.Counts.{Told}
-use Rattle.lf_sweep.specs.Faults.{HasCause, HasNoRow, fault_of}
-use Rattle.lf_sweep.specs.Rows.{AreLines}
-use Rattle.lf_sweep.specs.Sweeps.{WasSwept}
+use Rattle.lf_sweep.specs.Faults.{fault_of}
+use Rattle.lf_sweep.specs.Studies.{AreLines, HasCause, HasNoRow, WasSwept}
 use Rattle.lf_protocol_file.specs.declared.declared.Declared.{Declared}
 use Rattle.leastfault.specs.declared.fault.BytesFault.{BytesFault}
 use Rattle.leastfault.specs.declared.fault.BytesFault.TheVariants as bytes
@@ -173,7 +172,7 @@ module _ {W : Type 0} (written : W → Option (List ℕ)) (has_failed : W → Bo
       → Appends (written old) (written new) (take n shown) → Appends (written old) (written new) []
   nothing_by [] shown n old new none lines put =
       subst (Appends (written old) (written new)) (ap (take n) lines.together ∙ take_nothing n) put
-  nothing_by (t ∷ ts) shown n old new none lines put = absurd (none lines.rows.0.asked.members lines.rows.0.asked.held)
+  nothing_by (t ∷ ts) shown n old new none lines put = absurd (none lines.rows.0.replied.asked.members lines.rows.0.replied.asked.held)
 
   pub no_document : (old new : W) (r : Result Counts SweepFault) (line : String Global) → IsReadable protocol → length text ≤ longest
       → Swept old new r → r ≡ Err faults.NoDocument → string_bytes line ≡ refusal scenarios.NoDocument → Comes old new (Ok (ended.Refused line))

@@ -13,7 +13,8 @@ use Rattle.lf_sweep.specs.Parts.{IsLengthOf, number_at}
 use Rattle.lf_sweep.specs.Texts.{IsScenario, IsTextWith, with_words}
 use Rattle.lf_sweep.specs.declared.counts.Counts.{Counts}
 use Rattle.lf_sweep.specs.Counts.{Told, counts_of}
-use Rattle.lf_sweep.specs.Rows.{AreReplies, AreToldAt, IsReplyAt, told_lines}
+use Rattle.lf_sweep.specs.Rows.{told_lines}
+use Rattle.lf_sweep.specs.Studies.{AreReplies, IsReplyTo, told_line}
 use Rattle.lf_protocol_file.specs.declared.declared.Declared.{Declared}
 use Rattle.leastfault.specs.Replies.{HasOneReply, IsAnswerReply, IsSearchReply}
 use Rattle.lf_sweep_words.specs.declared.types.By.{By}
@@ -66,7 +67,7 @@ module _ (answer : (known : Option Declared) (text : List ℕ) → HasOneReply (
   module _ (protocol : Option (List ℕ)) (by : By) (scenario : List ℕ) (vs : List Varied) (part : Part)
       (texts : (number : ℕ) (one other : List ℕ) → IsTextWith scenario vs (words_at vs number) one → IsTextWith scenario vs (words_at vs number) other
       → one ≡ other) where
-    told_once : (number : ℕ) (t u : Told) → IsReplyAt (RepliesBy protocol by) scenario vs number t → IsReplyAt (RepliesBy protocol by) scenario vs number u
+    told_once : (number : ℕ) (t u : Told) → IsReplyTo (RepliesBy protocol by) scenario vs number t → IsReplyTo (RepliesBy protocol by) scenario vs number u
         → t ≡ u
     told_once number t u a b =
         let same = texts number b.text a.text b.asked a.asked in
@@ -79,7 +80,7 @@ module _ (answer : (known : Option Declared) (text : List ℕ) → HasOneReply (
     all_once place [] (u ∷ us) many a b = absurd (omega (arith, many))
     all_once place (t ∷ ts) [] many a b = absurd (omega (arith, many))
     all_once place (t ∷ ts) (u ∷ us) many a b =
-        ap (λ x. x ∷ ts) (told_once (number_at part place) t u a.0 b.0)
+        ap (λ x. x ∷ ts) (told_once (number_at part place) t u a.0.replied b.0.replied)
         ∙ ap (λ l. u ∷ l) (all_once (place + 1) ts us (omega (arith, many)) a.1 b.1)
 
     pub sweep_once : (one other : List ℕ) (counts more : Counts) → IsSweep protocol by scenario vs part one counts
@@ -89,4 +90,4 @@ module _ (answer : (known : Option Declared) (text : List ℕ) → HasOneReply (
         let y = b.2 in
         let many = x.2 ∙ length_once part (combinations vs) a.0 b.0 a.1 b.1 ∙ sym y.2 in
         let same = all_once 0 x.0 y.0 many x.1.rows y.1.rows in
-        (x.1.together ∙ ap (told_lines vs part 0) same ∙ sym y.1.together, x.3 ∙ ap counts_of same ∙ sym y.3)
+        (x.1.together ∙ ap (told_lines (told_line vs) part 0) same ∙ sym y.1.together, x.3 ∙ ap counts_of same ∙ sym y.3)

@@ -13,7 +13,7 @@ use Rattle.lf_scenario.specs.declared.error.ScenarioError.TheVariants as scenari
 use Rattle.lf_sweep.specs.Combinations.{combinations, words_at}
 use Rattle.lf_sweep.specs.Texts.{IsScenario, with_words}
 use Rattle.lf_sweep.specs.Counts.{status_of}
-use Rattle.lf_sweep.specs.Sweeps.{WasBegun}
+use Rattle.lf_sweep.specs.Studies.{WasBegun}
 use Rattle.lf_protocol_file.specs.declared.declared.Declared.{Declared}
 use Rattle.leastfault.specs.declared.fault.BytesFault.{BytesFault}
 use Rattle.leastfault.specs.declared.fault.BytesFault.TheVariants as faults

@@ -9,7 +9,7 @@ use Rattle.lf_sweep.specs.declared.part.Part.{Part}
 use Rattle.lf_sweep.specs.declared.varied.Varied.{Varied}
 use Rattle.lf_sweep.specs.Combinations.{combinations}
 use Rattle.lf_sweep.specs.Parts.{IsLengthOf}
-use Rattle.lf_sweep.specs.Rows.{AreToldAt}
+use Rattle.lf_sweep.specs.Studies.{AreToldAt}
 use Rattle.lf_sweep.specs.declared.counts.Counts.{Counts}
 use Rattle.lf_sweep.specs.declared.fault.SweepFault.{SweepFault}
 use Rattle.lf_sweep.specs.declared.fault.SweepFault.TheVariants as faults

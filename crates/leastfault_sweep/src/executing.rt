@@ -2,7 +2,7 @@
 
 ghost use Rattle.std.specs.Prelude.{◌≡◌, ◌≢◌, false, option_map, string_bytes, IfOk};
 ghost use Rattle.leastfault.specs.Protocols.{protocol_refusal};
-ghost use Rattle.lf_sweep.specs.Sweeps.{WasSwept};
+ghost use Rattle.lf_sweep.specs.Studies.{WasSwept};
 ghost use Rattle.leastfault_sweep.specs.Executed.{IsExecuted, IsPastProtocol, IsSweptOrNot, end_status};
 ghost use Rattle.leastfault_sweep.specs.Replies.{RefusesBy, RepliesBy, text_of};
 

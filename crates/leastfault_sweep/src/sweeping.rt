@@ -1,12 +1,12 @@
 //! Sweeps, by one worker and by several.
 
 ghost use Rattle.std.specs.Prelude.{◌≡◌, ◌≤◌, false};
-ghost use Rattle.lf_sweep.specs.Sweeps.{WasSwept};
+ghost use Rattle.lf_sweep.specs.Studies.{WasSwept};
 ghost use Rattle.leastfault_sweep.specs.Replies.{RefusesBy, RepliesBy, text_of};
 
 use crate::asking::Reading;
 use lf_streams::Sink;
-use lf_sweep::{Counts, Marks, Part, Study, SweepFault};
+use lf_sweep::{Combinations, Counts, Marks, Part, Study, SweepFault};
 use lf_sweep_words::By;
 use std::alloc::Global;
 use std::thread::Threads;
@@ -32,7 +32,11 @@ pub fn sweep<W: Sink>(
         study.now.plan.now.varied.items part writer.old writer.new result }
 {
     let asker = Reading { protocol, by };
-    lf_sweep::sweep(alloc, &asker, study, part, writer, marks)
+    let questions = Combinations {
+        asker: &asker,
+        study: *study,
+    };
+    lf_sweep::sweep(alloc, &questions, part, writer, marks)
 }
 
 /// The same as `sweep`, by so many workers at once, 1 at least: the bytes are the same.
@@ -53,5 +57,9 @@ pub fn sweep_shared<R: Threads + Sync, W: Sink>(
         study.now.plan.now.varied.items part writer.old writer.new result }
 {
     let asker = Reading { protocol, by };
-    lf_sweep::sweep_shared(rt, alloc, &asker, study, part, workers, writer, marks)
+    let questions = Combinations {
+        asker: &asker,
+        study: *study,
+    };
+    lf_sweep::sweep_shared(rt, alloc, &questions, part, workers, writer, marks)
 }

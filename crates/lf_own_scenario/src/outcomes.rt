@@ -61,9 +61,10 @@ fn text_refusal(fault: TextError) -> ScenarioError
     }
 }
 
-/// The promise that a text is in a scenario with these constants.
+/// The promise that the text of an outcome is in a scenario with these constants, where it is no outcome's name, or why it is none. The refusal `Memory`
+/// comes only where memory has run out.
 #[tactic(auto, unfolding(crate::specs::Outcomes::promise_in))]
-fn promise_in(
+pub fn promise_in(
     alloc: Global,
     file: &ProtocolFile,
     given: &[Given],

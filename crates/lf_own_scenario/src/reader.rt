@@ -46,9 +46,11 @@ pub fn read_with(alloc: Global, text: &[u8], file: &ProtocolFile) -> Result<Scen
 }
 
 /// What a scenario says but its outcome and its links, with the constants.
-struct Chosen {
-    described: Described,
-    given: Vec<Given>,
+#[derive(Debug, Drop)]
+pub struct Chosen {
+    pub described: Described,
+    /// The value of each of the protocol's constants, in order.
+    pub given: Vec<Given>,
 }
 
 /// The scenario of a table.
@@ -103,9 +105,9 @@ fn with_topics(alloc: Global, protocol: Protocol, topics: Topics) -> Result<Prot
     }
 }
 
-/// What a table says but the outcome and the links.
+/// What a table says but the outcome and the links, or why it is none. The refusal `Memory` comes only where memory has run out.
 #[tactic(auto, unfolding(crate::specs::Scenarios::chosen_in))]
-fn chosen_in(alloc: Global, table: &Table, file: &ProtocolFile) -> Result<Chosen, ScenarioError>
+pub fn chosen_in(alloc: Global, table: &Table, file: &ProtocolFile) -> Result<Chosen, ScenarioError>
     ensures value { Gives (λ x. record { described = x.described; given = x.given.items }) (chosen_in file.now (table_view table.now)) result }
     ensures range { IfOk result (λ x. IsInRange x.described) }
     ensures protocol { IfOk result (λ x. x.described.protocol ≡ kind_of file.now x.described.bounds.nodes x.given.items []) }

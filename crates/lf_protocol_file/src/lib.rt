@@ -35,7 +35,7 @@ pub use file::ProtocolFile;
 pub use named::{with_all_shown, with_fact, with_let, with_note, with_outcome, with_shown};
 pub use numbers::numbers_are_places;
 pub use path::{Path, Shown};
-pub use reader::read_protocol;
+pub use reader::{read_declared, read_protocol};
 pub use section::{Listing, Naming, Part, Section, is_part, is_section};
 pub use text::{at, name_of, tokens_in};
 pub use uniqueness::{files_are_one, refusals_are_one};

@@ -31,6 +31,21 @@ pub fn read_protocol(alloc: Global, text: &[u8]) -> Result<ProtocolFile, Protoco
     ensures document { length text.now ≤ longest → (ms : Members) → IsDocument text.now ms → Reads (file_in ms) result }
     ensures reading { MatchResult result (λ file. IsText file text.now) (λ e. e ≢ ProtocolError.Memory → IsRefused text.now e) }
 {
+    match read_declared(alloc, text) {
+        Ok(declared) => file_of(alloc, declared),
+        Err(error) => Err(error),
+    }
+}
+
+/// What the text of a protocol file says, where it is one, as a value that may be changed: the same as what `read_protocol` gives, and as it refuses.
+pub fn read_declared(alloc: Global, text: &[u8]) -> Result<Declared, ProtocolError>
+    ensures too_long { longest < length text.now → result ≡ Err ProtocolError.TooLong }
+    ensures no_document { length text.now ≤ longest → ((ms : Members) → IsDocument text.now ms → ⊥) →
+        IsErrAnd result (λ e. e ≢ ProtocolError.Memory → e ≡ ProtocolError.NoDocument) }
+    ensures document { length text.now ≤ longest → (ms : Members) → IsDocument text.now ms → Reads (file_in ms) result }
+    ensures reading { MatchResult result (λ declared. IsText declared text.now) (λ e. e ≢ ProtocolError.Memory → IsRefused text.now e) }
+    ensures whole { IfOk result (λ declared. is_whole declared ≡ true) }
+{
     if text.len() > LONGEST {
         return Err(ProtocolError::TooLong);
     }
@@ -41,10 +56,23 @@ pub fn read_protocol(alloc: Global, text: &[u8]) -> Result<ProtocolFile, Protoco
     }
 }
 
-/// The protocol of a table.
+/// The file that says this, which is whole.
+fn file_of(alloc: Global, declared: Declared) -> Result<ProtocolFile, ProtocolError>
+    requires whole { is_whole declared ≡ true }
+    ensures { MatchResult result (λ file. file ≡ declared) (λ e. e ≡ ProtocolError.Memory) }
+{
+    match ProtocolFile::new(alloc, declared) {
+        Ok(Some(file)) => Ok(file),
+        Ok(None) => unreachable!(),
+        Err(_) => Err(ProtocolError::Memory),
+    }
+}
+
+/// What a table says.
 #[tactic(auto, unfolding(crate::specs::Files::file_in))]
-fn read_table(alloc: Global, table: &Table) -> Result<ProtocolFile, ProtocolError>
-    ensures { Reads (file_in (table_view table.now)) result }
+fn read_table(alloc: Global, table: &Table) -> Result<Declared, ProtocolError>
+    ensures value { Reads (file_in (table_view table.now)) result }
+    ensures whole { IfOk result (λ declared. is_whole declared ≡ true) }
 {
     known_sections(alloc, table)?;
     let name = name_in(alloc, table)?;
@@ -53,7 +81,7 @@ fn read_table(alloc: Global, table: &Table) -> Result<ProtocolFile, ProtocolErro
     let chained = with_last_chain(ruled)?;
     let promised = with_naming(alloc, chained, table, Naming::Outcomes)?;
     let traced = with_trace(alloc, promised, table)?;
-    finished(alloc, name, traced)
+    Ok(declared_by(name, traced))
 }
 
 /// Refuses a file with a key that files don't have.
@@ -131,10 +159,9 @@ fn shown_by(alloc: Global, draft: Draft) -> Result<Draft, AllocError>
     }
 }
 
-/// The file of a draft that is whole.
-fn finished(alloc: Global, name: Name, draft: Draft) -> Result<ProtocolFile, ProtocolError>
-    requires whole { is_whole (declared_by name draft) ≡ true }
-    ensures { MatchResult result (λ file. file ≡ declared_by name draft) (λ e. e ≡ ProtocolError.Memory) }
+/// What a draft declares.
+fn declared_by(name: Name, draft: Draft) -> Declared
+    ensures { result ≡ declared_by name draft }
 {
     let Draft {
         definition,
@@ -142,15 +169,10 @@ fn finished(alloc: Global, name: Name, draft: Draft) -> Result<ProtocolFile, Pro
         outcomes,
         ..
     } = draft;
-    let declared = Declared {
+    Declared {
         name,
         definition,
         names,
         outcomes,
-    };
-    match ProtocolFile::new(alloc, declared) {
-        Ok(Some(file)) => Ok(file),
-        Ok(None) => unreachable!(),
-        Err(_) => Err(ProtocolError::Memory),
     }
 }

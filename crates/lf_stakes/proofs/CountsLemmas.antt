@@ -18,6 +18,13 @@ pub zeros : (f : ℕ → ℕ) (a n : ℕ) → ((r : ℕ) → f r ≡ 0) → repl
 zeros f a zero none = refl
 zeros f a (suc n) none = ap (λ x. x ∷ replicate n 0) (sym (none a)) ∙ ap (λ xs. f a ∷ xs) (zeros f (a + 1) n none)
 
+-- how many items pass a test, with one item more
+pub count-more : {X : Type 0} (p : X → Bool) (xs : List X) (i : ℕ) (x : X) (old new : ℕ) (passes : Bool) → i < length xs → x ≡ slice_index_or xs i x
+    → old ≡ count_by p (take i xs) → passes ≡ p x → new ≡ old + cond passes 1 0 → new ≡ count_by p (take (i + 1) xs)
+count-more p xs i x old new passes low is so_far same more =
+    more ∙ ap (λ m. m + cond passes 1 0) so_far ∙ ap (λ b. count_by p (take i xs) + cond b 1 0) (same ∙ ap p is)
+    ∙ sym (sum_by_more (λ y. cond (p y) 1 0) xs i x low)
+
 -- numbers by a test: in how many of the items it passes with each of the numbers from 1 on
 module _ {X : Type 0} (p : X → ℕ → Bool) where
   abbrev pub times : List X → ℕ → ℕ

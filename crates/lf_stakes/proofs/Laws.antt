@@ -11,9 +11,12 @@ use Rattle.lf_protocols.specs.declared.note.Note.{Note}
 use Rattle.lf_protocols.specs.declared.state.State.{State}
 use Rattle.lf_protocols.specs.declared.protocol.Kind.{Kind}
 use Rattle.lf_sim.specs.Runs.{World}
+use Rattle.lf_stakes.specs.Entered.{IsEntered, is_entered_in}
 use Rattle.lf_stakes.specs.Singles.{AreSingles}
 use Rattle.lf_stakes.specs.Stakes.{IsTaken, counts_of, is_taken_in, rules_of}
 use Rattle.lf_stakes.proofs.CountsLemmas.{count-at, none_passes, some_passes}
+use Rattle.lf_stakes.proofs.EnteredLemmas as entering
+use Rattle.lf_stakes.proofs.NumbersLemmas.{numbers-after}
 use Rattle.lf_stakes.proofs.SinglesLemmas as singles
 use Rattle.lf_stakes.proofs.TakenLemmas as taking
 
@@ -28,6 +31,10 @@ module _ (k : Kind) (w : World State Note Fact) where
 
   pub is-taken : (faults : List Parts) (rule : ℕ) → IsTaken k w faults rule → is_taken_in k w faults rule ≡ true
   is-taken = taking.is-taken k w
+
+  -- Each rule that is taken in a run is one of those that are counted
+  pub taken-counted : (faults : List Parts) (rule : ℕ) → IsTaken k w faults rule → (1 ≤ rule) × (rule ≤ rules_of k)
+  taken-counted faults rule is = numbers-after k w faults is.node is.past rule is.taken
 
   -- A rule whose count over the single sets is 0 is taken in no run of an allowed set with at most one fault,
   pub never_taken : (b : Bounds) (sets : List (List Parts)) (i : ℕ) → AreSingles b sets → slice_get (counts_of k w sets) i ≡ Some 0
@@ -44,3 +51,11 @@ module _ (k : Kind) (w : World State Note Fact) where
       let found = some_passes (is_taken_in k w) sets (i + 1) (omega (arith, times, some)) in
       let single = all.sound found.0 found.1 in
       (found.0, single.allowed, single.few, taken-is found.0 (i + 1) found.2)
+
+-- A run counts for a topic where some node enters something under it after some step
+module _ (w : World State Note Fact) where
+  pub entered-is : (faults : List Parts) (topic : ℕ) → is_entered_in w faults topic ≡ true → IsEntered w faults topic
+  entered-is = entering.entered-is w
+
+  pub is-entered : (faults : List Parts) (topic : ℕ) → IsEntered w faults topic → is_entered_in w faults topic ≡ true
+  is-entered = entering.is-entered w

@@ -1,5 +1,7 @@
 mod CountsLemmas
+mod EnteredLemmas
 pub mod Laws
+mod NumbersLemmas
 mod OrdersLemmas
 mod RulesLemmas
 mod RangesLemmas

@@ -1,8 +1,10 @@
 -- How many rules chains have.
-use Rattle.std.proofs.Common.{◌≡◌, ℕ, ◌+◌, ◌<◌, ◌≤◌, Bool, true, ◌&&◌, List, length, nat_le, take, ap, arith, slice_index_or}
+use Rattle.std.proofs.Common.{◌≡◌, ℕ, ◌+◌, ◌<◌, ◌≤◌, Bool, true, ◌&&◌, List, length, nat_le, take, sym, ap, arith, slice_index_or}
+use Rattle.std.specs.Prelude.{Some, slice_get}
 use Rattle.std.specs.List.{sum_by}
 use Rattle.std.proofs.lemmas.Bool.{and_parts, leb-true}
 use Rattle.std.proofs.lemmas.List.Sums.{sum-map, sum_by_more_le}
+use Rattle.std.proofs.lemmas.Option.{get_or_from_slice_get, slice_get_within}
 use Rattle.lf_rules.specs.declared.rule.Chain.{Chain}
 use Rattle.lf_rules.specs.declared.definition.Definition.{Definition}
 use Rattle.lf_rules.specs.Tables.{cells_in}
@@ -17,6 +19,10 @@ rules-fit xs i x low is =
     let before : rules_in (take i xs) ≡ sum_by of (take i xs) = sum-map of (take i xs) in
     let all : rules_in xs ≡ sum_by of xs = sum-map of xs in
     omega arith
+
+-- the same, of a chain that is found
+pub rules-up-to : (xs : List Chain) (i : ℕ) (x : Chain) → slice_get xs i ≡ Some x → rules_in (take i xs) + length x.rules ≤ rules_in xs
+rules-up-to xs i x there = rules-fit xs i x (slice_get_within xs i x there) (sym (get_or_from_slice_get xs i x x there))
 
 -- a protocol that is well formed has few rules
 first : (a b : Bool) → (a && b) ≡ true → a ≡ true

@@ -5,3 +5,4 @@ mod MemberLemmas
 mod ReadingLemmas
 mod TextLemmas
 mod LineLemmas
+mod RowLemmas

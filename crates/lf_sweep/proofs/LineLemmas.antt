@@ -1,5 +1,5 @@
--- Lines of combinations, one behind the other.
-use Rattle.std.proofs.Common.{◌≡◌, ◌⊎◌, ℕ, ◌+◌, ◌-◌, ◌*◌, ◌<◌, ◌≤◌, List, [], ◌∷◌, ◌++◌, length, take, get_or, length-append}
+-- Lines of questions, one behind the other.
+use Rattle.std.proofs.Common.{◌≡◌, ℕ, ◌+◌, ◌-◌, ◌*◌, ◌<◌, ◌≤◌, List, [], ◌∷◌, ◌++◌, length, take, get_or, length-append}
 use Rattle.std.proofs.Common.{append_assoc, append-nil, refl, sym, ap, subst, ◌∙◌, arith, suc, inl, inr}
 use Rattle.std.specs.Prelude.{Option, Bool, true, false, Result, Ok, Err, IfOk, IfErr}
 use Rattle.std.specs.Io.KnownBytes.{Appends}
@@ -7,22 +7,18 @@ use Rattle.std.proofs.KnownBytes.{Appends-nil, Appends-trans}
 use Rattle.std.proofs.lemmas.Bool.{cases_order, false≢true}
 use Rattle.std.proofs.lemmas.Nat.{mul-le, row_fits}
 use Rattle.lf_sweep.specs.declared.part.Part.{Part}
-use Rattle.lf_sweep.specs.declared.varied.Varied.{Varied}
-use Rattle.lf_sweep.specs.Combinations.{combinations, words_at}
-use Rattle.lf_sweep.specs.Lines.{line_of}
 use Rattle.lf_sweep.specs.Parts.{IsLengthOf, number_at}
-use Rattle.lf_sweep.specs.Texts.{IsTextWith}
 use Rattle.lf_sweep.specs.declared.counts.Counts.{Counts}
 use Rattle.lf_sweep.specs.declared.counts.Kind.{Kind}
 use Rattle.lf_sweep.specs.declared.counts.Kind.TheVariants as kinds
-use Rattle.lf_sweep.specs.declared.lines.Lines.{Lines}
+use Rattle.lf_sweep.specs.declared.questions.Line.{Line}
 use Rattle.lf_sweep.specs.declared.fault.SweepFault.{SweepFault}
-use Rattle.lf_sweep.specs.Counts.{Told, all_of, counts_of, kind_by, kind_of, of_one, together}
+use Rattle.lf_sweep.specs.Counts.{Told, all_of, counts_of, kind_of, of_one, together}
 use Rattle.lf_sweep.specs.Faults.{HasCause, HasNoRow, is_write}
 use Rattle.lf_sweep.specs.Sweeps.{WasBegun, WasSwept, WerePut, WereTold}
-use Rattle.lf_sweep.specs.Rows.{AreInside, AreLines, AreReplies, AreToldAt, IsLineAt, IsReplyAt, told_line, told_lines}
+use Rattle.lf_sweep.specs.Rows.{AreInside, AreLines, AreReplies, AreToldAt, IsLineAt, told_lines}
 
--- a part's place is no more than the number of the combination that stands there
+-- a part's place is no more than the number of the question that stands there
 pub place_below : (part : Part) (place bound : ℕ) → number_at part place < bound → place < bound
 place_below part place bound below =
     let some : 1 ≤ part.parts = omega (arith, part.some.0, part.some.1) in
@@ -58,7 +54,7 @@ counts_behind : (xs ys : List Told) → counts_of (xs ++ ys) ≡ together (count
 counts_behind [] ys = together_none (counts_of ys)
 counts_behind (x ∷ xs) ys = ap (together (of_one (kind_of x))) (counts_behind xs ys) ∙ together_twice (of_one (kind_of x)) (counts_of xs) (counts_of ys)
 
-one_of_all : (k : Kind) → all_of (of_one k) ≡ 1
+pub one_of_all : (k : Kind) → all_of (of_one k) ≡ 1
 one_of_all kinds.Kept = refl
 one_of_all kinds.Missed = refl
 one_of_all kinds.Full = refl
@@ -72,64 +68,64 @@ all_of_them (t ∷ ts) = omega (arith, one_of_all (kind_of t), all_of_them ts)
 pub all_is : (ts : List Told) (c : Counts) (n : ℕ) → c ≡ counts_of ts → length ts ≡ n → all_of c ≡ n
 all_is ts c n is count = ap all_of is ∙ all_of_them ts ∙ count
 
-module _ (vs : List Varied) where
+module _ (line_at : ℕ → Told → List ℕ) where
   told_behind : (part : Part) (place : ℕ) (xs ys : List Told)
-      → told_lines vs part place (xs ++ ys) ≡ told_lines vs part place xs ++ told_lines vs part (place + length xs) ys
-  told_behind part place [] ys = let same : place ≡ place + 0 = omega arith in ap (λ k. told_lines vs part k ys) same
+      → told_lines line_at part place (xs ++ ys) ≡ told_lines line_at part place xs ++ told_lines line_at part (place + length xs) ys
+  told_behind part place [] ys = let same : place ≡ place + 0 = omega arith in ap (λ k. told_lines line_at part k ys) same
   told_behind part place (x ∷ xs) ys =
       let same : place + 1 + length xs ≡ place + length (x ∷ xs) = omega arith in
-      let line = told_line vs (number_at part place) x in
-      ap (λ l. line ++ l) (told_behind part (place + 1) xs ys ∙ ap (λ k. told_lines vs part (place + 1) xs ++ told_lines vs part k ys) same)
-      ∙ sym (append_assoc line (told_lines vs part (place + 1) xs) (told_lines vs part (place + length (x ∷ xs)) ys))
+      let line = line_at (number_at part place) x in
+      ap (λ l. line ++ l) (told_behind part (place + 1) xs ys ∙ ap (λ k. told_lines line_at part (place + 1) xs ++ told_lines line_at part k ys) same)
+      ∙ sym (append_assoc line (told_lines line_at part (place + 1) xs) (told_lines line_at part (place + length (x ∷ xs)) ys))
 
-module _ (Replies : List ℕ → List ℕ → ℕ → Type 0) (scenario : List ℕ) (vs : List Varied) (part : Part) where
-  rows_behind : (place : ℕ) (xs ys : List Told) → AreReplies Replies scenario vs part place xs → AreReplies Replies scenario vs part (place + length xs) ys
-      → AreReplies Replies scenario vs part place (xs ++ ys)
-  rows_behind place [] ys first more = let same : place + 0 ≡ place = omega arith in subst (λ k. AreReplies Replies scenario vs part k ys) same more
+module _ (count : ℕ) (IsReply : ℕ → Told → Type 0) (line_at : ℕ → Told → List ℕ) (part : Part) where
+  rows_behind : (place : ℕ) (xs ys : List Told) → AreReplies count IsReply part place xs → AreReplies count IsReply part (place + length xs) ys
+      → AreReplies count IsReply part place (xs ++ ys)
+  rows_behind place [] ys first more = let same : place + 0 ≡ place = omega arith in subst (λ k. AreReplies count IsReply part k ys) same more
   rows_behind place (x ∷ xs) ys first more =
       let same : place + length (x ∷ xs) ≡ place + 1 + length xs = omega arith in
-      (first.0, rows_behind (place + 1) xs ys first.1 (subst (λ k. AreReplies Replies scenario vs part k ys) same more))
+      (first.0, rows_behind (place + 1) xs ys first.1 (subst (λ k. AreReplies count IsReply part k ys) same more))
 
-  pub no_lines : (place : ℕ) → AreLines Replies scenario vs part place [] []
+  pub no_lines : (place : ℕ) → AreLines count IsReply line_at part place [] []
   no_lines place = record { rows = tt; together = refl }
 
-  pub none_told : (place : ℕ) (bytes : List ℕ) (c : Counts) → bytes ≡ [] → c ≡ counts_of [] → AreToldAt Replies scenario vs part place 0 bytes c
-  none_told place bytes c none empty = ([], subst (AreLines Replies scenario vs part place []) (sym none) (no_lines place), refl, empty)
+  pub none_told : (place : ℕ) (bytes : List ℕ) (c : Counts) → bytes ≡ [] → c ≡ counts_of [] → AreToldAt count IsReply line_at part place 0 bytes c
+  none_told place bytes c none empty = ([], subst (AreLines count IsReply line_at part place []) (sym none) (no_lines place), refl, empty)
 
-  pub one_told : (place number : ℕ) (line : Lines) → number ≡ number_at part place → IsLineAt Replies scenario vs number line
-      → AreToldAt Replies scenario vs part place 1 line.bytes.items line.counts
-  one_told place number line number_is is =
+  pub one_told : (place number : ℕ) (one : Line) (c : Counts) → number ≡ number_at part place → number_at part place < count → c ≡ of_one one.kind
+      → IsLineAt IsReply line_at number one → AreToldAt count IsReply line_at part place 1 one.bytes.items c
+  one_told place number one c number_is inside counted is =
       let told = is.0 in (
         told ∷ [],
         record {
-          rows = (subst (λ k. IsReplyAt Replies scenario vs k told) number_is is.1, tt);
-          together = is.2 ∙ ap (λ k. told_line vs k told) number_is ∙ sym (append-nil (told_line vs (number_at part place) told));
+          rows = (record { inside = inside; replied = subst (λ k. IsReply k told) number_is is.1 }, tt);
+          together = is.2 ∙ ap (λ k. line_at k told) number_is ∙ sym (append-nil (line_at (number_at part place) told));
         },
         refl,
-        is.3,
+        counted ∙ ap of_one is.3 ∙ together_end (of_one (kind_of told)),
       )
 
   -- lines, and those behind them
-  pub more_lines : (place n at : ℕ) (ts us : List Told) (a b : List ℕ) → length ts ≡ n → at ≡ place + n → AreLines Replies scenario vs part place ts a
-      → AreLines Replies scenario vs part at us b → AreLines Replies scenario vs part place (ts ++ us) (a ++ b)
-  more_lines place n at ts us a b count at_is first more =
-      let here : at ≡ place + length ts = at_is ∙ ap (λ k. place + k) (sym count) in
-      let moved = subst (λ k. AreLines Replies scenario vs part k us b) here more in
+  pub more_lines : (place n at : ℕ) (ts us : List Told) (a b : List ℕ) → length ts ≡ n → at ≡ place + n → AreLines count IsReply line_at part place ts a
+      → AreLines count IsReply line_at part at us b → AreLines count IsReply line_at part place (ts ++ us) (a ++ b)
+  more_lines place n at ts us a b many at_is first more =
+      let here : at ≡ place + length ts = at_is ∙ ap (λ k. place + k) (sym many) in
+      let moved = subst (λ k. AreLines count IsReply line_at part k us b) here more in
       record {
         rows = rows_behind place ts us first.rows moved.rows;
         together =
-            ap (λ l. l ++ b) first.together ∙ ap (λ l. told_lines vs part place ts ++ l) moved.together ∙ sym (told_behind vs part place ts us);
+            ap (λ l. l ++ b) first.together ∙ ap (λ l. told_lines line_at part place ts ++ l) moved.together ∙ sym (told_behind line_at part place ts us);
       }
 
   counted : (ts us : List Told) (c d all : Counts) → c ≡ counts_of ts → d ≡ counts_of us → all ≡ together c d → all ≡ counts_of (ts ++ us)
   counted ts us c d all first more both = both ∙ ap (λ x. together x d) first ∙ ap (together (counts_of ts)) more ∙ sym (counts_behind ts us)
 
   pub more_told : (place n m at all : ℕ) (a b shown pushed : List ℕ) (c d both : Counts) → at ≡ place + n → all ≡ n + m → shown ≡ b
-      → pushed ≡ a ++ shown → both ≡ together c d → AreToldAt Replies scenario vs part place n a c → AreToldAt Replies scenario vs part at m b d
-      → AreToldAt Replies scenario vs part place all pushed both
+      → pushed ≡ a ++ shown → both ≡ together c d → AreToldAt count IsReply line_at part place n a c → AreToldAt count IsReply line_at part at m b d
+      → AreToldAt count IsReply line_at part place all pushed both
   more_told place n m at all a b shown pushed c d both at_is all_is shown_is pushed_is both_is first more = (
     first.0 ++ more.0,
-    subst (AreLines Replies scenario vs part place (first.0 ++ more.0)) (sym (pushed_is ∙ ap (λ l. a ++ l) shown_is))
+    subst (AreLines count IsReply line_at part place (first.0 ++ more.0)) (sym (pushed_is ∙ ap (λ l. a ++ l) shown_is))
         (more_lines place n at first.0 more.0 a b first.2 at_is first.1 more.1),
     length-append first.0 more.0 ∙ ap (λ k. k + length more.0) first.2 ∙ ap (λ k. n + k) more.2 ∙ sym all_is,
     counted first.0 more.0 c d both first.3 more.3 both_is,
@@ -145,21 +141,21 @@ pub front_taken : (old mid new : Option (List ℕ)) (a b : List ℕ) (n : ℕ) �
 front_taken old mid new a b n first more =
     subst (Appends old new) (sym (taken_behind a b n)) (Appends-trans old mid new a (take n b) first more)
 
-module _ (vs : List Varied) (part : Part) where
-  pub fewer_inside : (n m : ℕ) → n ≤ m → AreInside vs part m → AreInside vs part n
+module _ (count : ℕ) (part : Part) where
+  pub fewer_inside : (n m : ℕ) → n ≤ m → AreInside count part m → AreInside count part n
   fewer_inside n m fewer inside place below = inside place (omega (arith, fewer, below))
 
-  -- a place at which a combination stands is small
-  pub place_fits : (places place : ℕ) → combinations vs ≤ 1000000000 → AreInside vs part places → place < places → place ≤ 1000000000
-  place_fits places place few inside below = omega (arith, place_below part place (combinations vs) (inside place below), few)
+  -- a place at which a question stands is small
+  pub place_fits : (places place : ℕ) → count ≤ 1000000000 → AreInside count part places → place < places → place ≤ 1000000000
+  place_fits places place few inside below = omega (arith, place_below part place count (inside place below), few)
 
--- a part has few combinations
-pub some_few : (vs : List Varied) (part : Part) (some : ℕ) → combinations vs ≤ 1000000000 → IsLengthOf part (combinations vs) some → some ≤ 1000000001
-some_few vs part some few length = elim (cases_order some 0) [
+-- a part has few questions
+pub some_few : (count : ℕ) (part : Part) (some : ℕ) → count ≤ 1000000000 → IsLengthOf part count some → some ≤ 1000000001
+some_few count part some few length = elim (cases_order some 0) [
   | inl none ↦ omega (arith, none)
   | inr apart ↦ elim apart [
     | inl less ↦ absurd (omega (arith, less))
-    | inr more ↦ omega (arith, more, place_below part (some - 1) (combinations vs) (length.inside (some - 1) (omega (arith, more))), few)
+    | inr more ↦ omega (arith, more, place_below part (some - 1) count (length.inside (some - 1) (omega (arith, more))), few)
   ]
 ]
 
@@ -176,47 +172,27 @@ pub fault_there : {A E : Type 0} (P : E → Type 0) (xs : List (Result A E)) (i 
     → IfErr (get_or xs i x) P → P e
 fault_there P xs i x e is err holds = subst (λ r. IfErr r P) (sym is ∙ err) holds
 
--- the line of a combination, by what it is made of
-pub row_told : (Replies : List ℕ → List ℕ → ℕ → Type 0) (scenario : List ℕ) (vs : List Varied) (number : ℕ) (ws : List Varied)
-    (given given_too : List (List ℕ)) (text seen reply shown shown_too line : List ℕ) (status : ℕ) (c : Counts) (k : Kind)
-    → number < combinations vs → ws ≡ vs → given ≡ words_at vs number → given_too ≡ words_at vs number → IsTextWith scenario ws given text → seen ≡ text
-    → Replies seen reply status → shown ≡ reply → shown_too ≡ reply → k ≡ kind_by shown status → c ≡ of_one k → line ≡ line_of given_too shown_too
-    → (told : Told) × IsReplyAt Replies scenario vs number told × (line ≡ told_line vs number told) × (c ≡ counts_of (told ∷ []))
-row_told Replies scenario vs number ws given given_too text seen reply shown shown_too line status c k inside same words words_too asked is replied told
-    told_too kind count made_is = (
-      (reply, status),
-      record {
-        inside = inside;
-        text = text;
-        asked = subst (λ l. IsTextWith scenario l (words_at vs number) text) same (subst (λ l. IsTextWith scenario ws l text) words asked);
-        replied = subst (λ t. Replies t reply status) is replied;
-      },
-      made_is ∙ ap (λ l. line_of l shown_too) words_too ∙ ap (line_of (words_at vs number)) told_too,
-      count ∙ ap of_one (kind ∙ ap (λ r. kind_by r status) told) ∙ together_end (of_one (kind_by reply status)),
-    )
+-- where a question has no line there is a cause
+pub cause_at : (Refuses : ℕ → SweepFault → Type 0) (count : ℕ) (part : Part) (place number : ℕ) (e : SweepFault) → number ≡ number_at part place
+    → number_at part place < count → HasNoRow Refuses number e → HasCause Refuses count part e
+cause_at Refuses count part place number e is below none = inr (place, below, subst (λ k. HasNoRow Refuses k e) is none)
 
--- where a combination has no line a sweep has a cause
-pub cause_at : (Refuses : SweepFault → Type 0) (scenario : List ℕ) (vs : List Varied) (part : Part) (place number : ℕ) (e : SweepFault) → number ≡ number_at
-    part place
-    → number_at part place < combinations vs → HasNoRow Refuses scenario vs number e → HasCause Refuses scenario vs part e
-cause_at Refuses scenario vs part place number e is below none = inr (place, below, subst (λ k. HasNoRow Refuses scenario vs k e) is none)
-
-module _ {W : Type 0} (written : W → Option (List ℕ)) (has_failed : W → Bool) (Replies : List ℕ → List ℕ → ℕ → Type 0) (Refuses : SweepFault → Type 0)
-    (scenario : List ℕ) (vs : List Varied) (part : Part) where
+module _ {W : Type 0} (written : W → Option (List ℕ)) (has_failed : W → Bool) (count : ℕ) (IsReply : ℕ → Told → Type 0) (line_at : ℕ → Told → List ℕ)
+    (Refuses : ℕ → SweepFault → Type 0) (part : Part) where
   -- lines were written, to the end of the last
   abbrev pub Written : ℕ → ℕ → Counts → W → W → Type 0
-  Written place some counts old new = WereTold written has_failed Replies Refuses scenario vs part place some old new counts × (has_failed new ≡ false)
+  Written place some counts old new = WereTold written has_failed count IsReply line_at Refuses part place some old new counts × (has_failed new ≡ false)
 
   pub none_written : (place some : ℕ) (w : W) (c : Counts) → some ≡ 0 → c ≡ counts_of [] → has_failed w ≡ false → Written place some c w w
-  none_written place some w c none empty well = (([], [], no_lines Replies scenario vs part place, sym none, Appends-nil (written w), empty), well)
+  none_written place some w c none empty well = (([], [], no_lines count IsReply line_at part place, sym none, Appends-nil (written w), empty), well)
 
   pub more_written : (place n m at all : ℕ) (old mid new : W) (c d both : Counts) (line shown : List ℕ) → at ≡ place + n → all ≡ n + m → shown ≡ line
-      → both ≡ together c d → Written place n c old mid → AreToldAt Replies scenario vs part at m line d → Appends (written mid) (written new) shown
+      → both ≡ together c d → Written place n c old mid → AreToldAt count IsReply line_at part at m line d → Appends (written mid) (written new) shown
       → has_failed new ≡ false → Written place all both old new
   more_written place n m at all old mid new c d both line shown at_is all_is shown_is both_is before lines put well =
       let first = before.0 in
       let told =
-      more_told Replies scenario vs part place n m at all first.1 line line (first.1 ++ line) c d both at_is all_is refl refl both_is
+      more_told count IsReply line_at part place n m at all first.1 line line (first.1 ++ line) c d both at_is all_is refl refl both_is
       (first.0, first.2, first.3, first.5) lines in (
         (
           told.0,
@@ -231,37 +207,37 @@ module _ {W : Type 0} (written : W → Option (List ℕ)) (has_failed : W → Bo
 
   -- and so a front of lines was
   pub begun : (place some : ℕ) (c : Counts) (old new : W) → Written place some c old new
-      → WasBegun written has_failed Replies Refuses scenario vs part place old new
+      → WasBegun written has_failed count IsReply line_at Refuses part place old new
   begun place some c old new before =
       let first = before.0 in (first.0, first.1, length first.1, first.2, all_taken (written old) (written new) first.1 first.4)
 
   pub begun_more : (place n at : ℕ) (c : Counts) (old mid new : W) → at ≡ place + n → Written place n c old mid
-      → WasBegun written has_failed Replies Refuses scenario vs part at mid new → WasBegun written has_failed Replies Refuses scenario vs part place old new
+      → WasBegun written has_failed count IsReply line_at Refuses part at mid new → WasBegun written has_failed count IsReply line_at Refuses part place old new
   begun_more place n at c old mid new at_is before more =
       let first = before.0 in (
         first.0 ++ more.0,
         first.1 ++ more.1,
         length first.1 + more.2,
-        more_lines Replies scenario vs part place n at first.0 more.0 first.1 more.1 first.3 at_is first.2 more.3,
+        more_lines count IsReply line_at part place n at first.0 more.0 first.1 more.1 first.3 at_is first.2 more.3,
         front_taken (written old) (written mid) (written new) first.1 more.1 more.2 first.4 more.4,
       )
 
   pub begun_put : (place n m at : ℕ) (c d : Counts) (old mid new : W) (line shown : List ℕ) → at ≡ place + n → shown ≡ line
-      → Written place n c old mid → AreToldAt Replies scenario vs part at m line d → ((k : ℕ) × Appends (written mid) (written new) (take k shown))
-      → WasBegun written has_failed Replies Refuses scenario vs part place old new
+      → Written place n c old mid → AreToldAt count IsReply line_at part at m line d → ((k : ℕ) × Appends (written mid) (written new) (take k shown))
+      → WasBegun written has_failed count IsReply line_at Refuses part place old new
   begun_put place n m at c d old mid new line shown at_is shown_is before lines put =
       begun_more place n at c old mid new at_is before
       (lines.0, line, put.0, lines.1, subst (λ l. Appends (written mid) (written new) (take put.0 l)) shown_is put.1)
 
-  -- a sweep that ends before its last line
-  pub swept_early : (old new : W) (e : SweepFault) → WasBegun written has_failed Replies Refuses scenario vs part 0 old new
-      → (is_write e ≡ false → HasCause Refuses scenario vs part e) → has_failed new ≡ is_write e
-      → WasSwept written has_failed Replies Refuses scenario vs part old new (Err e)
+  -- it ended before the last line
+  pub swept_early : (old new : W) (e : SweepFault) → WasBegun written has_failed count IsReply line_at Refuses part 0 old new
+      → (is_write e ≡ false → HasCause Refuses count part e) → has_failed new ≡ is_write e
+      → WasSwept written has_failed count IsReply line_at Refuses part old new (Err e)
   swept_early old new e front cause sink = record { whole = tt; front = front; cause = cause; sink = sink }
 
-  pub put_early : (place some : ℕ) (old new : W) (e : SweepFault) → WasBegun written has_failed Replies Refuses scenario vs part place old new
-      → (is_write e ≡ false → HasCause Refuses scenario vs part e) → has_failed new ≡ is_write e
-      → WerePut written has_failed Replies Refuses scenario vs part place some old new (Err e)
+  pub put_early : (place some : ℕ) (old new : W) (e : SweepFault) → WasBegun written has_failed count IsReply line_at Refuses part place old new
+      → (is_write e ≡ false → HasCause Refuses count part e) → has_failed new ≡ is_write e
+      → WerePut written has_failed count IsReply line_at Refuses part place some old new (Err e)
   put_early place some old new e front cause sink = record { all = tt; front = front; cause = cause; sink = sink }
 
 -- the sink failed, so there is no other cause

@@ -1,5 +1,5 @@
 -- How many replies of each kind there are.
-use Rattle.std.specs.Prelude.{◌≡◌, ℕ, ◌+◌, ◌<◌, ◌==◌, ◌||◌, nat_lt, if◌then◌else◌, Bool, false, List, [], ◌∷◌}
+use Rattle.std.specs.Prelude.{ℕ, ◌+◌, ◌==◌, ◌||◌, nat_lt, if◌then◌else◌, Bool, false, List, [], ◌∷◌}
 use Rattle.lf_sweep.specs.declared.counts.Counts.{Counts}
 use Rattle.lf_sweep.specs.declared.counts.Kind.{Kind}
 use Rattle.lf_sweep.specs.declared.counts.Kind.TheVariants as kinds

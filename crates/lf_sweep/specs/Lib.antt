@@ -13,3 +13,4 @@ pub mod Counts
 pub mod Faults
 pub mod Rows
 pub mod Sweeps
+pub mod Studies

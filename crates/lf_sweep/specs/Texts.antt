@@ -1,10 +1,11 @@
 -- The texts of combinations.
 use Rattle.std.specs.Prelude.{◌≡◌, ◌≤◌, ℕ, ⊤, true, false, List, [], ◌∷◌, Some, IsUtf8}
-use Rattle.toml.specs.Data.{Members, members_depth, members_have_valid_dates}
+use Rattle.toml.specs.Data.{Data, Members, members_depth, members_have_valid_dates}
 use Rattle.toml.specs.Parse.{parse_document}
 use Rattle.toml.specs.Text.{IsDocumentText}
 use Rattle.lf_sweep.specs.declared.error.TextError.{TextError}
 use Rattle.lf_sweep.specs.declared.error.TextError.TheVariants as faults
+use Rattle.lf_sweep.specs.declared.varied.Place.{Place}
 use Rattle.lf_sweep.specs.declared.varied.Varied.{Varied}
 use Rattle.lf_sweep.specs.Limits.{deepest}
 use Rattle.lf_sweep.specs.Members.{value_of, with_place}
@@ -39,3 +40,16 @@ HasNoText scenario vs words faults.NoDocument = (ms : Members) → ¬ (IsScenari
 HasNoText scenario vs words faults.Date =
     (ms : Members) × IsScenario scenario ms × (members_have_valid_dates (with_words vs words ms) ≡ false)
 HasNoText scenario vs words faults.Memory = ⊤
+
+-- the text is that of a scenario with a value at one place: of its members, with that
+pub record IsTextAt (scenario : List ℕ) (place : Place) (d : Data) (text : List ℕ) : Type 0 where
+  pub members : Members
+  pub held : IsScenario scenario members
+  pub dated : members_have_valid_dates (with_place place d members) ≡ true
+  pub document : IsDocumentOf (with_place place d members) text
+
+-- why there is none
+abbrev pub HasNoTextAt : List ℕ → Place → Data → TextError → Type 0
+HasNoTextAt scenario place d faults.NoDocument = (ms : Members) → ¬ (IsScenario scenario ms)
+HasNoTextAt scenario place d faults.Date = (ms : Members) × IsScenario scenario ms × (members_have_valid_dates (with_place place d ms) ≡ false)
+HasNoTextAt scenario place d faults.Memory = ⊤

@@ -103,7 +103,7 @@ impl Counts {
 }
 
 /// What a reply says, by its status, and where that is 2 by its first letter.
-pub(crate) fn kind_of(reply: &str, status: u8) -> Kind
+pub fn kind_of(reply: &str, status: u8) -> Kind
     ensures { result ≡ kind_by reply.now status }
 {
     if status == 0 {

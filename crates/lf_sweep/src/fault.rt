@@ -1,4 +1,4 @@
-//! Why a sweep ends before its last combination.
+//! Why it ends before the last question.
 
 ghost use Rattle.std.specs.Prelude.{◌≡◌};
 
@@ -6,7 +6,7 @@ use crate::TextError;
 use std::alloc::AllocError;
 use thiserror::Error;
 
-/// Why a sweep ends before its last combination.
+/// Why it ends before the last question.
 #[derive(Clone, Copy, Debug, PartialEq, Eq, Error)]
 pub enum SweepFault {
     /// The scenario is no TOML document.

@@ -4,13 +4,15 @@
 //! combinations of the values are numbered, the last key that varies runs fastest. Each has the words of its values, and the text of the
 //! scenario that has these values.
 //!
-//! Sweeps: the lines of all combinations of values of one scenario, whoever replies to it.
+//! Questions have numbers, and each has a line. They are asked in parts, by one worker or by several. The combinations of a study are such
+//! questions, whoever replies to their texts.
 //!
-//! The lines are written in the order of the combinations, whatever the number of workers.
+//! The lines are written in the order of the numbers, whatever the number of workers.
 #![tactic(auto)]
 
 mod apart;
 mod asker;
+mod combinations;
 mod counts;
 mod error;
 mod fault;
@@ -21,9 +23,10 @@ mod listed;
 mod marks;
 mod members;
 mod part;
+mod placed;
 mod plan;
+mod questions;
 mod reading;
-mod row;
 mod study;
 mod sweeping;
 mod text;
@@ -32,14 +35,17 @@ mod varied;
 mod words;
 
 pub use asker::{Asker, Replied};
-pub use counts::{Counts, Kind};
+pub use combinations::Combinations;
+pub use counts::{Counts, Kind, kind_of};
 pub use error::{PlanError, TextError, VaryError};
 pub use fault::SweepFault;
 pub use laws::{combinations_are_numbered, texts_are_one};
 pub use line::line_of;
 pub use marks::{Defeated, Marks};
 pub use part::{MOST_PARTS, Part};
+pub use placed::text_with;
 pub use plan::{MOST_COMBINATIONS, Plan};
+pub use questions::{Line, Questions};
 pub use reading::read_varied;
 pub use study::Study;
 pub use sweeping::{sweep, sweep_shared};

@@ -1,21 +1,18 @@
-//! The lines of combinations, one behind the other.
+//! The lines of questions, one behind the other.
 
-ghost use Rattle.std.specs.Prelude.{◌≡◌, ◌+◌, ◌<◌, false, IfErr, IfOk};
-ghost use Rattle.lf_sweep.specs.Combinations.{combinations};
-ghost use Rattle.lf_sweep.specs.Parts.{number_at};
+ghost use Rattle.std.specs.Prelude.{◌≡◌, ◌+◌, ◌≤◌, false, IfErr, IfOk};
 ghost use Rattle.lf_sweep.specs.Faults.{HasCause, is_write};
+ghost use Rattle.lf_sweep.specs.Limits.{most_combinations};
 ghost use Rattle.lf_sweep.specs.Rows.{AreInside, AreLinesAt};
 
 use crate::Part;
-use crate::asker::Asker;
 use crate::counts::Counts;
 use crate::fault::SweepFault;
 use crate::marks::Marks;
-use crate::row::row;
-use crate::study::Study;
+use crate::questions::Questions;
 use std::alloc::Global;
 
-/// Lines of combinations, how many replies of each kind they have, and which stand out.
+/// Lines of questions, how many replies of each kind they have, and which stand out.
 #[derive(Drop)]
 pub(crate) struct Lines {
     pub(crate) bytes: Vec<u8>,
@@ -23,41 +20,33 @@ pub(crate) struct Lines {
     pub(crate) marks: Marks,
 }
 
-/// The lines of a part's combinations from a place on, of so many.
-pub(crate) fn part_lines<A: Asker>(
+/// The lines of a part's questions from a place on, of so many.
+pub(crate) fn part_lines<Q: Questions>(
     alloc: Global,
-    asker: &A,
-    study: &Study<'_>,
+    questions: &Q,
     part: Part,
     from: u64,
     some: u64,
 ) -> Result<Lines, SweepFault>
-    requires { AreInside study.now.plan.now.varied.items part (from + some) }
-    ensures lines { IfOk result (AreLinesAt (A.replies asker.now) study.now.scenario.now study.now.plan.now.varied.items part from some) }
-    ensures cause { IfErr result (HasCause (A.refuses asker.now) study.now.scenario.now study.now.plan.now.varied.items part) }
+    requires few { Q.total questions.now ≤ most_combinations }
+    requires inside { AreInside (Q.total questions.now) part (from + some) }
+    ensures lines { IfOk result (AreLinesAt (Q.total questions.now) (Q.is_reply questions.now) (Q.line questions.now) part from some) }
+    ensures cause { IfErr result (HasCause (Q.refuses questions.now) (Q.total questions.now) part) }
     ensures sink { IfErr result (λ e. is_write e ≡ false) }
 {
     let mut bytes = Vec::new(alloc);
     let mut counts = Counts::empty();
     let mut marks = Marks::none();
     'places: for i in 0..some {
-        let line = row(alloc, asker, study, number_in(study, part, from + i))?;
+        let number = part.number(from + i);
+        let line = questions.ask(alloc, number)?;
         bytes.extend_from_slice(line.bytes.as_slice())?;
-        counts = counts.plus(line.counts);
-        marks.take(line.marks);
+        counts = counts.plus(Counts::of(line.kind));
+        marks.take(Marks::at(number, line.kind, line.faults));
     }
     Ok(Lines {
         bytes,
         counts,
         marks,
     })
-}
-
-/// The number of the combination at a place of a part.
-fn number_in(study: &Study<'_>, part: Part, place: u64) -> u64
-    requires { number_at part place < combinations study.now.plan.now.varied.items }
-    ensures { result ≡ number_at part place }
-{
-    let _count = study.plan.count();
-    part.number(place)
 }

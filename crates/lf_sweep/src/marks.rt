@@ -1,8 +1,8 @@
-//! Which combinations of a sweep stand out.
+//! Which questions stand out.
 
 use crate::counts::Kind;
 
-/// A combination that a set of faults defeats.
+/// A question with a set of faults that defeats the outcome.
 #[derive(Clone, Copy, Debug, PartialEq, Eq)]
 pub struct Defeated {
     /// Its number, from 0.
@@ -11,7 +11,7 @@ pub struct Defeated {
     pub faults: u32,
 }
 
-/// Which combinations of a sweep stand out by their replies. No contract speaks of it.
+/// Which questions stand out by their replies. No contract speaks of it.
 #[derive(Clone, Copy, Debug, PartialEq, Eq)]
 pub struct Marks {
     /// The first with as few faults as any.
@@ -21,7 +21,7 @@ pub struct Marks {
 }
 
 impl Marks {
-    /// Of no combination.
+    /// Of no question.
     pub fn none() -> Marks {
         Marks {
             fewest: None,
@@ -29,7 +29,7 @@ impl Marks {
         }
     }
 
-    /// Of the combination with this number, by what its reply says, and how many faults that tells of, where it does.
+    /// Of the question with this number, by what its reply says, and how many faults that tells of, where it does.
     pub(crate) fn at(number: u64, kind: Kind, faults: Option<u32>) -> Marks {
         match (kind, faults) {
             (Kind::Missed, Some(faults)) => Marks {
@@ -44,7 +44,7 @@ impl Marks {
         }
     }
 
-    /// Takes in those of combinations that come later.
+    /// Takes in those of questions that come later.
     pub(crate) fn take(&mut self, later: Marks) {
         self.refused = self.refused.or(later.refused);
         self.fewest = fewer(self.fewest, later.fewest);

@@ -1,4 +1,4 @@
-//! A part of the combinations.
+//! A part of the questions.
 
 ghost use Rattle.std.specs.Prelude.{◌≡◌, ◌≤◌, MatchOption};
 ghost use Rattle.lf_sweep.specs.Limits.{most_combinations, most_parts};
@@ -6,7 +6,7 @@ ghost use Rattle.lf_sweep.specs.Limits.{most_combinations, most_parts};
 /// The most parts.
 pub const MOST_PARTS: u64 = 1000000;
 
-/// Every so many-th combination: `I/N` is the I-th of N parts, with the combinations I, I + N, I + 2N and so on, counted from 1.
+/// Every so many-th question: `I/N` is the I-th of N parts, with the questions I, I + N, I + 2N and so on, counted from 1.
 #[derive(Clone, Copy, Debug, PartialEq, Eq)]
 pub struct Part {
     which: u64,
@@ -30,26 +30,26 @@ impl Part {
         }
     }
 
-    /// All combinations.
+    /// All questions.
     pub fn whole() -> Part
         ensures { (result.which ≡ 1) × (result.parts ≡ 1) }
     {
         Part { which: 1, parts: 1 }
     }
 
-    /// How many of so many combinations the part has.
-    pub fn count(self, combinations: u64) -> u64
-        requires { combinations ≤ most_combinations }
-        ensures { IsLengthOf self combinations result }
+    /// How many of so many questions the part has.
+    pub fn count(self, questions: u64) -> u64
+        requires { questions ≤ most_combinations }
+        ensures { IsLengthOf self questions result }
     {
-        if combinations < self.which {
+        if questions < self.which {
             0
         } else {
-            (combinations - self.which) / self.parts + 1
+            (questions - self.which) / self.parts + 1
         }
     }
 
-    /// The number, from 0, of its combination at a place, from 0.
+    /// The number, from 0, of its question at a place, from 0.
     pub fn number(self, place: u64) -> u64
         requires { place ≤ most_combinations }
         ensures { result ≡ number_at self place }

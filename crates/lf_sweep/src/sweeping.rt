@@ -1,48 +1,47 @@
-//! Sweeps, by one worker and by several.
+//! The questions of a part asked, by one worker and by several.
 
 ghost use Rattle.std.specs.Prelude.{◌≡◌, ◌+◌, ◌*◌, ◌≤◌, ◌<◌, ℕ, false, vec_len, slice_index_or, IfErr, IfOk};
 ghost use Rattle.lf_sweep.specs.Faults.{HasCause, is_write};
+ghost use Rattle.lf_sweep.specs.Limits.{most_combinations};
 ghost use Rattle.lf_sweep.specs.Rows.{AreInside, AreLinesAt};
 ghost use Rattle.lf_sweep.specs.Sweeps.{WasPut, WasSwept, WerePut};
 
 use crate::Part;
-use crate::asker::Asker;
 use crate::counts::Counts;
 use crate::fault::SweepFault;
 use crate::lines::{Lines, part_lines};
 use crate::marks::Marks;
-use crate::study::Study;
+use crate::questions::Questions;
 use lf_streams::{Sink, write_all};
 use std::alloc::{AllocError, Global};
 use std::thread;
 use std::thread::Threads;
 
-/// How many combinations a worker asks of before their lines are written.
+/// How many questions a worker asks before their lines are written.
 const ROUND: u64 = 8;
 
-/// Asks of all combinations of a part, and writes the line of each as it comes, in order. The answer is how many replies of each kind there
-/// are. The marks take in which combinations stand out.
+/// Asks all questions of a part, and writes the line of each as it comes, in order. The answer is how many replies of each kind there are. The
+/// marks take in which questions stand out.
 ///
-/// The error says why it ended before the last: `NoDocument` and `Date` only where a combination has no text for that reason, `Protocol`
-/// where the asker refuses so, `Write` exactly where the sink failed, and `Memory` where memory ran out.
+/// The error says why it ended before the last: `Write` exactly where the sink failed, `Memory` where memory ran out, and else why a question
+/// has no line.
 ///
 /// It runs in one thread.
-pub fn sweep<A: Asker, W: Sink>(
+pub fn sweep<Q: Questions, W: Sink>(
     alloc: Global,
-    asker: &A,
-    study: &Study<'_>,
+    questions: &Q,
     part: Part,
     writer: &mut W,
     marks: &mut Marks,
 ) -> Result<Counts, SweepFault>
     requires { W.has_failed writer.old ≡ false }
-    ensures { WasSwept W.written W.has_failed (A.replies asker.now) (A.refuses asker.now) study.now.scenario.now study.now.plan.now.varied.items part
+    ensures { WasSwept W.written W.has_failed (Q.total questions.now) (Q.is_reply questions.now) (Q.line questions.now) (Q.refuses questions.now) part
         writer.old writer.new result }
 {
-    let count = part.count(study.plan.count());
+    let count = part.count(questions.count());
     let mut counts = Counts::empty();
     'places: for place in 0..count {
-        let line = part_lines(alloc, asker, study, part, place, 1)?;
+        let line = part_lines(alloc, questions, part, place, 1)?;
         put(writer, line.bytes.as_slice())?;
         counts = counts.plus(line.counts);
         marks.take(line.marks);
@@ -51,11 +50,10 @@ pub fn sweep<A: Asker, W: Sink>(
 }
 
 /// The same as `sweep`, by so many workers at once, 1 at least: the bytes are the same.
-pub fn sweep_shared<R: Threads + Sync, A: Asker + Sync, W: Sink>(
+pub fn sweep_shared<R: Threads + Sync, Q: Questions + Sync, W: Sink>(
     rt: &R,
     alloc: Global,
-    asker: &A,
-    study: &Study<'_>,
+    questions: &Q,
     part: Part,
     workers: u32,
     writer: &mut W,
@@ -63,28 +61,28 @@ pub fn sweep_shared<R: Threads + Sync, A: Asker + Sync, W: Sink>(
 ) -> Result<Counts, SweepFault>
     requires workers { 1 ≤ workers }
     requires writer { W.has_failed writer.old ≡ false }
-    ensures { WasSwept W.written W.has_failed (A.replies asker.now) (A.refuses asker.now) study.now.scenario.now study.now.plan.now.varied.items part
+    ensures { WasSwept W.written W.has_failed (Q.total questions.now) (Q.is_reply questions.now) (Q.line questions.now) (Q.refuses questions.now) part
         writer.old writer.new result }
 {
-    let count = part.count(study.plan.count());
+    let count = part.count(questions.count());
     let mut place = 0;
     let mut counts = Counts::empty();
     'rounds: while place < count {
         let round = Round::of(place, count - place, workers);
-        counts = counts.plus(put_round(rt, alloc, asker, study, part, round, writer, marks)?);
+        counts = counts.plus(put_round(rt, alloc, questions, part, round, writer, marks)?);
         place += round.lanes * round.size;
     }
     Ok(counts)
 }
 
-/// What workers ask of before their lines are written.
+/// What workers ask before their lines are written.
 #[derive(Clone, Copy)]
 struct Round {
-    /// The place of the first combination.
+    /// The place of the first question.
     place: u64,
     /// How many workers ask.
     lanes: u64,
-    /// Of how many combinations each asks.
+    /// How many questions each asks.
     size: u64,
     ghost sized: { 1 ≤ size },
 }
@@ -104,24 +102,23 @@ impl Round {
     }
 }
 
-/// Asks of the combinations of a round, and writes their lines in order.
-fn put_round<R: Threads + Sync, A: Asker + Sync, W: Sink>(
+/// Asks the questions of a round, and writes their lines in order.
+fn put_round<R: Threads + Sync, Q: Questions + Sync, W: Sink>(
     rt: &R,
     alloc: Global,
-    asker: &A,
-    study: &Study<'_>,
+    questions: &Q,
     part: Part,
     round: Round,
     writer: &mut W,
     marks: &mut Marks,
 ) -> Result<Counts, SweepFault>
-    requires inside { AreInside study.now.plan.now.varied.items part (round.place + round.lanes * round.size) }
+    requires few { Q.total questions.now ≤ most_combinations }
+    requires inside { AreInside (Q.total questions.now) part (round.place + round.lanes * round.size) }
     requires writer { W.has_failed writer.old ≡ false }
-    ensures { WerePut W.written W.has_failed (A.replies asker.now) (A.refuses asker.now) study.now.scenario.now study.now.plan.now.varied.items part
-        round.place (round.lanes * round.size)
-        writer.old writer.new result }
+    ensures { WerePut W.written W.has_failed (Q.total questions.now) (Q.is_reply questions.now) (Q.line questions.now) (Q.refuses questions.now) part
+        round.place (round.lanes * round.size) writer.old writer.new result }
 {
-    let Ok(found) = asked(rt, alloc, asker, study, part, round) else {
+    let Ok(found) = asked(rt, alloc, questions, part, round) else {
         return Err(SweepFault::Memory);
     };
     let mut counts = Counts::empty();
@@ -138,52 +135,51 @@ fn put_round<R: Threads + Sync, A: Asker + Sync, W: Sink>(
     Ok(counts)
 }
 
-/// The lines of the combinations of a round, worker by worker.
-fn asked<R: Threads + Sync, A: Asker + Sync>(
+/// The lines of the questions of a round, worker by worker.
+fn asked<R: Threads + Sync, Q: Questions + Sync>(
     rt: &R,
     alloc: Global,
-    asker: &A,
-    study: &Study<'_>,
+    questions: &Q,
     part: Part,
     round: Round,
 ) -> Result<Vec<Result<Lines, SweepFault>>, AllocError>
-    requires { AreInside study.now.plan.now.varied.items part (round.place + round.lanes * round.size) }
+    requires few { Q.total questions.now ≤ most_combinations }
+    requires inside { AreInside (Q.total questions.now) part (round.place + round.lanes * round.size) }
     ensures lanes { IfOk result (λ found. vec_len found ≡ round.lanes) }
     ensures lines { IfOk result (λ found. (lane : ℕ) (d : _) → lane < round.lanes →
-        IfOk (slice_index_or found.items lane d) (AreLinesAt (A.replies asker.now) study.now.scenario.now study.now.plan.now.varied.items part (round.place
-        + lane * round.size) round.size)) }
+        IfOk (slice_index_or found.items lane d) (AreLinesAt (Q.total questions.now) (Q.is_reply questions.now) (Q.line questions.now) part
+        (round.place + lane * round.size) round.size)) }
     ensures cause { IfOk result (λ found. (lane : ℕ) (d : _) → lane < round.lanes →
-        IfErr (slice_index_or found.items lane d) (HasCause (A.refuses asker.now) study.now.scenario.now study.now.plan.now.varied.items part)) }
+        IfErr (slice_index_or found.items lane d) (HasCause (Q.refuses questions.now) (Q.total questions.now) part)) }
     ensures sink { IfOk result (λ found. (lane : ℕ) (d : _) → lane < round.lanes → IfErr (slice_index_or found.items lane d) (λ e. is_write e ≡ false)) }
 {
     thread::map_indices(
         rt,
         alloc,
         round.lanes as usize,
-        &|lane: usize| lane_lines(alloc, asker, study, part, round, lane as u64),
+        &|lane: usize| lane_lines(alloc, questions, part, round, lane as u64),
     )
 }
 
-/// The lines of the combinations of which one worker asks in a round.
-fn lane_lines<A: Asker>(
+/// The lines of the questions that one worker asks in a round.
+fn lane_lines<Q: Questions>(
     alloc: Global,
-    asker: &A,
-    study: &Study<'_>,
+    questions: &Q,
     part: Part,
     round: Round,
     lane: u64,
 ) -> Result<Lines, SweepFault>
-    requires inside { AreInside study.now.plan.now.varied.items part (round.place + round.lanes * round.size) }
+    requires few { Q.total questions.now ≤ most_combinations }
+    requires inside { AreInside (Q.total questions.now) part (round.place + round.lanes * round.size) }
     requires lane { lane < round.lanes }
-    ensures lines { IfOk result (AreLinesAt (A.replies asker.now) study.now.scenario.now study.now.plan.now.varied.items part (round.place + lane *
-        round.size) round.size) }
-    ensures cause { IfErr result (HasCause (A.refuses asker.now) study.now.scenario.now study.now.plan.now.varied.items part) }
+    ensures lines { IfOk result (AreLinesAt (Q.total questions.now) (Q.is_reply questions.now) (Q.line questions.now) part
+        (round.place + lane * round.size) round.size) }
+    ensures cause { IfErr result (HasCause (Q.refuses questions.now) (Q.total questions.now) part) }
     ensures sink { IfErr result (λ e. is_write e ≡ false) }
 {
     part_lines(
         alloc,
-        asker,
-        study,
+        questions,
         part,
         round.place + lane * round.size,
         round.size,

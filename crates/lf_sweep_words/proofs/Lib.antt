@@ -1,8 +1,8 @@
 mod Cuts
-mod Help
+pub mod Laws
 mod Lists
+mod Literals
 mod One
 mod Planned
-mod Reading
 mod Refusing
 mod Sameness

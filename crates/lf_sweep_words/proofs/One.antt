@@ -1,16 +1,15 @@
 -- Words ask for one sweep at most.
-use Rattle.std.proofs.Common.{◌≡◌, ◌∙◌, ◌<◌, ℕ, List, Option, None, Some, refl, sym, ap, subst, codes, slice_index_or, string_bytes, arith}
+use Rattle.std.proofs.Common.{◌≡◌, ◌∙◌, ◌<◌, ℕ, List, Option, None, Some, refl, sym, ap, codes, slice_index_or, string_bytes, arith}
 use Rattle.std.proofs.lemmas.Option.{same_Some}
 use Rattle.clap.specs.Words.{Row, Text, all_of, first_of, matches_of}
-use Rattle.lf_sweep.specs.declared.part.Part.{Part}
 use Rattle.lf_sweep.specs.declared.plan.Plan.{Plan}
 use Rattle.lf_sweep_words.specs.Command.{sweep}
 use Rattle.lf_sweep_words.specs.Same.{AreSame, IsSameAsked}
-use Rattle.lf_sweep_words.specs.Words.{AreNamed, Asks, IsBy, IsMatched, IsNumber, IsPart, IsPlanned}
+use Rattle.lf_sweep_words.specs.Words.{Asks, IsBy, IsMatched, IsPlanned}
 use Rattle.lf_sweep_words.specs.declared.types.By.{By}
 use Rattle.lf_sweep_words.specs.declared.types.By.TheVariants as by
 use Rattle.lf_sweep_words.specs.declared.types.SweepAsked.{SweepAsked}
-use Rattle.lf_sweep_words.proofs.Cuts.{cut_once}
+use Rattle.lf_sweep_words.proofs.Laws.{part_once, workers_once}
 use Rattle.lf_sweep_words.proofs.Sameness.{all_once}
 
 apart : (m n : ℕ) → m < n → m ≡ n → ⊥
@@ -28,18 +27,6 @@ by_once (Some text) by.Answer by.Answer is is_too = refl
 by_once (Some text) by.Answer by.Search is is_too = absurd (either_word text is is_too)
 by_once (Some text) by.Search by.Answer is is_too = absurd (either_word text is_too is)
 by_once (Some text) by.Search by.Search is is_too = refl
-
-workers_once : (o : Option Text) (m n : ℕ) → AreNamed o m → AreNamed o n → m ≡ n
-workers_once None m n is is_too = is ∙ sym is_too
-workers_once (Some text) m n is is_too = sym is.0.1 ∙ is_too.0.1
-
-part_once : (o : Option Text) (a b : Part) → IsPart o a → IsPart o b → (a.which ≡ b.which) × (a.parts ≡ b.parts)
-part_once None a b is is_too = (is.0 ∙ sym is_too.0, is.1 ∙ sym is_too.1)
-part_once (Some text) a b is is_too =
-    let same = cut_once 47 text is.0 is.1 is_too.0 is_too.1 is.2 is_too.2 in
-    let which = subst (λ t. IsNumber t a.which) same.0 is.3.0 in
-    let parts = subst (λ t. IsNumber t a.parts) same.1 is.3.1 in
-    (sym which.1 ∙ is_too.3.0.1, sym parts.1 ∙ is_too.3.1.1)
 
 plan_once : (o : Option (List Text)) (a b : Plan) → IsPlanned o a → IsPlanned o b → AreSame a.varied.items b.varied.items
 plan_once None a b is is_too = absurd is

@@ -10,7 +10,8 @@ use Rattle.lf_sweep.specs.declared.varied.Varied.{Varied}
 use Rattle.lf_sweep.specs.Apart.{HaveNoPlan}
 use Rattle.lf_sweep_words.specs.Words.{AreVaried, IsNothing, IsVariedBy, IsWrong}
 use Rattle.lf_sweep_words.specs.declared.unasked.SweepUnasked.{SweepUnasked}
-use Rattle.lf_sweep_words.proofs.Refusing.{nothing_by, wrong_nothing}
+use Rattle.lf_sweep_words.proofs.Laws.{nothing_by}
+use Rattle.lf_sweep_words.proofs.Refusing.{wrong_nothing}
 use Rattle.lf_sweep_words.proofs.Sameness.{all_once, no_plan_same}
 
 abbrev nothing : List Varied

@@ -20,13 +20,6 @@ memory_nothing P (unasked.Told text) memory = subst (IsNothing P) (sym memory) t
 memory_nothing P (unasked.Wrong text) memory = subst (IsNothing P) (sym memory) tt
 memory_nothing P unasked.Memory memory = tt
 
--- what has something of which there is nothing is nothing
-pub nothing_by : {X Y : Type 0} (P : X → Type 0) (Q : Y → Type 0) (u : SweepUnasked) → ((y : Y) → Q y → (x : X) × P x) → IsNothing P u
-    → IsNothing Q u
-nothing_by P Q (unasked.Told text) part none = absurd none
-nothing_by P Q (unasked.Wrong text) part none = λ y is. none (part y is).0 (part y is).1
-nothing_by P Q unasked.Memory part none = tt
-
 -- a text that doesn't say what varies
 pub not_varied : {X : Type 0} (P : X → Type 0) (u : SweepUnasked) (e : VaryError)
     → ((e ≡ faults.Memory) × (u ≡ unasked.Memory)) ⊎ ((e ≢ faults.Memory) × IsWrong u) → (e ≢ faults.Memory → (x : X) → ¬ P x) → IsNothing P u

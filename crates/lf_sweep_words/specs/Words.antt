@@ -1,11 +1,11 @@
 -- What the words behind `sweep` ask for.
-use Rattle.std.specs.Prelude.{◌≡◌, ◌≤◌, ◌⊎◌, ⊤, ℕ, nat_lt, Bool, true, false, List, [], ◌∷◌, ◌++◌, Option, Some, None, Result, MatchResult, codes, string_bytes}
+use Rattle.std.specs.Prelude.{◌≡◌, ◌≤◌, ◌⊎◌, ⊤, ℕ, nat_lt, Bool, false, List, [], ◌∷◌, ◌++◌, Option, Some, None, Result, MatchResult, codes, string_bytes}
 use Rattle.std.specs.List.{list_any}
 use Rattle.std.specs.Option.{option_map}
 use Rattle.std.specs.Str.{bytes_eq}
 use Rattle.std.specs.Str.Parse.{IsNumeral, digits_value, without_leading_plus}
 use Rattle.clap.specs.declared.error.kind.ErrorKind.{ErrorKind}
-use Rattle.clap.specs.Words.{Kinds, Row, Text, all_of, fault_of, first_of, matches_of}
+use Rattle.clap.specs.Words.{App, Kinds, Row, Text, all_of, fault_of, first_of, matches_of}
 use Rattle.lf_sweep.specs.declared.part.Part.{Part}
 use Rattle.lf_sweep.specs.declared.plan.Plan.{Plan}
 use Rattle.lf_sweep.specs.declared.varied.Place.{Place}
@@ -84,26 +84,34 @@ pub record IsMatched (rows : List Row) (a : SweepAsked) : Type 0 where
   pub quiet : a.quiet ≡ is_set (first_of (codes "quiet") rows)
   pub protocol : first_of (codes "protocol") rows ≡ option_map (λ name. string_bytes name) a.protocol
 
--- `clap` takes the words behind `sweep`, and its matches ask for this
-abbrev pub Asks : List Text → SweepAsked → Type 0
-Asks words a = (fault_of sweep words ≡ []) × IsMatched (matches_of sweep words) a
+-- `clap` takes the words behind a command, and its matches ask for this
+abbrev pub AsksBy : {A : Type 0} → App → (List Row → A → Type 0) → List Text → A → Type 0
+AsksBy app P words a = (fault_of app words ≡ []) × P (matches_of app words) a
 
 -- one of the kinds has this status
 abbrev pub HasStatus : Kinds → ℕ → Type 0
 HasStatus [] n = ⊥
 HasStatus (kind ∷ kinds) n = (n ≡ status_of kind) ⊎ HasStatus kinds n
 
--- why the words ask for no sweep: `clap` answers them with help; or it refuses them, or takes them and its matches ask for nothing. Memory
--- may be wanting for any words
-abbrev pub IsRefusal : List Text → SweepUnasked → Type 0
-IsRefusal words (unasked.Told text) = HasStatus (fault_of sweep words) 0
-IsRefusal words (unasked.Wrong text) =
-    HasStatus (fault_of sweep words) 2 ⊎ ((fault_of sweep words ≡ []) × ((a : SweepAsked) → ¬ IsMatched (matches_of sweep words) a))
-IsRefusal words unasked.Memory = ⊤
+-- why the words behind a command ask for nothing: `clap` answers them with help; or it refuses them, or takes them and its matches ask for
+-- nothing. Memory may be wanting for any words
+abbrev pub IsRefusalBy : {A : Type 0} → App → (List Row → A → Type 0) → List Text → SweepUnasked → Type 0
+IsRefusalBy app P words (unasked.Told text) = HasStatus (fault_of app words) 0
+IsRefusalBy {A} app P words (unasked.Wrong text) =
+    HasStatus (fault_of app words) 2 ⊎ ((fault_of app words ≡ []) × ((a : A) → ¬ P (matches_of app words) a))
+IsRefusalBy app P words unasked.Memory = ⊤
 
--- words ask for this, or are refused for this
+-- the words behind a command ask for this, or are refused for this
+abbrev pub AnswersBy : {A : Type 0} → App → (List Row → A → Type 0) → List Text → Result A SweepUnasked → Type 0
+AnswersBy app P words r = MatchResult r (AsksBy app P words) (IsRefusalBy app P words)
+
+-- the words behind `sweep` ask for this
+abbrev pub Asks : List Text → SweepAsked → Type 0
+Asks words a = AsksBy sweep IsMatched words a
+
+-- they ask for this, or are refused for this
 abbrev pub Answers : List Text → Result SweepAsked SweepUnasked → Type 0
-Answers words r = MatchResult r (Asks words) (IsRefusal words)
+Answers words r = AnswersBy sweep IsMatched words r
 
 -- a refusal of `clap`'s of this kind is told like this
 abbrev pub IsToldFor : ErrorKind → SweepUnasked → Type 0

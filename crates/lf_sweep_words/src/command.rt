@@ -72,7 +72,7 @@ fn varying<'a>(
 }
 
 /// The argument FILE.
-fn file<'a>(alloc: Global) -> Arg<'a>
+pub fn file<'a>(alloc: Global) -> Arg<'a>
     ensures { (rule_of result ≡ file) × (result.global ≡ false) }
 {
     Arg::new(alloc, "file")
@@ -138,7 +138,7 @@ fn told<'a>(
 }
 
 /// The command with one argument more.
-fn with_argument<'a>(
+pub fn with_argument<'a>(
     command: Result<Command<'a>, AllocError>,
     argument: Arg<'a>,
 ) -> Result<Command<'a>, AllocError>
@@ -149,14 +149,14 @@ fn with_argument<'a>(
 }
 
 /// An option whose value help calls by this name.
-fn option<'a>(alloc: Global, id: &'a str, name: &'a str, help: &'a str) -> Arg<'a>
+pub fn option<'a>(alloc: Global, id: &'a str, name: &'a str, help: &'a str) -> Arg<'a>
     ensures { (rule_of result ≡ option id.entry.now) × (result.global ≡ false) }
 {
     Arg::new(alloc, id).long(id).value_name(name).help(help)
 }
 
 /// A flag.
-fn flag<'a>(alloc: Global, id: &'a str, help: &'a str) -> Arg<'a>
+pub fn flag<'a>(alloc: Global, id: &'a str, help: &'a str) -> Arg<'a>
     ensures { (rule_of result ≡ flag id.entry.now) × (result.global ≡ false) }
 {
     Arg::new(alloc, id)

@@ -1,4 +1,4 @@
-//! Why the words of `sweep` ask for nothing.
+//! Why the words of `sweep`, or of a command that is read so, ask for nothing.
 
 ghost use Rattle.std.specs.Prelude.{◌≡◌};
 ghost use Rattle.lf_sweep_words.specs.Statuses.{exit_status, goes_to_error, text_of};
@@ -8,7 +8,7 @@ use std::alloc::{AllocError, Global};
 use std::error::Error;
 use std::fmt;
 
-/// Why the words of `sweep` ask for nothing. It is displayed as its text without the last line feed.
+/// Why the words of `sweep`, or of a command that is read so, ask for nothing. It is displayed as its text without the last line feed.
 #[derive(Debug, Drop)]
 pub enum SweepUnasked {
     /// Help was asked for: what to tell.
@@ -71,7 +71,7 @@ impl From<AllocError> for SweepUnasked {
 }
 
 /// Wrong words, of which this is to be told; or want of memory.
-pub(crate) fn wrong(alloc: Global, text: &str) -> SweepUnasked
+pub fn wrong(alloc: Global, text: &str) -> SweepUnasked
     ensures { IsWrong result }
 {
     told_or_memory(String::from_str(alloc, text))

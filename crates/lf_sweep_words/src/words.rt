@@ -88,7 +88,7 @@ fn by_of(alloc: Global, word: &str) -> Result<By, SweepUnasked>
 }
 
 /// How many workers there are to be.
-fn workers_in(alloc: Global, matches: &ArgMatches<'_>) -> Result<u32, SweepUnasked>
+pub fn workers_in(alloc: Global, matches: &ArgMatches<'_>) -> Result<u32, SweepUnasked>
     ensures { MatchResult result (AreNamed (first_of (codes "workers") (rows_of (found_of matches.now))))
         (IsNothing (AreNamed (first_of (codes "workers") (rows_of (found_of matches.now))))) }
 {
@@ -119,7 +119,7 @@ fn number_of_workers(word: &str) -> Option<u32>
 }
 
 /// Which of the combinations are asked of.
-fn part_in(alloc: Global, matches: &ArgMatches<'_>) -> Result<Part, SweepUnasked>
+pub fn part_in(alloc: Global, matches: &ArgMatches<'_>) -> Result<Part, SweepUnasked>
     ensures { MatchResult result (IsPart (first_of (codes "part") (rows_of (found_of matches.now))))
         (IsNothing (IsPart (first_of (codes "part") (rows_of (found_of matches.now))))) }
 {
@@ -181,7 +181,7 @@ fn plan_in(alloc: Global, matches: &ArgMatches<'_>) -> Result<Plan, SweepUnasked
 }
 
 /// The file of the scenario, and that of the protocol, where one is named.
-fn files_in(
+pub fn files_in(
     alloc: Global,
     matches: &ArgMatches<'_>,
 ) -> Result<(String, Option<String>), SweepUnasked>
@@ -199,7 +199,7 @@ fn files_in(
 }
 
 /// Whether a flag is set.
-fn is_set(matches: &ArgMatches<'_>, flag: &str) -> bool
+pub fn is_set(matches: &ArgMatches<'_>, flag: &str) -> bool
     ensures { result ≡ is_set (first_of flag.now (rows_of (found_of matches.now))) }
 {
     match value(matches, flag) {
@@ -223,7 +223,7 @@ fn text(
 }
 
 /// The value of an argument.
-fn value<'a>(matches: &ArgMatches<'a>, argument: &str) -> Option<&'a str>
+pub fn value<'a>(matches: &ArgMatches<'a>, argument: &str) -> Option<&'a str>
     ensures { option_map (λ s. s.now) result
         ≡ first_of argument.now (rows_of (found_of matches.now)) }
 {
@@ -239,7 +239,7 @@ fn values<'m, 'a>(matches: &'m ArgMatches<'a>, argument: &str) -> Option<&'m [&'
 }
 
 /// What to tell of words that `clap` refuses.
-fn refused(alloc: Global, error: &Error) -> Result<SweepUnasked, AllocError>
+pub fn refused(alloc: Global, error: &Error) -> Result<SweepUnasked, AllocError>
     ensures { IfOk result (IsToldFor (kind_of error.now)) }
 {
     match error.kind() {

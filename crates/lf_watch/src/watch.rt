@@ -6,6 +6,11 @@ use crate::Progress;
 pub trait Watch: Sync {
     /// Takes what is told. Nothing waits for it but the work that tells.
     fn tell(&self, progress: Progress);
+
+    /// Whether the work is to go on. Where it isn't, a search over configurations ends without an answer, as it does where memory runs out.
+    fn goes_on(&self) -> bool {
+        true
+    }
 }
 
 /// Passes by what it is told.

@@ -3,4 +3,6 @@ use Rattle.lf_sweep.proofs.lines.part_lines.Given as goal
 
 -- the lines so far
 abbrev pub invariant-places : goal.invariant-places
-invariant-places g l = AreToldAt (g.A.Asker.replies l.asker) l.study.scenario.now l.study.plan.now.varied.items l.part l.from l.i l.bytes.items l.counts
+invariant-places g l =
+    AreToldAt (g.Q.Questions.total l.questions) (g.Q.Questions.is_reply l.questions) (g.Q.Questions.line l.questions) l.part
+    l.from l.i l.bytes.items l.counts

@@ -5,6 +5,6 @@ use Rattle.lf_sweep.proofs.sweeping.put_round.Given as goal
 -- the lines that were written
 abbrev pub invariant-lanes : goal.invariant-lanes
 invariant-lanes g l =
-    WereTold g.W.Sink.written g.W.Sink.has_failed (g.A.Asker.replies l.asker) (g.A.Asker.refuses l.asker) l.study.scenario.now l.study.plan.now.varied.items
-    l.fn.part l.fn.round.place
-    (l.lane * l.fn.round.size) l.initial.writer l.writer l.counts × (g.W.Sink.has_failed l.writer ≡ false)
+    WereTold g.W.Sink.written g.W.Sink.has_failed (g.Q.Questions.total l.questions) (g.Q.Questions.is_reply l.questions) (g.Q.Questions.line l.questions)
+    (g.Q.Questions.refuses l.questions) l.fn.part l.fn.round.place (l.lane * l.fn.round.size) l.initial.writer l.writer l.counts
+    × (g.W.Sink.has_failed l.writer ≡ false)

@@ -5,9 +5,9 @@ use Rattle.lf_sweep.proofs.sweeping.sweep_shared.Given as goal
 -- the lines that were written
 abbrev pub invariant-rounds : goal.invariant-rounds
 invariant-rounds g l =
-    (WereTold g.W.Sink.written g.W.Sink.has_failed (g.A.Asker.replies l.asker) (g.A.Asker.refuses l.asker) l.study.scenario.now
-    l.study.plan.now.varied.items l.part 0 l.place l.initial.writer l.writer
-    l.counts × (g.W.Sink.has_failed l.writer ≡ false)) × (l.place ≤ l.count)
+    (WereTold g.W.Sink.written g.W.Sink.has_failed (g.Q.Questions.total l.questions) (g.Q.Questions.is_reply l.questions) (g.Q.Questions.line l.questions)
+    (g.Q.Questions.refuses l.questions) l.part 0 l.place l.initial.writer l.writer l.counts
+    × (g.W.Sink.has_failed l.writer ≡ false)) × (l.place ≤ l.count)
 
 abbrev pub decreases-rounds : goal.decreases-rounds
 decreases-rounds g l = l.count - l.place

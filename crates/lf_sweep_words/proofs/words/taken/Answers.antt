@@ -2,7 +2,7 @@ use Rattle.std.proofs.Common.{string_bytes}
 use Rattle.std.proofs.lemmas.Result.{err_from_is_err_and}
 use Rattle.clap.specs.Words.{found_of, rows_of}
 use Rattle.lf_sweep_words.specs.Words.{IsMatched}
-use Rattle.lf_sweep_words.proofs.Refusing.{nothing_by}
+use Rattle.lf_sweep_words.proofs.Laws.{nothing_by}
 use Rattle.lf_sweep_words.proofs.words.taken.Goals as goal
 
 pub returns-in_err-by : goal.returns-in_err-by

@@ -1,0 +1,2 @@
+mod AskedLemmas
+pub mod Laws

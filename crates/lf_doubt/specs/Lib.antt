@@ -1,0 +1,4 @@
+pub mod Changes
+pub mod Bounds
+pub mod Questions
+pub mod Names

@@ -1,0 +1,4 @@
+pub mod Laws
+mod LeafLemmas
+mod PartLemmas
+mod QuestionLemmas

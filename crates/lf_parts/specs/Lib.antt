@@ -1,0 +1,4 @@
+pub mod Leaves
+pub mod Parts
+pub mod Questions
+pub mod Words
