@@ -752,6 +752,84 @@ paste -d '\\n' part.1 part.2 part.3 | grep ."
     expect 0 'leastfault sweep --help' '' "leastfault --help | grep -o 'leastfault sweep --help'"
 }
 
+# doubts STATUS NAME WORDS: the report of a doubt is that of doubts/NAME.txt, to the byte.
+doubts() {
+    local report
+    slurp report "$here/doubts/$2.txt"
+    expect "$1" "${report%$'\n'}" '' "leastfault doubt $3 --quiet"
+}
+
+# Doubts: the reports of six, by any number of workers and in parts; and where a rule comes to matter within bounds that are asked.
+test_doubt() {
+    local kit=examples/protocols own=examples/protocols/scenarios n report commit chain first
+    commit="$own/two_phase_agreement.toml --protocol $kit/two_phase.toml"
+    chain="$own/chain_replication_durable.toml --protocol $kit/chain_replication.toml"
+    doubts 1 blocked_commit examples/blocked_commit.toml
+    doubts 0 relayed examples/relayed.toml
+    doubts 0 two_phase_agreement "$commit"
+    doubts 1 chain_replication_durable "$chain --deep"
+    doubts 1 chang_roberts_lost "$own/chang_roberts_lost.toml --protocol $kit/chang_roberts.toml"
+    doubts 0 lock_exclusive "$own/lock_exclusive.toml --protocol $kit/lock.toml --workers 2"
+    for n in 2 3 32; do
+        doubts 0 two_phase_agreement "$commit --workers $n"
+    done
+    doubts 0 two_phase_agreement "$commit --seconds 86400"
+    slurp report "$here/doubts/two_phase_agreement.txt"
+    expect 0 "${report%$'\n'}" '' "for i in 1 2 3; do leastfault doubt $commit --quiet --workers \$i --part \$i/3 >part.\$i; done
+paste -d '\\n' part.1 part.2 part.3 | grep ."
+    first='{"question":"given","reply":"least 3","faults":["crash 0 @3","crash 1 @4","crash 2 @5"]}'
+    expect 1 "$first"$'\n{"question":"rule 4","reply":"taken 19 of 33","faults":[]}' '' "leastfault doubt $chain --quiet --json --part 1/10 | sed -n '1,2p'; exit 1"
+    expect 0 $'given\tnone 3' $'the answer is none 3\n' 'leastfault doubt - --part 1/9 <examples/relayed.toml'
+    expect 0 '' $'the answer is none 3\nit is the same without rule 1, 2, 3, 4, 5, 6, 7, 8, 9, 10, 11
+warning: in no run with one fault at most is taken rule 5, rule 9, rule 11
+warning: in no such run happens what the promise speaks of in part 2 each\nit is another with: rule 5 always (least 0)\n' \
+        "leastfault doubt $commit >report"
+    doubts_of_flaws
+    doubts_refused
+}
+
+# doubts_of_flaws: within the first bounds nothing rests on what a flawed protocol leaves out, and the flaw isn't found. With a bound that a doubt asks
+# about it is.
+doubts_of_flaws() {
+    local kit=examples/protocols own=examples/protocols/scenarios view newest
+    view=$kit/viewstamped_replication.toml newest=$kit/chandra_toueg.toml
+    run "sed 's/^horizon = 12/horizon = 18/' $own/viewstamped_replication_safe.toml >shorter.toml
+sed 's/^pause_length = 3/pause_length = 6/' shorter.toml >longer.toml
+sed 's/l > best or l = best and n > best_len/n > best_len/; s/normal > best or normal = best and len > best_len/len > best_len/' $view >longest_log.toml"
+    expect 0 $'rule 15 never\tnone 2' '' "leastfault doubt shorter.toml --protocol $view --quiet --part 45/1000"
+    expect 0 'none 2' '' 'leastfault answer shorter.toml --protocol longest_log.toml'
+    expect 0 $'pause_length 6\tnone 2' '' "leastfault doubt shorter.toml --protocol $view --quiet --part 76/1000"
+    expect 1 $'least 2\npause 0 @1\ncrash 1 @8' '' 'leastfault answer longer.toml --protocol longest_log.toml'
+    expect 0 $'rule 15 never\tleast 2\tpause 0 @1\tcrash 1 @8' '' "leastfault doubt longer.toml --protocol $view --quiet --part 45/1000"
+    expect 0 $'every delay, spread 1\topen' '' "leastfault doubt shorter.toml --protocol $view --quiet --seconds 1 --part 77/1000"
+    run "sed 's/^pause_length = 6/pause_length = 4/' $own/chandra_toueg_agreement.toml >shorter.toml
+sed 's/^outcome/given = { newest = false }\noutcome/' shorter.toml >first.toml
+sed 's/^pause_length = 4/pause_length = 8/' first.toml >longer.toml"
+    expect 0 $'rule 5 without set 1\tnone 2' '' "leastfault doubt shorter.toml --protocol $newest --deep --quiet --part 35/1000"
+    expect 0 $'rule 6 without set 4\tnone 2' '' "leastfault doubt shorter.toml --protocol $newest --deep --quiet --part 47/1000"
+    expect 0 'none 2' '' "leastfault answer first.toml --protocol $newest"
+    expect 0 $'pause_length 8\tnone 2' '' "leastfault doubt shorter.toml --protocol $newest --deep --quiet --part 73/1000"
+    expect 1 $'least 2\npause 0 @1\nomit 1>2 @4' '' "leastfault answer longer.toml --protocol $newest"
+    expect 0 $'pause_length 8\tleast 2\tpause 0 @1\tomit 1>2 @4' '' "leastfault doubt first.toml --protocol $newest --quiet --part 35/1000"
+}
+
+# doubts_refused: what is no doubt, and why.
+doubts_refused() {
+    local kit=examples/protocols own=examples/protocols/scenarios n
+    expect 2 'refused 6 budget' $'budget = 7: a whole number from 0 to 6\n' 'leastfault doubt examples/out_of_range.toml'
+    expect 2 'refused 9 protocol' '*--protocol FILE'$'\n' "leastfault doubt $own/lock_exclusive.toml"
+    expect 2 'refused protocol 2' '?*' "leastfault doubt $own/lock_exclusive.toml --protocol examples/README.md"
+    expect 3 '' $'read\n*' 'leastfault doubt nowhere.toml'
+    expect 3 '' $'write\nstandard output: *space*' 'leastfault doubt examples/relayed.toml >/dev/full'
+    expect 2 '' $'--seconds: it takes a whole number from 1 to 86400\n' 'leastfault doubt examples/relayed.toml --seconds 0'
+    for n in '--seconds 86401' '--workers 33' '--part 2/1' '--budget 1' 'more'; do
+        expect 2 '' '?*' "leastfault doubt examples/relayed.toml $n"
+    done
+    helps 'leastfault doubt --help'
+    expect 2 '' 'dout: no such command; did you mean `leastfault doubt`[?]'$'\n' 'leastfault dout'
+    expect 0 'leastfault doubt --help' '' "leastfault --help | grep -o 'leastfault doubt --help'"
+}
+
 test_words() {
     local words protocol=examples/protocols/retry.toml own=examples/protocols/scenarios/retry_lost.toml
     for words in --help -h 'search --help' 'answer --help' 'why --help' 'run --help' 'draw --help' 'check --help' 'protocol --help'; do
@@ -824,6 +902,9 @@ test_refused() {
 # status_of OUT ERR: the status that belongs to what a command prints; 0 for a silent command, which isn't the program's.
 status_of() {
     case $1 in
+    $'given\tnone '*) echo 0 ;; # the lines of a doubt
+    $'given\tleast '*) echo 1 ;;
+    'rule '*) echo 0 ;; # a line of one whose answer is none, cut out by a part
     *$'\tleast '*) echo 1 ;; # the lines of a sweep
     *$'\trefused '* | *$'\tfull '*) echo 2 ;;
     *$'\tnone '*) echo 0 ;;
@@ -836,6 +917,8 @@ status_of() {
     'patience '*) echo 0 ;; # a table, made of a sweep by a filter
     '') case $2 in
         read* | write* | memory* | pool*) echo 3 ;;
+        'the answer is none '*) echo 0 ;; # what the lines of a doubt come to
+        'the answer is least '*) echo 1 ;;
         '') echo 0 ;;
         *) echo 2 ;;
         esac ;;
@@ -982,6 +1065,7 @@ test_check
 test_protocol
 test_own_protocols
 test_sweep
+test_doubt
 test_words
 test_devices
 test_refused

@@ -64,7 +64,7 @@ fn note(alloc: Global) -> Result<Send, AllocError> {
     })
 }
 
-/// The rules: 1, node 0 sends a note; 2, never taken, and 3, node 1 hears it, and remembers that.
+/// The rules: 1, node 0 sends a note; 2, never taken, and 3, node 1 hears it, and remembers that; 4, node 0 begins, and does nothing.
 fn chains(alloc: Global) -> Result<Vec<Chain>, AllocError> {
     let mut sends = Vec::new(alloc);
     sends.push(note(alloc)?)?;
@@ -75,9 +75,12 @@ fn chains(alloc: Global) -> Result<Vec<Chain>, AllocError> {
     let mut hears = Vec::new(alloc);
     hears.push(rule(false, Vec::new(alloc), Vec::new(alloc))?)?;
     hears.push(rule(true, sets, Vec::new(alloc))?)?;
+    let mut begins = Vec::new(alloc);
+    begins.push(rule(true, Vec::new(alloc), Vec::new(alloc))?)?;
     let mut chains = Vec::new(alloc);
     chains.push(chain(alloc, 0, Event::Begin, asks)?)?;
     chains.push(chain(alloc, 1, Event::Note(0), hears)?)?;
+    chains.push(chain(alloc, 0, Event::Start, begins)?)?;
     Ok(chains)
 }
 

@@ -5,7 +5,7 @@ use lf_faults::{FaultSet, FaultSpec};
 use lf_latency::{Links, Network};
 use lf_protocols::Protocol;
 use lf_sim::Setting;
-use lf_stakes::{rules_taken, single_sets, times_entered};
+use lf_stakes::{rules_of_start, rules_taken, single_sets, times_entered};
 use std::alloc::Global;
 
 /// A protocol of two nodes up to step 3, whose notes arrive at the next step, with omissions up to step 2, one crash and no pause.
@@ -37,7 +37,7 @@ fn single_counts(alloc: Global, protocol: Option<Protocol>, runs: usize, wanted:
 // a note that is lost is followed by another.
 #[test]
 fn each_run_counts_once(rt: HostRuntime) {
-    assert!(rt; single_counts(rt.alloc(), asking(rt.alloc()), 11, &[10, 0, 8]));
+    assert!(rt; single_counts(rt.alloc(), asking(rt.alloc()), 11, &[10, 0, 8, 0]));
 }
 
 #[test]
@@ -45,8 +45,8 @@ fn a_set_that_is_given_twice_counts_twice(rt: HostRuntime) {
     let twice = [FaultSet::empty(), FaultSet::empty()];
     let holds = match setting(asking(rt.alloc())) {
         Some(setting) => {
-            counts(rt.alloc(), &setting, &twice, &[2, 0, 2])
-                && counts(rt.alloc(), &setting, &[], &[0, 0, 0])
+            counts(rt.alloc(), &setting, &twice, &[2, 0, 2, 0])
+                && counts(rt.alloc(), &setting, &[], &[0, 0, 0, 0])
         }
         None => false,
     };
@@ -56,6 +56,25 @@ fn a_set_that_is_given_twice_counts_twice(rt: HostRuntime) {
 #[test]
 fn a_protocol_that_is_not_one_of_rules_has_no_count(rt: HostRuntime) {
     assert!(rt; single_counts(rt.alloc(), Protocol::retry(2, 1), 11, &[]));
+}
+
+/// Whether those of the start are wanted.
+fn starts(alloc: Global, protocol: Option<Protocol>, wanted: &[bool]) -> bool {
+    let Some(protocol) = protocol else {
+        return false;
+    };
+    match rules_of_start(alloc, &protocol) {
+        Ok(starts) => starts.as_slice() == wanted,
+        Err(_) => false,
+    }
+}
+
+// Node 0 takes rule 4 in each run, before step 1, and so at no step.
+#[test]
+fn a_rule_of_the_start_is_told_apart(rt: HostRuntime) {
+    let alloc = rt.alloc();
+    let own = starts(alloc, asking(alloc), &[false, false, false, true]);
+    assert!(rt; own && starts(alloc, Protocol::retry(2, 1), &[]));
 }
 
 /// In how many of the runs of the single sets something is entered under a topic. None where memory has run out.

@@ -159,7 +159,8 @@ fn least_sets(book: &Book) -> Result<Vec<FaultSet>, AllocError>
     Ok(sets)
 }
 
-/// The reply that tells the answer to a scenario's text, with its status.
+/// The reply that tells the answer to a scenario's text, with its status. The error is that memory has run out, or that the watch says that
+/// the work isn't to go on.
 pub fn answer_reply<V: Watch>(
     alloc: Global,
     known: Option<&ProtocolFile>,

@@ -84,7 +84,7 @@ pub(crate) fn answer_asked<V: Watch>(
 
 /// The reply that tells the answer over every delay to a scenario's text: the fewest faults that, with some delays of notes, defeat the
 /// outcome, and behind them which notes come late; or that no allowed faults do, whatever each note takes between its least delay and
-/// its spread beyond that.
+/// its spread beyond that. The error is that memory has run out, or that the watch says that the work isn't to go on.
 pub fn every_delay_reply<V: Watch>(
     alloc: Global,
     known: Option<&ProtocolFile>,

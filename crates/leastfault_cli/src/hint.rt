@@ -14,7 +14,7 @@ use std::alloc::{AllocError, Global};
 use std::io::IsTerminal;
 
 /// What is wrong with what was refused, or with a certificate, what a protocol file has, and on a terminal how to see what a set does that was
-/// found, in words; nothing where all is well. The error, also below, is that memory has run out.
+/// found, or how to ask what it rests on that there is none, in words; nothing where all is well. The error, also below, is that memory has run out.
 pub(crate) fn words_of(
     rt: &HostRuntime,
     asked: &Asked,
@@ -96,7 +96,11 @@ fn refused_words(
 }
 
 /// The words, and that `--protocol` may have been forgotten, where the protocol is unknown or constants are given.
-fn with_option(alloc: Global, error: ScenarioError, words: String) -> Result<String, AllocError> {
+pub(crate) fn with_option(
+    alloc: Global,
+    error: ScenarioError,
+    words: String,
+) -> Result<String, AllocError> {
     if error == ScenarioError::Protocol {
         format!(in alloc; "{words}; the file of a protocol of your own is named by --protocol FILE")
     } else if words.as_str().starts_with("\"given\"") {
@@ -147,7 +151,7 @@ fn delays_words(alloc: Global, asked: &Asked, texts: &CommandTexts) -> Result<St
     }
 }
 
-/// How to see what a set does that a search or an answer found in a file.
+/// How to see what a set does that a search or an answer found in a file, or how to ask what it rests on that there is none.
 fn see_words(alloc: Global, asked: &Asked, found: &Said) -> Result<String, AllocError> {
     let (Asked::Search { file, .. } | Asked::Answer { file, .. }) = asked else {
         return Ok(String::new(alloc));
@@ -162,15 +166,42 @@ fn see_words(alloc: Global, asked: &Asked, found: &Said) -> Result<String, Alloc
     };
     let (file, protocol) = (file.as_str(), protocol.as_deref());
     match found {
+        Said::Answer(None) => doubt_words(alloc, asked, file, protocol),
         Said::Answer(Some(set)) => {
             let sets: [FaultSet; 1] = [*set];
             see_hint(alloc, file, protocol, &sets)
         }
+        Said::AllLeast(sets) if sets.is_empty() => doubt_words(alloc, asked, file, protocol),
         Said::AllLeast(sets) => see_hint(alloc, file, protocol, sets.as_slice()),
         Said::Late { set, delays } => {
             see_late_hint(alloc, file, protocol, set, delays.as_slice())
         }
         _ => Ok(String::new(alloc)),
+    }
+}
+
+/// How to ask what it rests on that no faults defeat the outcome of a scenario, for files as a shell takes them; nothing of an answer over every
+/// delay, of which there is no doubt.
+fn doubt_words(
+    alloc: Global,
+    asked: &Asked,
+    file: &str,
+    protocol: Option<&str>,
+) -> Result<String, AllocError> {
+    if let Asked::Answer {
+        every_delay: true,
+        ..
+    } = asked
+    {
+        return Ok(String::new(alloc));
+    }
+    match protocol {
+        Some(protocol) => {
+            format!(in alloc;
+                "to ask what this rests on: leastfault doubt {file} --protocol {protocol}"
+            )
+        }
+        None => format!(in alloc; "to ask what this rests on: leastfault doubt {file}"),
     }
 }
 

@@ -47,6 +47,14 @@ impl<'a> Line<'a> {
         }
     }
 
+    /// Says that so many of all questions are answered, where it may be shown.
+    pub(crate) fn count(&self, done: u64, all: u64) {
+        if self.made.is_some() && done < all {
+            self.shown.store(true, Ordering::Relaxed);
+            let _told = eprint!(self.rt; "\r\x1b[K{done} of {all} questions").is_ok();
+        }
+    }
+
     /// Whether it is time to show what is told now. Of several threads that ask at once one alone is to.
     fn is_due(&self) -> bool {
         let Some(made) = self.made else {

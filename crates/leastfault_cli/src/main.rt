@@ -9,6 +9,7 @@
 //!     leastfault check FILE TREE [--protocol PROTOCOL] [--quiet]
 //!     leastfault protocol FILE
 //!     leastfault sweep FILE --vary KEY=VALUES .. [--by answer|search] [--workers N] [--part I/N] [--json] [--protocol PROTOCOL] [--quiet]
+//!     leastfault doubt FILE [--protocol PROTOCOL] [--deep] [--seconds S] [--workers N] [--part I/N] [--json] [--quiet]
 //!
 //! PROTOCOL is the file of a protocol that the scenario names besides the shipped ones, always a file's name, also where it is `-`.
 //!
@@ -33,6 +34,10 @@
 //! a key its values, `--by` says which command replies, `--part` takes one of N parts of the combinations, and `--json` makes each line an object.
 //! Standard error counts the replies and says what is wrong with the first combination that is refused, but with `--quiet`.
 //!
+//! `doubt` asks what the answer hangs on: it prints a line for the answer, and one for each question about it, with a tab before the reply: how often each
+//! rule is taken and what comes of it where it never is and where it always is, what the parts of the promise speak of, the answer with wider bounds, and whether a
+//! value passes its range. Standard error has a summary, but with `--quiet`. The status is that of the answer.
+//!
 //! `protocol` prints `ok` where the file is a protocol file, and else `refused protocol NUMBER PLACE`, without the place where the file as
 //! a whole is refused.
 //!
@@ -52,17 +57,21 @@
 mod combination;
 mod devices;
 mod disk;
+mod doubting;
 mod hint;
 mod json_line;
 mod line;
 mod report;
 mod same_file;
 mod stop;
+mod summary;
 mod sweeping;
 mod tally;
+mod telling;
 
 use devices::print;
 use disk::Disk;
+use doubting::doubt_done;
 use hint::words_of;
 use leastfault::{Asked, BytesFault, Executed, Unasked, asked, certificate_file, execute};
 use line::Line;
@@ -75,6 +84,7 @@ use std::sync::Wait;
 use std::thread::Threads;
 use stop::Stop;
 use sweeping::sweep_done;
+use telling::hinted;
 
 fn main(rt: HostRuntime) -> ExitCode {
     match status(&rt, &rt) {
@@ -108,6 +118,9 @@ fn status(rt: &HostRuntime, threads: &(impl Threads + Wait + Clock + Sync)) -> R
     if let Some((first, rest)) = words.as_slice().split_first() {
         if first.as_str() == "sweep" {
             return sweep_done(rt, threads, rest);
+        }
+        if first.as_str() == "doubt" {
+            return doubt_done(rt, threads, rest);
         }
     }
     match asked(rt.alloc(), words.as_slice()) {
@@ -146,7 +159,7 @@ fn done(
     line.erase();
     match ended {
         Ok(done) => {
-            hinted(rt, asked, &done);
+            hinted(rt, words_of(rt, asked, &done));
             Ok(done.reply.value.status)
         }
         Err(fault) => Err(disk.stopped(fault)),
@@ -174,14 +187,5 @@ fn is_quiet(asked: &Asked) -> bool {
         | Asked::Why { quiet, .. }
         | Asked::Check { quiet, .. } => *quiet,
         Asked::Run { .. } | Asked::Draw { .. } | Asked::Protocol { .. } => true,
-    }
-}
-
-/// Says on standard error what a command came to, as far as there is something to say, and memory for it.
-fn hinted(rt: &HostRuntime, asked: &Asked, done: &Executed) {
-    if let Ok(words) = words_of(rt, asked, done) {
-        if !words.is_empty() {
-            let _told = eprintln!(rt; "{words}").is_ok();
-        }
     }
 }

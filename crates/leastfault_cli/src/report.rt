@@ -3,6 +3,7 @@
 ghost use Rattle.std.specs.Prelude.{◌≡◌, ◌<◌, ◌≤◌, false, is_some, length};
 
 use crate::json_line::json_line;
+use crate::line::Line;
 use leastfault::{Failed, Sink};
 use std::alloc::{AllocError, Global};
 use std::io;
@@ -21,6 +22,15 @@ impl From<AllocError> for Unwritten {
     }
 }
 
+/// The lines that were written, as they came, and where it is told how many of all there are.
+#[derive(Drop)]
+pub(crate) struct Kept<'a> {
+    lines: Vec<u8>,
+    line: &'a Line<'a>,
+    done: u64,
+    all: u64,
+}
+
 /// A sink that writes each line of a sweep to standard output as it is, or as a JSON object.
 #[derive(Drop)]
 pub(crate) struct Report<'a> {
@@ -31,13 +41,41 @@ pub(crate) struct Report<'a> {
     json: bool,
     /// The line so far.
     line: Vec<u8>,
+    /// The lines that were written, where they are kept.
+    kept: Option<Kept<'a>>,
     /// Why a line wasn't written, where one wasn't.
     unwritten: Option<Unwritten>,
 }
 
+impl<'a> Kept<'a> {
+    /// No lines yet, of so many.
+    pub(crate) fn new(alloc: Global, line: &'a Line<'a>, all: u64) -> Kept<'a> {
+        Kept {
+            lines: Vec::new(alloc),
+            line,
+            done: 0,
+            all,
+        }
+    }
+
+    /// Keeps a line.
+    fn put(&mut self, line: &[u8]) -> Result<(), AllocError> {
+        self.lines.extend_from_slice(line)?;
+        self.done = self.done.saturating_add(1);
+        self.line.count(self.done, self.all);
+        Ok(())
+    }
+}
+
 impl<'a> Report<'a> {
     /// A sink to which nothing was written.
-    pub(crate) fn new(alloc: Global, output: Stdout, names: &'a [String], json: bool) -> Report<'a>
+    pub(crate) fn new(
+        alloc: Global,
+        output: Stdout,
+        names: &'a [String],
+        json: bool,
+        kept: Option<Kept<'a>>,
+    ) -> Report<'a>
         ensures { ⟦<Report<'a> as Sink>⟧.has_failed result ≡ false }
     {
         Report {
@@ -46,7 +84,16 @@ impl<'a> Report<'a> {
             names,
             json,
             line: Vec::new(alloc),
+            kept,
             unwritten: None,
+        }
+    }
+
+    /// The lines that were written, where they are kept.
+    pub(crate) fn kept(&self) -> &[u8] {
+        match &self.kept {
+            Some(kept) => kept.lines.as_slice(),
+            None => &[],
         }
     }
 
@@ -62,8 +109,14 @@ impl<'a> Report<'a> {
         self.line.extend_from_slice(bytes)?;
         if self.line.as_slice().last() == Some(&b'\n') {
             let shown = shown(self.alloc, self.line.as_slice(), self.names, self.json)?;
+            if let Some(kept) = &self.kept {
+                kept.line.erase();
+            }
             if let Err(error) = self.output.write_all(shown.as_slice()) {
                 return Err(Unwritten::Output(error));
+            }
+            if let Some(kept) = &mut self.kept {
+                kept.put(self.line.as_slice())?;
             }
             self.line.clear();
         }

@@ -7,10 +7,10 @@ use crate::line::Line;
 use crate::report::{Report, Unwritten};
 use crate::stop::Stop;
 use crate::tally::tally_words;
+use crate::telling::{hinted, told, unasked_told};
 use leastfault::{BytesFault, read, read_protocol};
 use leastfault_sweep::{
-    Counts, Ended, Study, SweepAsked, SweepExecuted, SweepTexts, SweepUnasked, execute, names_of,
-    sweep_asked,
+    Counts, Ended, Study, SweepAsked, SweepExecuted, SweepTexts, execute, names_of, sweep_asked,
 };
 use lf_hints::scenario_hint;
 use lf_protocol_hints::protocol_hint;
@@ -29,26 +29,6 @@ pub(crate) fn sweep_done(
     }
 }
 
-/// Tells why the words ask for nothing: help on standard output, and anything else on standard error. The answer is the status.
-fn unasked_told(rt: &HostRuntime, unasked: &SweepUnasked) -> Result<u8, Stop> {
-    if unasked.status() == 3 {
-        return Err(Stop::from(BytesFault::Memory));
-    }
-    if unasked.is_error() {
-        return told(rt, unasked.text());
-    }
-    print(rt, unasked.text())?;
-    Ok(unasked.status())
-}
-
-/// Says on standard error what is wrong. The answer is the status.
-fn told(rt: &HostRuntime, text: &str) -> Result<u8, Stop> {
-    match eprint!(rt; "{text}") {
-        Ok(()) => Ok(2),
-        Err(_) => Err(Stop::from(BytesFault::Write)),
-    }
-}
-
 /// Sweeps as it is asked, with the files that are named. The answer is the status.
 fn done(rt: &HostRuntime, threads: &(impl Threads + Sync), asked: &SweepAsked) -> Result<u8, Stop> {
     let alloc = rt.alloc();
@@ -57,7 +37,7 @@ fn done(rt: &HostRuntime, threads: &(impl Threads + Sync), asked: &SweepAsked) -
     };
     let line = Line::new(rt, true);
     let mut disk = Disk::new(rt, &line);
-    let mut report = Report::new(alloc, rt.stdout(), names.as_slice(), asked.json);
+    let mut report = Report::new(alloc, rt.stdout(), names.as_slice(), asked.json, None);
     match execute(threads, alloc, asked, &mut disk, &mut report) {
         Ok(done) => {
             said(rt, asked, names.as_slice(), &done)?;
@@ -147,14 +127,5 @@ fn stopped(rt: &HostRuntime, fault: BytesFault, disk: Disk<'_>, report: &Report<
         }
         (BytesFault::Write, _) => Stop::from(BytesFault::Memory),
         _ => disk.stopped(fault),
-    }
-}
-
-/// Says on standard error what is wrong, as far as there is memory for it.
-fn hinted(rt: &HostRuntime, words: Result<String, AllocError>) {
-    if let Ok(words) = words {
-        if !words.is_empty() {
-            let _told = eprintln!(rt; "{words}").is_ok();
-        }
     }
 }

@@ -1,8 +1,8 @@
 -- What the list of questions has.
-use Rattle.std.proofs.Common.{◌≡◌, ◌⊎◌, ℕ, ◌+◌, ◌*◌, ◌/◌, ◌<◌, ◌≤◌, min, Bool, true, false, ◌&&◌, nat_lt, List, [], ◌∷◌, ◌++◌, map, refl, sym, ap, subst, inl, inr, arith}
+use Rattle.std.proofs.Common.{◌≡◌, ◌⊎◌, ℕ, ◌+◌, ◌*◌, ◌/◌, ◌≤◌, Bool, true, false, ◌&&◌, nat_lt, List, [], ◌∷◌, ◌++◌, map, refl, sym, ap, subst, inl, inr, arith}
 use Rattle.std.specs.Prelude.{Option, Some, None}
 use Rattle.std.specs.List.{Contains, flat_map}
-use Rattle.std.proofs.lemmas.Bool.{and_parts, ltb-true}
+use Rattle.std.proofs.lemmas.Bool.{and_parts, ltb-true, true≢false}
 use Rattle.std.proofs.lemmas.Option.{same_Some}
 use Rattle.std.proofs.Math.Nat.{min-le_right}
 use Rattle.lf_list.proofs.Laws.{none-in, Contains-first, Contains-more, cases_in}
@@ -17,7 +17,7 @@ use Rattle.lf_doubt.specs.declared.ground.Ground.{Ground}
 use Rattle.lf_doubt.specs.declared.ground.Stake.{Stake}
 use Rattle.lf_doubt.specs.declared.question.Question.{Question}
 use Rattle.lf_doubt.specs.declared.question.Question.TheVariants as asks
-use Rattle.lf_doubt.specs.Questions.{model_asked, questions_of, rule_asked, times_in}
+use Rattle.lf_doubt.specs.Questions.{is_starting, model_asked, questions_of, rule_asked, taken_asked, times_in, times_of}
 
 -- a kind of question, by a number
 abbrev mark : Question → ℕ
@@ -60,11 +60,11 @@ same-rule m n same = same_Some m n (ap rule_of same)
 same-change : (c d : Change) → asks.With c ≡ asks.With d → c ≡ d
 same-change c d same = same_Some c d (ap change_in same)
 
-module _ (taken : List ℕ) (runs : ℕ) where
-  asked-one : (m : Mutation) → Contains (rule_asked taken runs m) (asks.Rule m)
+module _ (g : Ground) where
+  asked-one : (m : Mutation) → Contains (rule_asked g m) (asks.Rule m)
   asked-one (those.Never rule) =
-      Contains-more (asks.Taken rule (times_in taken rule) runs) (asks.Rule (those.Never rule) ∷ []) (asks.Rule (those.Never rule))
-      (Contains-first (asks.Rule (those.Never rule)) [])
+      Contains-append_right (taken_asked (is_starting g.starting.now rule) (times_of g rule)) (asks.Rule (those.Never rule) ∷ [])
+      (asks.Rule (those.Never rule)) (Contains-first (asks.Rule (those.Never rule)) [])
   asked-one (those.Always rule) = Contains-first (asks.Rule (those.Always rule)) []
   asked-one (those.Unset rule place) = Contains-first (asks.Rule (those.Unset rule place)) []
   asked-one (those.Unsent rule place) = Contains-first (asks.Rule (those.Unsent rule place)) []
@@ -75,10 +75,19 @@ module _ (taken : List ℕ) (runs : ℕ) where
     | inr later ↦ absurd (none-in (asks.Rule n) later)
   ]
 
-  asked-only : (m n : Mutation) → Contains (rule_asked taken runs m) (asks.Rule n) → m ≡ n
+  -- in how many runs a rule is taken is no question of a change
+  not-taken : (b : Bool) (rule : ℕ) (n : Mutation) → Contains (taken_asked b (times_of g rule)) (asks.Rule n) → ⊥
+  not-taken true rule n there = none-in (asks.Rule n) there
+  not-taken false rule n there = elim (cases_in (times_of g rule) [] (asks.Rule n) there) [
+    | inl same ↦ let odd : 1 ≡ 2 = ap mark same in omega (arith, odd)
+    | inr later ↦ none-in (asks.Rule n) later
+  ]
+
+  asked-only : (m n : Mutation) → Contains (rule_asked g m) (asks.Rule n) → m ≡ n
   asked-only (those.Never rule) n there =
-      elim (cases_in (asks.Taken rule (times_in taken rule) runs) (asks.Rule (those.Never rule) ∷ []) (asks.Rule n) there) [
-        | inl same ↦ let odd : 1 ≡ 2 = ap mark same in absurd (omega (arith, odd))
+      elim (Contains-append_cases (taken_asked (is_starting g.starting.now rule) (times_of g rule)) (asks.Rule (those.Never rule) ∷ []) (asks.Rule n)
+      there) [
+        | inl early ↦ absurd (not-taken (is_starting g.starting.now rule) rule n early)
         | inr later ↦ only-one (those.Never rule) n later
       ]
   asked-only (those.Always rule) n there = only-one (those.Always rule) n there
@@ -193,7 +202,7 @@ model-mark false q there = absurd (none-in q there)
 
 module _ (g : Ground) where
   abbrev of_rules : List Question
-  of_rules = flat_map (rule_asked g.taken.now g.runs) g.mutations.now
+  of_rules = flat_map (rule_asked g) g.mutations.now
 
   abbrev of_parts : List Question
   of_parts = map asks.Part g.stakes.now
@@ -207,14 +216,19 @@ module _ (g : Ground) where
 
   pub rule-in : (m : Mutation) → Contains g.mutations.now m → Contains (questions_of g) (asks.Rule m)
   rule-in m there =
-      in-rules (asks.Rule m) (in-flat (rule_asked g.taken.now g.runs) g.mutations.now m (asks.Rule m) there (asked-one g.taken.now g.runs m))
+      in-rules (asks.Rule m) (in-flat (rule_asked g) g.mutations.now m (asks.Rule m) there (asked-one g m))
 
-  pub taken-in : (rule : ℕ) → Contains g.mutations.now (those.Never rule)
+  taken-there : (b : Bool) (q : Question) → b ≡ false → Contains (taken_asked b q) q
+  taken-there true q is = absurd (true≢false is)
+  taken-there false q is = Contains-first q []
+
+  pub taken-in : (rule : ℕ) → Contains g.mutations.now (those.Never rule) → is_starting g.starting.now rule ≡ false
       → Contains (questions_of g) (asks.Taken rule (times_in g.taken.now rule) g.runs)
-  taken-in rule there =
-      in-rules (asks.Taken rule (times_in g.taken.now rule) g.runs)
-      (in-flat (rule_asked g.taken.now g.runs) g.mutations.now (those.Never rule) (asks.Taken rule (times_in g.taken.now rule) g.runs) there
-      (Contains-first (asks.Taken rule (times_in g.taken.now rule) g.runs) (asks.Rule (those.Never rule) ∷ [])))
+  taken-in rule there steps =
+      in-rules (times_of g rule)
+      (in-flat (rule_asked g) g.mutations.now (those.Never rule) (times_of g rule) there
+      (Contains-append_left (taken_asked (is_starting g.starting.now rule) (times_of g rule)) (asks.Rule (those.Never rule) ∷ []) (times_of g rule)
+      (taken-there (is_starting g.starting.now rule) (times_of g rule) steps)))
 
   part-of : (xs : List Stake) (x : Stake) → Contains xs x → Contains (map asks.Part xs) (asks.Part x)
   part-of [] x there = absurd (none-in x there)
@@ -243,8 +257,8 @@ module _ (g : Ground) where
     | inl same ↦ let odd : 0 ≡ 2 = ap mark same in absurd (omega (arith, odd))
     | inr more ↦ elim (Contains-append_cases of_rules (of_parts ++ of_rest) (asks.Rule m) more) [
       | inl rule ↦
-          let found = from-flat (rule_asked g.taken.now g.runs) g.mutations.now (asks.Rule m) rule in
-          subst (Contains g.mutations.now) (asked-only g.taken.now g.runs found.0 m found.2) found.1
+          let found = from-flat (rule_asked g) g.mutations.now (asks.Rule m) rule in
+          subst (Contains g.mutations.now) (asked-only g found.0 m found.2) found.1
       | inr rest ↦ elim (Contains-append_cases of_parts of_rest (asks.Rule m) rest) [
         | inl part ↦ let odd : 2 ≡ 3 = parts-mark g.stakes.now (asks.Rule m) part in absurd (omega (arith, odd))
         | inr last ↦ let odd : 4 ≤ 2 = rest-mark (asks.Rule m) last in absurd (omega (arith, odd))

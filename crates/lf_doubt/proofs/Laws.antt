@@ -1,5 +1,5 @@
 -- What crates above may cite of this one beside its contracts.
-use Rattle.std.proofs.Common.{ℕ}
+use Rattle.std.proofs.Common.{◌≡◌, ℕ, false}
 use Rattle.std.specs.List.{Contains}
 use Rattle.lf_faults.specs.declared.spec.Bounds.{Bounds}
 use Rattle.lf_mutations.specs.declared.mutation.Mutation.{Mutation}
@@ -9,7 +9,7 @@ use Rattle.lf_doubt.specs.declared.ground.Ground.{Ground}
 use Rattle.lf_doubt.specs.declared.ground.Stake.{Stake}
 use Rattle.lf_doubt.specs.declared.question.Question.TheVariants as asks
 use Rattle.lf_doubt.specs.Bounds.{IsLarger, bounds_asked}
-use Rattle.lf_doubt.specs.Questions.{questions_of, times_in}
+use Rattle.lf_doubt.specs.Questions.{is_starting, questions_of, times_in}
 use Rattle.lf_doubt.proofs.AskedLemmas as asked
 
 module _ (g : Ground) where
@@ -20,8 +20,8 @@ module _ (g : Ground) where
   pub only-rules : (m : Mutation) → Contains (questions_of g) (asks.Rule m) → Contains g.mutations.now m
   only-rules = asked.only-rules g
 
-  -- in how many runs a rule is taken is asked of each that may never be
-  pub taken-in : (rule : ℕ) → Contains g.mutations.now (those.Never rule)
+  -- in how many runs a rule is taken is asked of each that may never be, but those of the start
+  pub taken-in : (rule : ℕ) → Contains g.mutations.now (those.Never rule) → is_starting g.starting.now rule ≡ false
       → Contains (questions_of g) (asks.Taken rule (times_in g.taken.now rule) g.runs)
   taken-in = asked.taken-in g
 

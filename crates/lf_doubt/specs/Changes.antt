@@ -1,5 +1,5 @@
 -- A scenario with another value at one key.
-use Rattle.std.specs.Prelude.{List, ℕ, codes, pos}
+use Rattle.std.specs.Prelude.{codes, pos}
 use Rattle.toml.specs.Data.{Data, string, integer}
 use Rattle.lf_scenario.specs.declared.key.Key.{Key}
 use Rattle.lf_scenario.specs.declared.key.Key.TheVariants as keys

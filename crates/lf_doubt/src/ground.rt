@@ -24,6 +24,8 @@ pub struct Ground<'a> {
     pub mutations: &'a [Mutation],
     /// In how many of the runs without a fault and with a single one each rule is taken: the first is of rule 1.
     pub taken: &'a [usize],
+    /// Whether each rule is one of the start, which no step takes.
+    pub starting: &'a [bool],
     /// How many such runs there are.
     pub runs: usize,
     /// What was counted of each part of the promise.

@@ -261,7 +261,8 @@ module _ {State Note : Type 0} (w : World State Note Fact) (faults : List Parts)
       pub no-keeps : (first : ℕ) → IsKept w faults s t (from first (promises.Nodes manys.No fact of))
           ↔ ((n : ℕ) → IsMeant s of n → is_up w faults n t ≡ true → w.rules.shows n (view w faults n t) (ruled (opposite fact)) ≡ true)
       no-keeps first =
-          same_test (reaches w faults (formula_at s first (promises.Nodes manys.No fact of) t)) (reaches w faults (each t (ruled (opposite fact)) (members s of)))
+          same_test (reaches w faults (formula_at s first (promises.Nodes manys.No fact of) t))
+          (reaches w faults (each t (ruled (opposite fact)) (members s of)))
           (ap (reaches w faults) (formula-Nodes s first manys.No fact of t)) (each-law t (ruled (opposite fact)))
 
       pub some-keeps : (first : ℕ) → IsKept w faults s t (from first (promises.Nodes manys.Some fact of)) ↔ ((n : ℕ) × IsMeant s of n × UpShows w faults n t fact)

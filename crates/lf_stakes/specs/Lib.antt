@@ -1,3 +1,4 @@
 pub mod Entered
 pub mod Singles
+pub mod Starting
 pub mod Stakes

@@ -9,6 +9,7 @@ mod entered;
 mod facts;
 mod reached;
 mod singles;
+mod starting;
 
 pub use counting::rules_taken;
 pub use entered::times_entered;
@@ -18,3 +19,4 @@ pub use facts::{
 };
 pub use reached::times_true;
 pub use singles::single_sets;
+pub use starting::rules_of_start;

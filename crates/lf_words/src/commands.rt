@@ -23,14 +23,14 @@ const NOTES: &str = "Arguments:
   LIST    when notes arrive that are late, joined by single commas: '0>1 @9 13,2>0 @5 9'; '' is none
   TREE    a certificate, a JSON file; - is standard input, but not for FILE and TREE at once. After --tree it is the file to write
 
-A scenario may name a protocol of your own: --protocol PROTOCOL gives its file, for search, run, draw, check, answer, why
-and sweep.
+A scenario may name a protocol of your own: --protocol PROTOCOL gives its file, for search, run, draw, check, answer, why,
+sweep and doubt.
 
 Each note takes its link's least delay, and up to its spread more, as the scenario's seed has it. `answer --every-delay` answers for
 every delay that the links allow, and `run` and `draw` take the late notes of its answer: --delays LIST.
 
-One command more: `leastfault sweep FILE --vary KEY=VALUES ..` answers the scenario for every combination of values; see
-`leastfault sweep --help`.
+Two commands more: `leastfault sweep FILE --vary KEY=VALUES ..` answers the scenario for every combination of values, and
+`leastfault doubt FILE` asks what its answer rests on; see `leastfault sweep --help` and `leastfault doubt --help`.
 
 Exit status:
   0  no allowed faults make the scenario miss its outcome, the run reaches it, or the certificate or the protocol file is right; also help

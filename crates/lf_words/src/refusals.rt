@@ -5,7 +5,7 @@ use clap::Error;
 use std::alloc::{AllocError, Global};
 
 /// The words that a command line can begin with.
-const FIRST_WORDS: [&str; 10] = [
+const FIRST_WORDS: [&str; 11] = [
     "search",
     "run",
     "draw",
@@ -13,6 +13,7 @@ const FIRST_WORDS: [&str; 10] = [
     "answer",
     "why",
     "sweep",
+    "doubt",
     "protocol",
     "--help",
     "--version",

@@ -6,7 +6,7 @@ use lf_sweep_words::{By, SweepAsked, SweepUnasked, names_of, sweep_asked};
 use std::alloc::{AllocError, Global};
 
 /// Adds the words as they come from the system. Says whether there was memory.
-fn add_words(alloc: Global, owned: &mut Vec<String>, words: &str) -> bool {
+pub(crate) fn add_words(alloc: Global, owned: &mut Vec<String>, words: &str) -> bool {
     for word in words.split(';').skip(1) {
         let Ok(word) = String::from_str(alloc, word) else {
             return false;
@@ -63,11 +63,11 @@ fn add_rest(told: &mut String, asked: &SweepAsked) -> Result<(), AllocError> {
     Ok(())
 }
 
-/// Whether a refusal is the one that a row says: `help`, or the front of a text on standard error.
-fn is_refused(unasked: &SweepUnasked, wanted: &str) -> bool {
+/// Whether a refusal is the one that a row says: `help`, which shows this usage, or the front of a text on standard error.
+pub(crate) fn is_refused(unasked: &SweepUnasked, usage: &str, wanted: &str) -> bool {
     let text = unasked.text();
     match (unasked.status(), unasked.is_error()) {
-        (0, false) => wanted == "help" && text.contains("Usage: leastfault sweep "),
+        (0, false) => wanted == "help" && text.contains(usage),
         (2, true) => wanted != "help" && text.starts_with(wanted) && text.ends_with("\n"),
         _ => false,
     }
@@ -80,7 +80,7 @@ fn is_asked(alloc: Global, words: &[String], wanted: &str) -> bool {
             Ok(told) => told.as_str() == wanted,
             Err(_) => false,
         },
-        Err(unasked) => is_refused(&unasked, wanted),
+        Err(unasked) => is_refused(&unasked, "Usage: leastfault sweep ", wanted),
     }
 }
 

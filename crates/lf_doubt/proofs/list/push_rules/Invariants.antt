@@ -6,5 +6,5 @@ use Rattle.lf_doubt.proofs.list.push_rules.Given as goal
 -- what is asked, and the changes still to come
 abbrev pub invariant-loop-mutation : goal.invariant-loop-mutation
 invariant-loop-mutation l =
-    l.questions.items ++ flat_map (rule_asked l.taken l.runs) (drop l.mutation-index l.mutations)
-    ≡ l.initial.questions.items ++ flat_map (rule_asked l.taken l.runs) l.mutations
+    l.questions.items ++ flat_map (rule_asked l.ground) (drop l.mutation-index l.mutations)
+    ≡ l.initial.questions.items ++ flat_map (rule_asked l.ground) l.mutations

@@ -1,0 +1,2 @@
+mod BegunLemmas
+mod LineLemmas
