@@ -34,9 +34,9 @@
 //! a key its values, `--by` says which command replies, `--part` takes one of N parts of the combinations, and `--json` makes each line an object.
 //! Standard error counts the replies and says what is wrong with the first combination that is refused, but with `--quiet`.
 //!
-//! `doubt` asks what the answer hangs on: it prints a line for the answer, and one for each question about it, with a tab before the reply: how often each
-//! rule is taken and what comes of it where it never is and where it always is, what the parts of the promise speak of, the answer with wider bounds, and whether a
-//! value passes its range. Standard error has a summary, but with `--quiet`. The status is that of the answer.
+//! `doubt` asks what the answer hangs on: it prints a line for the answer, and one for each question about it, with a tab before the reply: how often
+//! each rule is taken and what comes of it where it never is and where it always is, what the parts of the promise speak of, the answer with wider
+//! bounds, and whether a value passes its range. Standard error has a summary, but with `--quiet`. The status is that of the answer.
 //!
 //! `protocol` prints `ok` where the file is a protocol file, and else `refused protocol NUMBER PLACE`, without the place where the file as
 //! a whole is refused.

@@ -1,2 +1,3 @@
+mod AllLemmas
 mod BegunLemmas
 mod LineLemmas

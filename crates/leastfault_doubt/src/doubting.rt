@@ -53,8 +53,9 @@ pub enum Begun {
     },
 }
 
-/// The answer to a scenario and the questions about it, or why there are none: the protocol file is refused, where there is one, or else the scenario. With `deep`
-/// each assignment and each send of a rule is left out in a question of its own. How far the answer has come is told. The error is that memory has run out.
+/// The answer to a scenario and the questions about it, or why there are none: the protocol file is refused, where there is one, or else the scenario.
+/// With `deep` each assignment and each send of a rule is left out in a question of its own. How far the answer has come is told. The error is that
+/// memory has run out.
 pub fn prepare<V: Watch>(
     alloc: Global,
     texts: &Texts<'_>,
@@ -96,11 +97,11 @@ fn prepare_with<V: Watch>(
     }
 }
 
-/// Asks the questions of a part, and writes the line of each as it comes, in order, by so many workers at once. A question that takes longer than so many seconds is
-/// left open, where they are limited. The marks take in which questions stand out. The answer is how many replies of each kind there are.
+/// Asks the questions of a part, and writes the line of each as it comes, in order, by so many workers at once. A question that takes longer than so many
+/// seconds is left open, where they are limited. The marks take in which questions stand out. The answer is how many replies of each kind there are.
 ///
-/// The error says why it ended before the last: `Write` exactly where the sink failed, `Memory` where memory ran out, `Protocol` only where the protocol file is
-/// refused, and `NoDocument` and `Date` only where the scenario has no text with another value.
+/// The error says why it ended before the last: `Write` exactly where the sink failed, `Memory` where memory ran out, `Protocol` only where the protocol
+/// file is refused, and `NoDocument` and `Date` only where the scenario has no text with another value.
 pub fn ask<T: Threads + Sync, W: Sink>(
     threads: &T,
     alloc: Global,

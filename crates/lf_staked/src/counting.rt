@@ -87,7 +87,8 @@ fn asked_stake(
     part: Part,
 ) -> Result<Option<Stake>, AllocError>
     requires { place + 1 < 2 ^ 64 }
-    ensures { IfOk result (λ stake. stake ≡ asked_stake (world_of runs.now.setting.now) runs.now.sets.now place part (asked_formula runs.now.scene promise place)) }
+    ensures { IfOk result (λ stake. stake
+        ≡ asked_stake (world_of runs.now.setting.now) runs.now.sets.now place part (asked_formula runs.now.scene promise place)) }
 {
     match asked_formula(alloc, runs.scene, promise, place)? {
         Some(formula) => {

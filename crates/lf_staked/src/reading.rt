@@ -30,9 +30,9 @@ use toml::{Table, Value};
 
 /// What is counted of each part of the promise of a scenario's outcome, in order, in the runs of these sets, of which the first is the empty one.
 ///
-/// Of a part that no node or at most one shows a fact: in how many runs some node of those shows it at some step. Of one value: in how many runs something is
-/// entered under its topic. Of a part that each or some node or one node shows a fact: whether it is so in the run of the first set alone. A part whose question
-/// is too large as a formula is left out, and an outcome that is a list has no parts. The error is that memory has run out.
+/// Of a part that no node or at most one shows a fact: in how many runs some node of those shows it at some step. Of one value: in how many runs
+/// something is entered under its topic. Of a part that each or some node or one node shows a fact: whether it is so in the run of the first set alone. A
+/// part whose question is too large as a formula is left out, and an outcome that is a list has no parts. The error is that memory has run out.
 pub fn stakes(
     alloc: Global,
     protocol: &[u8],
