@@ -780,9 +780,9 @@ paste -d '\\n' part.1 part.2 part.3 | grep ."
     first='{"question":"given","reply":"least 3","faults":["crash 0 @3","crash 1 @4","crash 2 @5"]}'
     expect 1 "$first"$'\n{"question":"rule 4","reply":"taken 19 of 33","faults":[]}' '' "leastfault doubt $chain --quiet --json --part 1/10 | sed -n '1,2p'; exit 1"
     expect 0 $'given\tnone 3' $'the answer is none 3\n' 'leastfault doubt - --part 1/9 <examples/relayed.toml'
-    expect 0 '' $'the answer is none 3\nit is the same without rule 1, 2, 3, 4, 5, 6, 7, 8, 9, 10, 11
-warning: in no run with one fault at most is taken rule 5, rule 9, rule 11
-warning: in no such run happens what the promise speaks of in part 2 each\nit is another with: rule 5 always (least 0)\n' \
+    expect 0 '' $'the answer is none 3\nit doesn\'t rest on these rules: 1, 2, 3, 4, 5, 6, 7, 8, 9, 10, 11
+warning: never taken in a run with at most one fault: rule 5, rule 9, rule 11
+warning: what the promise speaks of never happens in such a run: part 2 each\nit changes with: rule 5 always (least 0)\n' \
         "leastfault doubt $commit >report"
     doubts_of_flaws
     doubts_refused

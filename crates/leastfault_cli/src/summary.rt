@@ -64,7 +64,7 @@ fn push_unneeded(words: &mut String, text: &str, given: Row<'_>) -> Result<(), A
             continue;
         };
         if is_same(row.reply, given.reply) {
-            words.push_str(before(is_first, "\nit is the same without rule ", ", "))?;
+            words.push_str(before(is_first, "\nit doesn't rest on these rules: ", ", "))?;
             words.push_str(rule.strip_prefix("rule ").unwrap_or(rule))?;
             is_first = false;
         }
@@ -104,7 +104,7 @@ fn push_part(words: &mut String, is_named: bool, rule: &str, part: &str) -> Resu
     if is_named {
         write!(words, ", {part}")
     } else {
-        write!(words, "\nit is the same where {rule} is without {part}")
+        write!(words, "\nin {rule} it doesn't rest on {part}")
     }
 }
 
@@ -116,7 +116,7 @@ fn push_untaken(words: &mut String, text: &str) -> Result<(), AllocError> {
         if row.reply.starts_with("taken 0 of ") {
             words.push_str(before(
                 is_first,
-                "\nwarning: in no run with one fault at most is taken ",
+                "\nwarning: never taken in a run with at most one fault: ",
                 ", ",
             ))?;
             words.push_str(row.name)?;
@@ -134,7 +134,7 @@ fn push_unstaked(words: &mut String, text: &str) -> Result<(), AllocError> {
         if row.reply.starts_with("holds 0 of ") && !row.name.ends_with(" no") {
             words.push_str(before(
                 is_first,
-                "\nwarning: in no such run happens what the promise speaks of in ",
+                "\nwarning: what the promise speaks of never happens in such a run: ",
                 ", ",
             ))?;
             words.push_str(row.name)?;
@@ -170,7 +170,7 @@ fn push_model(words: &mut String, text: &str) -> Result<(), AllocError> {
             words.push_str(if row.name == "clamped" {
                 "\nwarning: a value passes the range of its kind"
             } else {
-                "\nwarning: a note is lost before it is sent"
+                "\nwarning: a note is replaced before it is sent"
             })?;
             write!(words, " ({})", row.reply)?;
         }
@@ -184,7 +184,7 @@ fn push_rules_changing(words: &mut String, text: &str, given: Row<'_>) -> Result
     for line in text.lines() {
         let row = row_of(line);
         if is_of_rules(row.name) && is_other(row.reply, given.reply) {
-            push_other(words, is_first, "\nit is another with: ", row)?;
+            push_other(words, is_first, "\nit changes with: ", row)?;
             is_first = false;
         }
     }
@@ -200,7 +200,7 @@ fn push_changing(words: &mut String, text: &str, given: Row<'_>) -> Result<(), A
             push_other(
                 words,
                 is_first,
-                "\nit is another within other bounds: ",
+                "\nit changes with other bounds or delays: ",
                 row,
             )?;
             is_first = false;
